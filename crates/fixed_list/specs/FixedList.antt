@@ -1,0 +1,7 @@
+-- What contracts see of a list of fixed room: its bytes.
+use Rattle.std.specs.Prelude.{ℕ, List, take}
+use Rattle.fixed_list.specs.declared.FixedList.{FixedList}
+
+-- the bytes of the list
+unfoldable pub list_of : {N : ℕ} → FixedList N → List ℕ
+list_of l = take l.len l.bytes
