@@ -1,0 +1,56 @@
+-- Replies: what an answer is, and the one spelling of each.
+use Rattle.std.specs.Prelude.{ℕ, ◌+◌, ◌^◌, ◌<◌, ◌≤◌, List, [], ◌∷◌, length, Option, Some, None, if◌then◌else◌, nat_le, ◌==◌, ◌&&◌}
+use Rattle.std.specs.Bool.{then_some}
+use Rattle.std.specs.Int.{w32, to_le_bytes}
+use Rattle.request_catalogue.specs.Fields.{number_at}
+use Rattle.request_catalogue.specs.declared.answer.Answer.{Answer}
+use Rattle.request_catalogue.specs.declared.answer.Answer.TheVariants as answers
+
+-- the kind of the reply to a message
+abbrev pub reply_kind_of : ℕ → ℕ → ℕ
+reply_kind_of kind flags = if flags == 0 && nat_le 1 kind && nat_le kind 13 then kind + 256 else 256
+
+-- an answer without where its body lies in memory
+pub data AnswerValue : Type 0 where
+  Done : (body : List ℕ) → AnswerValue
+  Denied : (rule detail : ℕ) → AnswerValue
+  Device : (device : ℕ) → AnswerValue
+
+-- what is answered, of an answer in memory
+abbrev pub answer_of : Answer → AnswerValue
+answer_of (answers.Done body) = Done body.now
+answer_of (answers.Denied rule detail) = Denied rule detail
+answer_of (answers.Device device) = Device device
+
+-- the parts of an answer are in their ranges
+abbrev pub IsAnswer : AnswerValue → Type 0
+IsAnswer (Done body) = Unit {0}
+IsAnswer (Denied rule detail) = (1 ≤ rule) × (rule ≤ 22) × (detail < 2 ^ 32)
+IsAnswer (Device device) = (1 ≤ device) × (device ≤ 2)
+
+-- an answer whose reply fits a message
+abbrev pub IsSendable : AnswerValue → Type 0
+IsSendable (Done body) = length body ≤ 16367
+IsSendable (Denied rule detail) = IsAnswer (Denied rule detail)
+IsSendable (Device device) = IsAnswer (Device device)
+
+-- the reply of an answer, numbers with their lowest byte first
+unfoldable pub reply_of : AnswerValue → List ℕ
+reply_of (Done body) = 0 ∷ body
+reply_of (Denied rule detail) = 1 ∷ rule ∷ to_le_bytes w32 detail
+reply_of (Device device) = 2 ∷ device ∷ []
+
+-- what a denial's rule and detail answer
+unfoldable pub denied_by : List ℕ → Option AnswerValue
+denied_by [] = None
+denied_by (rule ∷ detail) = then_some (nat_le 1 rule && nat_le rule 22 && length detail == 4) (Denied rule (number_at w32 0 detail))
+
+-- what a device answers
+unfoldable pub failed_by : List ℕ → Option AnswerValue
+failed_by [] = None
+failed_by (device ∷ rest) = then_some (nat_le 1 device && nat_le device 2 && length rest == 0) (Device device)
+
+-- the table: what a reply answers, if it is one, by its first byte
+unfoldable pub answered_by : List ℕ → Option AnswerValue
+answered_by [] = None
+answered_by (first ∷ rest) = if first == 0 then Some (Done rest) else (if first == 1 then denied_by rest else (if first == 2 then failed_by rest else None))

@@ -1,0 +1,52 @@
+-- The rules for the bytes of names, labels, notes and typed replies.
+use Rattle.std.specs.Prelude.{ℕ, Bool, false, List, [], ◌∷◌, length, nat_le, ◌==◌, ◌&&◌, ◌||◌}
+use Rattle.std.specs.List.{list_all}
+
+-- `a` to `z`
+abbrev pub is_lowercase : ℕ → Bool
+is_lowercase c = nat_le 97 c && nat_le c 122
+
+-- `0` to `9`
+abbrev pub is_digit : ℕ → Bool
+is_digit c = nat_le 48 c && nat_le c 57
+
+-- space to `~`
+abbrev pub is_printable : ℕ → Bool
+is_printable c = nat_le 32 c && nat_le c 126
+
+-- a name begins with `a` to `z` or `_`
+abbrev pub begins_name : ℕ → Bool
+begins_name c = is_lowercase c || c == 95
+
+-- a name goes on with `a` to `z`, `0` to `9`, `_` or `-`
+abbrev pub continues_name : ℕ → Bool
+continues_name c = is_lowercase c || is_digit c || c == 95 || c == 45
+
+-- a label goes on with `a` to `z`, `0` to `9`, `.`, `_` or `-`
+abbrev pub continues_label : ℕ → Bool
+continues_label c = is_lowercase c || is_digit c || c == 46 || c == 95 || c == 45
+
+-- 1 to most bytes, of which the first passes one test and each other one another
+abbrev pub is_word : ℕ → (ℕ → Bool) → (ℕ → Bool) → List ℕ → Bool
+is_word most begins continues [] = false
+is_word most begins continues (c ∷ cs) = nat_le (length (c ∷ cs)) most && begins c && list_all continues cs
+
+-- a user's name
+unfoldable pub is_name : List ℕ → Bool
+is_name bytes = is_word 32 begins_name continues_name bytes
+
+-- a file's label
+unfoldable pub is_label : List ℕ → Bool
+is_label bytes = is_word 64 is_lowercase continues_label bytes
+
+-- a note
+unfoldable pub is_note : List ℕ → Bool
+is_note bytes = nat_le 1 (length bytes) && nat_le (length bytes) 64 && list_all is_printable bytes
+
+-- a tab or printable
+abbrev pub is_typed : ℕ → Bool
+is_typed c = c == 9 || is_printable c
+
+-- a typed reply: 1 to 256 bytes, each a tab or printable
+unfoldable pub is_reply : List ℕ → Bool
+is_reply bytes = nat_le 1 (length bytes) && nat_le (length bytes) 256 && list_all is_typed bytes

@@ -1,0 +1,25 @@
+//! The catalogue of requests that a child process makes of the monitor, and the monitor's replies:
+//! what a message's body must be for each kind of request, read and written exactly.
+#![tactic(auto)]
+
+mod answer;
+mod fields;
+mod kind;
+mod put;
+mod reading;
+mod replies;
+mod request;
+mod texts;
+mod writing;
+
+pub use answer::{Answer, Unreadable};
+pub use kind::Kind;
+pub use put::BODY_MAX;
+pub use reading::read_request;
+pub use replies::{read_reply, reply_kind, write_reply};
+pub use request::{Bad, Request};
+pub use texts::{Label, Name, Note};
+pub use writing::write_request;
+
+#[cfg(test)]
+mod tests;
