@@ -1,0 +1,13 @@
+use Rattle.std.proofs.Common.{◌≡◌, length}
+use Rattle.imsg_frame.specs.Message.{messages_in}
+use Rattle.imsg_frame.specs.Cut.{AddsCut}
+use Rattle.imsg_frame.proofs.reader.Reader.take_frames.Given as goal
+
+abbrev pub invariant-loop-frame : goal.invariant-loop-frame
+invariant-loop-frame l = record {
+  cut : AddsCut l.initial.self.max (messages_in l.initial.frames.items) l.initial.self.bytes (messages_in l.frames.items) l.self.bytes;
+  max : l.self.max ≡ l.initial.self.max;
+}
+
+abbrev pub decreases-loop-frame : goal.decreases-loop-frame
+decreases-loop-frame l = length l.self.bytes

@@ -1,0 +1,5 @@
+pub mod Message
+pub mod Held
+pub mod Layout
+pub mod Cut
+pub mod Answer

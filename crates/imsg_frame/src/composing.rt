@@ -1,0 +1,53 @@
+ghost use Rattle.std.specs.Prelude.{◌≡◌, ◌+◌, ◌<◌, ◌≤◌, ◌^◌, ◌↔◌, ℕ, List, ◌++◌, length, drop, IsErr, IfOk, OnErr};
+ghost use Rattle.imsg_frame.specs.Message.{composed_of, spelling_of};
+ghost use Rattle.imsg_frame.specs.Answer.{ReadsBack};
+
+use crate::header::{HEADER_LEN, Header, MAX_LEN};
+
+/// The body has more than 16,368 bytes, so that no frame can hold it.
+#[derive(Clone, Copy, PartialEq, Eq, Debug)]
+pub struct TooLong;
+
+/// Writes a frame with flags 0 to the front of `out`, and answers how many bytes it has: 16 and the
+/// body's. The bytes of `out` behind the frame stay as they were.
+///
+/// `out` needs room for the frame, unless the body is too long for any.
+///
+/// # Errors
+///
+/// `TooLong` exactly where the body has more than 16,368 bytes. Then `out` is unchanged.
+pub fn compose(
+    kind: u32,
+    peerid: u32,
+    pid: u32,
+    body: &[u8],
+    out: &mut [u8],
+) -> Result<usize, TooLong>
+    requires { length body.now ≤ 16368 → 16 + length body.now ≤ length out.old }
+    ensures len { IfOk result (λ n. n ≡ 16 + length body.now) }
+    ensures written { IfOk result (λ n.
+        out.new ≡ spelling_of (composed_of kind peerid pid body.now) ++ drop n out.old) }
+    ensures too_long { IsErr result ↔ (16368 < length body.now) }
+    ensures unchanged { OnErr result (out.new ≡ out.old) }
+{
+    if body.len() > MAX_LEN - HEADER_LEN {
+        return Err(TooLong);
+    }
+    let len = HEADER_LEN + body.len();
+    let header = Header {
+        kind,
+        len: len as u16,
+        flags: 0,
+        peerid,
+        pid,
+    };
+    out[..HEADER_LEN].copy_from_slice(&header.to_bytes());
+    out[HEADER_LEN..len].copy_from_slice(body);
+    Ok(len)
+}
+
+/// A law: a reader that holds what `compose` wrote and then any bytes gives that frame, if its `max` is
+/// at least the frame's length, and then holds those bytes.
+pub fn what_was_composed_is_read()
+    ensures { ReadsBack }
+{}

@@ -1,0 +1,148 @@
+ghost use Rattle.std.specs.Prelude.{◌≡◌, ◌+◌, ◌-◌, ◌≤◌, ◌<◌, ◌++◌, ◌↔◌, [], IfOk, IsTrue, length, take, min};
+ghost use Rattle.std.specs.Borrow.{sem};
+
+use crate::frame::Frame;
+use crate::header::{HEADER_LEN, Header, MAX_LEN};
+use std::alloc::{AllocError, Global};
+use std::marker::Model;
+
+/// What stands in front of the bytes that a reader holds.
+#[derive(Clone, Copy, PartialEq, Eq, Debug)]
+pub enum Next<'a> {
+    /// A whole frame, which the reader holds no longer.
+    Frame(Frame<'a>),
+    /// Less than a whole frame: feed more bytes.
+    NotYet,
+    /// A header with a `len` below 16 or above the reader's `max`.
+    Bad { len: u16 },
+}
+
+/// Frames from a stream that comes in any pieces.
+///
+/// Contracts see a reader as a `Held`: its `max`, and the bytes that were fed and not yet given.
+#[derive(Drop)]
+pub struct Reader {
+    max: usize,
+    // Twice `max` bytes, of which those from `start` to `end` are held. They are moved to the front only
+    // where a piece has too little room behind them, and so not before `max` bytes were given.
+    bytes: Vec<u8>,
+    start: usize,
+    end: usize,
+}
+
+impl Model for Reader {
+    ghost use Rattle.std.specs.Prelude.{◌≡◌, ◌*◌, vec_len};
+    ghost use Rattle.std.specs.List.{between};
+    ghost use Rattle.imsg_frame.specs.Held.{Held};
+    ghost use Rattle.imsg_frame.specs.Layout.{IsLaidOut};
+
+    ghost Value = { Held };
+
+    ghost view = { λ r. record { max = r.max; bytes = between r.start r.end r.bytes.items } };
+
+    ghost invariant = { λ r. IsLaidOut r.max r.start r.end (vec_len r.bytes) };
+}
+
+impl Reader {
+    ghost use Rattle.imsg_frame.specs.Answer.{Rests, IsAnswer, AfterNext};
+
+    /// A reader that holds no bytes, for frames of at most `max` bytes, header and body together.
+    /// `max` is from 16 to 16,384. All memory is taken here.
+    ///
+    /// # Errors
+    ///
+    /// Where memory runs out.
+    pub fn new(alloc: Global, max: usize) -> Result<Reader, AllocError>
+        requires low { HEADER_LEN ≤ max }
+        requires high { max ≤ MAX_LEN }
+        ensures max { IfOk result (λ reader. reader.max ≡ max) }
+        ensures empty { IfOk result (λ reader. reader.bytes ≡ []) }
+    {
+        Ok(Reader {
+            max,
+            bytes: vec![in alloc; 0; 2 * max]?,
+            start: 0,
+            end: 0,
+        })
+    }
+
+    /// How many bytes are held: those that were fed and not yet given.
+    pub fn held(&self) -> usize
+        ensures { result ≡ length self.now.bytes }
+    {
+        self.end - self.start
+    }
+
+    /// How many bytes `feed` would take now.
+    pub fn room(&self) -> usize
+        ensures { length self.now.bytes + result ≡ self.now.max }
+    {
+        self.max - (self.end - self.start)
+    }
+
+    /// Gives up the bytes that are held.
+    pub fn clear(&mut self)
+        ensures max { self.new.max ≡ self.old.max }
+        ensures empty { self.new.bytes ≡ [] }
+    {
+        self.start = 0;
+        self.end = 0;
+    }
+
+    /// Takes as many bytes of the piece, from its front, as there is room for, and answers how many.
+    pub fn feed(&mut self, piece: &[u8]) -> usize
+        ensures taken { result ≡ min (length piece.now) (self.old.max - length self.old.bytes) }
+        ensures bytes { self.new.bytes ≡ self.old.bytes ++ take result piece.now }
+        ensures max { self.new.max ≡ self.old.max }
+    {
+        let taken = piece.len().min(self.room());
+        if self.bytes.len() - self.end < taken {
+            self.bytes.copy_within(self.start..self.end, 0);
+            self.end -= self.start;
+            self.start = 0;
+        }
+        let end = self.end + taken;
+        self.bytes[self.end..end].copy_from_slice(&piece[..taken]);
+        self.end = end;
+        taken
+    }
+
+    /// Gives the next frame, if a whole one is held. Its body stays in the reader until the answer is
+    /// let go.
+    ///
+    /// `Frame` comes exactly where a whole frame with a right `len` stands in front, and the reader then
+    /// holds what follows it. `NotYet` comes exactly where less than a frame is held that may still become
+    /// one, and there is room for at least one more byte. `Bad` comes exactly where a header stands in
+    /// front whose `len` is below 16 or above `max`. After `NotYet` and `Bad` the reader is unchanged, so
+    /// that a bad header is answered again and again until `clear`.
+    pub fn next(&mut self) -> Next<'_>
+        ensures answer { IsAnswer self.old.max self.old.bytes result }
+        ensures room { result ≡ Next.NotYet → length self.old.bytes < self.old.max }
+        ensures* after_borrow { sem 𝓛 (Rests self.entry (AfterNext self.old result)) }
+    {
+        let held = &self.bytes[self.start..self.end];
+        if held.len() < HEADER_LEN {
+            return Next::NotYet;
+        }
+        let header = Header::from_front(held);
+        let len = header.len as usize;
+        if !is_right_len(len, self.max) {
+            return Next::Bad { len: header.len };
+        }
+        if held.len() < len {
+            return Next::NotYet;
+        }
+        let body = self.start + HEADER_LEN;
+        self.start += len;
+        Next::Frame(Frame {
+            header,
+            body: &self.bytes[body..self.start],
+        })
+    }
+}
+
+fn is_right_len(len: usize, max: usize) -> bool
+    ensures { IsTrue result ↔ ((HEADER_LEN ≤ len) × (len ≤ max)) }
+{
+    (HEADER_LEN..=max).contains(&len)
+}
