@@ -1,0 +1,12 @@
+pub mod Told
+pub mod Link
+pub mod Scene
+pub mod Failures
+pub mod Cuts
+pub mod Output
+pub mod MemStream
+pub mod MemSink
+pub mod Transcript
+pub mod Script
+pub mod MemPost
+pub mod MemSite

@@ -1,0 +1,27 @@
+use Rattle.std.specs.Prelude.{ℕ, List, Option}
+use Rattle.outside.specs.declared.memory.fail.CallKind.TheVariants.{Append}
+use Rattle.outside.specs.declared.memory.fail.Fail.{Fail}
+use Rattle.outside.specs.declared.memory.sink.MemSink.{MemSink}
+use Rattle.outside.specs.Failures.{failure_of, next_number}
+use Rattle.outside.specs.Output.{told_bytes}
+
+-- the bytes that the sink holds, if it tells them
+abbrev pub held_of : MemSink → Option (List ℕ)
+held_of s = told_bytes s.output
+
+-- how many faults it had
+abbrev pub faults_of : MemSink → ℕ
+faults_of s = s.faults
+
+-- what a sink in memory goes by: the calls that are to fail, and how many appends were asked of it
+pub record SinkSchedule : Type 0 where
+  pub fails : List Fail
+  pub appends : ℕ
+
+-- what the sink goes by
+abbrev pub sink_schedule : MemSink → SinkSchedule
+sink_schedule s = record { fails = s.fails.items; appends = s.appends }
+
+-- how many bytes still go out by the next append, if it is to fail
+abbrev pub append_failure : SinkSchedule → Option ℕ
+append_failure s = failure_of s.fails Append (next_number s.appends)

@@ -1,0 +1,52 @@
+use Rattle.std.specs.Prelude.{◌≡◌, ℕ, List, take, drop, Option}
+use Rattle.outside.specs.declared.act.Role.{Role}
+use Rattle.outside.specs.declared.memory.fail.CallKind.TheVariants.{Recv, Send}
+use Rattle.outside.specs.declared.memory.fail.Fail.{Fail}
+use Rattle.outside.specs.declared.memory.stream.Closed.{Closed}
+use Rattle.outside.specs.declared.memory.stream.MemStream.{MemStream}
+use Rattle.outside.specs.Failures.{failure_of, next_number}
+use Rattle.outside.specs.Link.{Link}
+use Rattle.outside.specs.Told.{told_if}
+
+-- what a stream that has received so many bytes of its input tells
+abbrev pub link_at : List ℕ → List ℕ → ℕ → Link
+link_at input sent received =
+    record { left = drop received input; taken = take received input; sent = sent }
+
+-- what the stream tells
+abbrev pub link_of : MemStream → Option Link
+link_of s = told_if s.output.telling (link_at s.input.items s.output.bytes.items s.taken)
+
+-- how many faults it had
+abbrev pub faults_of : MemStream → ℕ
+faults_of s = s.faults
+
+-- which child it leads to
+abbrev pub role_of : MemStream → Role
+role_of s = s.role
+
+-- what a stream in memory goes by: the calls that are to fail, the lengths of the pieces in which it
+-- gives what is left, and how many receivings and sends were asked of it
+pub record StreamSchedule : Type 0 where
+  pub fails : List Fail
+  pub cuts : List ℕ
+  pub recvs : ℕ
+  pub sends : ℕ
+
+-- what the stream goes by
+abbrev pub stream_schedule : MemStream → StreamSchedule
+stream_schedule s =
+    record { fails = s.fails.items; cuts = s.cuts; recvs = s.recvs; sends = s.sends }
+
+-- the failure of the next receiving, if it is to fail
+abbrev pub recv_failure : StreamSchedule → Option ℕ
+recv_failure s = failure_of s.fails Recv (next_number s.recvs)
+
+-- how many bytes still go out by the next send, if it is to fail
+abbrev pub send_failure : StreamSchedule → Option ℕ
+send_failure s = failure_of s.fails Send (next_number s.sends)
+
+-- what a stream to a child of this role told, as it stands once the stream is closed
+pub record IsClosed (role : Role) (closed : Closed) (link : Link) : Type 0 where
+  pub talk : closed.talk ≡ record { role = role; taken = link.taken; sent = link.sent }
+  pub unread : closed.unread ≡ link.left

@@ -1,0 +1,90 @@
+use Rattle.std.specs.Prelude.{◌≡◌, ℕ, Bool, true, false, List, [], ◌∷◌, ◌++◌, count_by, slice_get, zero, suc, unwrap_or, Option, Some, None, option_map, Result, Ok, Err, IfSome}
+use Rattle.outside.specs.declared.act.Failed.{Failed}
+use Rattle.outside.specs.declared.act.Role.{Role}
+use Rattle.outside.specs.declared.act.Role.TheVariants.{Pre}
+use Rattle.outside.specs.declared.act.Accepted.{Accepted}
+use Rattle.outside.specs.declared.act.Accepted.TheVariants.{Came, NoneLeft, Failed as AcceptFailed}
+use Rattle.outside.specs.declared.act.Act.{Act}
+use Rattle.outside.specs.declared.act.Act.TheVariants.{Accept, Finish}
+use Rattle.outside.specs.declared.act.Talk.{Talk}
+use Rattle.outside.specs.Told.{Goes}
+use Rattle.outside.specs.Link.{Link}
+
+-- what a post tells: the operations asked of it, what passed with the children given back, what
+-- each of these had sent and nobody received, and what each connection's children have to send:
+-- the one before the login and the user's
+pub record Scene : Type 0 where
+  pub acts : List Act
+  pub talks : List Talk
+  pub unread : List (List ℕ)
+  pub plan : List (List ℕ × List ℕ)
+
+-- these operations were done, these children given back and these bytes left unread; the plan stays
+pub record Played (done : List Act) (finished : List Talk) (remains : List (List ℕ)) (before after : Scene) : Type 0 where
+  pub acts : after.acts ≡ before.acts ++ done
+  pub talks : after.talks ≡ before.talks ++ finished
+  pub unread : after.unread ≡ before.unread ++ remains
+  pub plan : after.plan ≡ before.plan
+
+-- one operation was done, and no child given back
+abbrev pub Did : Act → Option Scene → Option Scene → Type 0
+Did act = Goes (Played (act ∷ []) [] [])
+
+-- what an accept came to
+abbrev pub accepted_outcome : {Conn : Type 0} → Result (Option Conn) Failed → Accepted
+accepted_outcome (Ok (Some _)) = Came
+accepted_outcome (Ok None) = NoneLeft
+accepted_outcome (Err _) = AcceptFailed
+
+-- whether a start succeeded
+abbrev pub started_outcome : {Child : Type 0} → Result Child Failed → Result (Unit {0}) Failed
+started_outcome (Ok _) = Ok tt
+started_outcome (Err failed) = Err failed
+
+-- whether the operation is an accept by which a connection came
+abbrev pub is_coming : Act → Bool
+is_coming (Accept Came) = true
+is_coming _ = false
+
+-- how many connections came
+abbrev pub came_count : List Act → ℕ
+came_count acts = count_by is_coming acts
+
+-- the bytes that the child of this role has to send, of a connection's two
+abbrev pub bytes_for : Role → List ℕ × List ℕ → List ℕ
+bytes_for (Pre _) entry = entry.0
+
+-- the bytes of the entry that stands at this place of the plan, counted from 1; none at no place
+abbrev pub bytes_at : Role → List (List ℕ × List ℕ) → ℕ → List ℕ
+bytes_at role plan zero = []
+bytes_at role plan (suc k) = unwrap_or (option_map (bytes_for role) (slice_get plan k)) []
+
+-- the bytes that the plan has for a child of this role in the connection that came last
+abbrev pub planned_bytes : Scene → Role → List ℕ
+planned_bytes scene role = bytes_at role scene.plan (came_count scene.acts)
+
+-- a child that was just started: nothing taken from it or sent to it
+pub record IsUnused (link : Link) : Type 0 where
+  pub taken : link.taken ≡ []
+  pub sent : link.sent ≡ []
+
+-- a child was given back: where it tells, its bytes go to what the post tells; else the post
+-- doesn't tell any more
+abbrev pub GivenBack : Role → Option Link → Option Scene → Option Scene → Type 0
+GivenBack role None before after = after ≡ None
+GivenBack role (Some link) before after = Goes (Played (Finish role ∷ []) (record { role = role; taken = link.taken; sent = link.sent } ∷ []) (link.left ∷ [])) before after
+
+-- nothing was asked of a post yet
+pub record IsUnplayed (scene : Scene) : Type 0 where
+  pub acts : scene.acts ≡ []
+  pub talks : scene.talks ≡ []
+  pub unread : scene.unread ≡ []
+
+-- a post that was just made, by what these say of it: where it tells, nothing was asked of it, and
+-- its counts are 0
+pub record IsFresh {P : Type 0} (scene : P → Option Scene) (accept_faults keeper_faults link_faults conn_faults : P → ℕ) (post : P) : Type 0 where
+  pub unplayed : IfSome (scene post) IsUnplayed
+  pub no_accept_fault : accept_faults post ≡ 0
+  pub no_keeper_fault : keeper_faults post ≡ 0
+  pub no_link_fault : link_faults post ≡ 0
+  pub no_conn_fault : conn_faults post ≡ 0

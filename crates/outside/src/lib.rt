@@ -1,0 +1,24 @@
+//! The outside of the monitor: the traits through which it reaches children, clients, logs and its
+//! site, and objects in memory that stand in for them.
+#![tactic(auto)]
+
+mod act;
+mod bytes;
+mod memory;
+mod place;
+mod post;
+mod sink;
+mod site;
+mod stream;
+
+pub use act::{Accepted, Act, Failed, Role, Talk};
+pub use bytes::{Bytes, Word};
+pub use memory::{CallKind, Fail, MemConn, MemPost, MemSink, MemSite, MemStream, Script};
+pub use place::Place;
+pub use post::Post;
+pub use sink::Sink;
+pub use site::Site;
+pub use stream::Stream;
+
+#[cfg(test)]
+mod tests;

@@ -1,0 +1,85 @@
+ghost use Rattle.std.specs.Prelude.{◌≡◌, ◌↔◌, ◌≤◌, [], IfOk, IfSome, IsErr, IsSome, IsTrue, OnErr, OnOk, Some};
+ghost use Rattle.outside.specs.Failures.{bytes_let_out, next_number};
+ghost use Rattle.outside.specs.Told.{Gains, GainsPart, Rose};
+
+use super::fail::{CallKind, Fail, find_failure};
+use super::output::Output;
+use crate::act::Failed;
+use crate::sink::Sink;
+use std::alloc::{AllocError, Global};
+
+/// A sink in memory. It tells what it holds as long as memory is found for it.
+#[derive(Debug, Drop)]
+pub struct MemSink {
+    output: Output,
+    fails: Vec<Fail>,
+    appends: u64,
+    faults: u64,
+}
+
+impl MemSink {
+    ghost use Rattle.outside.specs.MemSink.{faults_of, held_of, sink_schedule};
+
+    /// An empty sink whose appends fail exactly where `fails` lists them.
+    pub fn new(alloc: Global, fails: &[Fail]) -> Result<MemSink, AllocError>
+        ensures held { IfOk result (λ s. held_of s ≡ Some []) }
+        ensures faults { IfOk result (λ s. faults_of s ≡ 0) }
+        ensures schedule { IfOk result
+            (λ s. sink_schedule s ≡ record { fails = fails.now; appends = 0 }) }
+    {
+        Ok(MemSink {
+            output: Output::new(alloc),
+            fails: Vec::from_slice(alloc, fails)?,
+            appends: 0,
+            faults: 0,
+        })
+    }
+
+    /// Whether it tells what it holds.
+    pub fn tells(&self) -> bool
+        ensures { IsTrue result ↔ IsSome (held_of self.now) }
+    {
+        self.output.telling
+    }
+
+    /// The bytes that it holds, where it tells them.
+    pub fn held(&self) -> &[u8]
+        ensures { IfSome (held_of self.now) (λ bytes. result.now ≡ bytes) }
+    {
+        self.output.bytes.as_slice()
+    }
+}
+
+impl Sink for MemSink {
+    ghost use Rattle.outside.specs.MemSink.{append_failure, faults_of, held_of, sink_schedule};
+
+    ghost held = { held_of };
+
+    ghost faults = { faults_of };
+
+    /// Appends the bytes. It fails exactly where its list says so, and no other call is counted.
+    fn append(&mut self, bytes: &[u8]) -> Result<(), Failed>
+        ensures ok { OnOk result (Gains (held_of self.old) bytes.now (held_of self.new)) }
+        ensures part { OnErr result (GainsPart (held_of self.old) bytes.now (held_of self.new)) }
+        ensures failed { OnErr result (Rose (faults_of self.old) (faults_of self.new)) }
+        ensures faults { faults_of self.old ≤ faults_of self.new }
+
+        ensures listed { IsErr result ↔ IsSome (append_failure (sink_schedule self.old)) }
+        ensures let_out { Gains (held_of self.old)
+            (bytes_let_out (append_failure (sink_schedule self.old)) bytes.now) (held_of self.new) }
+        ensures schedule { sink_schedule self.new ≡ record (sink_schedule self.old) {
+          appends = next_number (sink_schedule self.old).appends;
+        } }
+    {
+        self.appends = self.appends.saturating_add(1);
+        let failure = find_failure(&self.fails, CallKind::Append, self.appends);
+        self.output.write(bytes, failure);
+        match failure {
+            None => Ok(()),
+            Some(_) => {
+                self.faults = self.faults.saturating_add(1);
+                Err(Failed)
+            }
+        }
+    }
+}

@@ -1,0 +1,265 @@
+ghost use Rattle.std.specs.Prelude.{◌≡◌, ◌↔◌, ◌<◌, ◌≤◌, [], All, drop, IfOk, IfSome, IsErr, IsSome, IsSomeAnd, IsTrue, length, min, OnErr, OnOk, OnSome, Ok, Some};
+ghost use Rattle.outside.specs.Cuts.{cuts_after, next_piece};
+ghost use Rattle.outside.specs.Failures.{bytes_let_out, next_number};
+ghost use Rattle.outside.specs.Link.{Exchanged, SendsPart, received_bytes};
+ghost use Rattle.outside.specs.Told.{Goes, Rose};
+ghost use Rattle.std.proofs.Props.{props};
+
+use super::cuts::Cuts;
+use super::fail::{CallKind, Fail, find_failure};
+use super::output::Output;
+use crate::act::{Failed, Role, Talk};
+use crate::bytes::Bytes;
+use crate::stream::Stream;
+use std::alloc::{AllocError, Global};
+
+/// A stream in memory. It tells what passes as long as memory is found for the bytes sent to it.
+#[derive(Debug, Drop)]
+pub struct MemStream {
+    role: Role,
+    input: Vec<u8>,
+    taken: usize,
+    cuts: Cuts,
+    output: Output,
+    fails: Vec<Fail>,
+    recvs: u64,
+    sends: u64,
+    faults: u64,
+    ghost in_input: { taken ≤ length input.items },
+    ghost each_cut: { All (λ c. 1 ≤ c) cuts } by { Prim.hlevel props },
+    ghost some_cut: { IsTrue output.telling → 0 < length cuts },
+}
+
+/// What a stream that is closed told: what passed, and what was left.
+pub(super) struct Closed {
+    pub(super) talk: Talk,
+    pub(super) unread: Bytes,
+}
+
+/// Copies of the input and the cuts of a stream.
+fn copies(alloc: Global, input: &[u8], cuts: &[usize]) -> Result<(Vec<u8>, Cuts), AllocError>
+    ensures input { IfOk result (λ made. made.0.items ≡ input.now) }
+    ensures cuts { IfOk result (λ made. made.1 ≡ cuts.now) }
+{
+    Ok((Vec::from_slice(alloc, input)?, Cuts::of(alloc, cuts)?))
+}
+
+impl MemStream {
+    ghost use Rattle.outside.specs.Link.{Link};
+    ghost use Rattle.outside.specs.MemStream.{IsClosed, faults_of, link_of, role_of, stream_schedule};
+
+    /// A stream that gives `input` in pieces of the lengths `cuts`, the last of which repeats. Its
+    /// calls fail exactly where `fails` lists them.
+    pub fn new(
+        alloc: Global,
+        input: &[u8],
+        cuts: &[usize],
+        fails: &[Fail],
+    ) -> Result<MemStream, AllocError>
+        requires some_cut { 0 < length cuts.now }
+        requires each_cut { All (λ c. 1 ≤ c) cuts.now }
+        ensures link { IfOk result
+            (λ s. link_of s ≡ Some (record { left = input.now; taken = []; sent = [] })) }
+        ensures role { IfOk result (λ s. role_of s ≡ Role.Pre 0) }
+        ensures faults { IfOk result (λ s. faults_of s ≡ 0) }
+        ensures schedule { IfOk result (λ s. stream_schedule s
+            ≡ record { fails = fails.now; cuts = cuts.now; recvs = 0; sends = 0 }) }
+    {
+        let (input, cuts) = copies(alloc, input, cuts)?;
+        let fails = Vec::from_slice(alloc, fails)?;
+        let role = Role::Pre { session: 0 };
+        Ok(MemStream::with(role, input, cuts, Output::new(alloc), fails))
+    }
+
+    /// The stream to a child of this role, which has `input` to send. It doesn't tell where no
+    /// memory is found for the input or the cuts.
+    pub(super) fn for_child(
+        alloc: Global,
+        role: Role,
+        input: &[u8],
+        cuts: &[usize],
+        fails: Vec<Fail>,
+    ) -> MemStream
+        requires some_cut { 0 < length cuts.now }
+        requires each_cut { All (λ c. 1 ≤ c) cuts.now }
+        ensures link { IfSome (link_of result)
+            (λ l. l ≡ record { left = input.now; taken = []; sent = [] }) }
+        ensures role { role_of result ≡ role }
+        ensures faults { faults_of result ≡ 0 }
+        ensures fails { (stream_schedule result).fails ≡ fails.items }
+        ensures schedule { OnSome (link_of result) (stream_schedule result
+            ≡ record { fails = fails.items; cuts = cuts.now; recvs = 0; sends = 0 }) }
+    {
+        match copies(alloc, input, cuts) {
+            Ok((input, cuts)) => MemStream::with(role, input, cuts, Output::new(alloc), fails),
+            Err(AllocError) => {
+                let input = Vec::new(alloc);
+                MemStream::with(role, input, Cuts::none(alloc), Output::silent(alloc), fails)
+            }
+        }
+    }
+
+    fn with(role: Role, input: Vec<u8>, cuts: Cuts, output: Output, fails: Vec<Fail>) -> MemStream
+        requires some_cut { IsTrue output.telling → 0 < length cuts }
+        requires each_cut { All (λ c. 1 ≤ c) cuts }
+        ensures role { role_of result ≡ role }
+        ensures input { result.input ≡ input }
+        ensures taken { result.taken ≡ 0 }
+        ensures cuts { result.cuts ≡ cuts }
+        ensures output { result.output ≡ output }
+        ensures fails { result.fails ≡ fails }
+        ensures recvs { result.recvs ≡ 0 }
+        ensures sends { result.sends ≡ 0 }
+        ensures faults { faults_of result ≡ 0 }
+    {
+        MemStream {
+            role,
+            input,
+            taken: 0,
+            cuts,
+            output,
+            fails,
+            recvs: 0,
+            sends: 0,
+            faults: 0,
+        }
+    }
+
+    /// Ends the stream, and gives what it tells, if it tells and memory is found for it.
+    pub(super) fn close(self) -> Option<Closed>
+        ensures { IfSome result
+            (λ closed. IsSomeAnd (link_of self) (IsClosed (role_of self) closed)) }
+    {
+        let MemStream {
+            role,
+            mut input,
+            taken,
+            cuts: _,
+            output,
+            fails: _,
+            recvs: _,
+            sends: _,
+            faults: _,
+        } = self;
+        if !output.telling {
+            return None;
+        }
+        let left = input.split_off(taken).ok()?;
+        Some(Closed {
+            talk: Talk {
+                role,
+                taken: Bytes::from(input),
+                sent: Bytes::from(output.bytes),
+            },
+            unread: Bytes::from(left),
+        })
+    }
+
+    /// Which child it leads to.
+    pub(super) fn role(&self) -> Role
+        ensures { result ≡ role_of self.now }
+    {
+        self.role
+    }
+
+    /// Whether a call of it failed.
+    pub(super) fn is_faulty(&self) -> bool
+        ensures { IsTrue result ↔ (0 < faults_of self.now) }
+    {
+        self.faults > 0
+    }
+
+    /// Whether it tells what passes.
+    pub fn tells(&self) -> bool
+        ensures { IsTrue result ↔ IsSome (link_of self.now) }
+    {
+        self.output.telling
+    }
+
+    /// The bytes sent to it, where it tells them.
+    pub fn sent(&self) -> &[u8]
+        ensures { IfSome (link_of self.now) (λ link. result.now ≡ link.sent) }
+    {
+        self.output.bytes.as_slice()
+    }
+}
+
+impl Stream for MemStream {
+    ghost use Rattle.outside.specs.MemStream.{faults_of, link_of, recv_failure, role_of, send_failure, stream_schedule};
+
+    ghost link = { link_of };
+
+    ghost faults = { faults_of };
+
+    ghost role = { role_of };
+
+    /// Receives the next piece. It fails exactly where its list says so.
+    #[tactic(auto, using(crate::proofs::CutLemmas::cut_laws))]
+    fn recv(&mut self, buf: &mut [u8]) -> Result<usize, Failed>
+        requires { 0 < length buf.old }
+
+        ensures bound { IfOk result (λ n. n ≤ length buf.old) }
+        ensures link { Goes (Exchanged (received_bytes result buf.new) []) (link_of self.old)
+            (link_of self.new) }
+        ensures end { result ≡ Ok 0 → IfSome (link_of self.new) (λ l. l.left ≡ []) }
+        ensures failed { OnErr result (Rose (faults_of self.old) (faults_of self.new)) }
+        ensures faults { faults_of self.old ≤ faults_of self.new }
+        ensures role { role_of self.new ≡ role_of self.old }
+
+        ensures listed { IsErr result ↔ IsSome (recv_failure (stream_schedule self.old)) }
+        ensures piece { IfOk result (λ n. IfSome (link_of self.old) (λ l.
+            n ≡ min (next_piece (stream_schedule self.old).cuts)
+            (min (length buf.old) (length l.left)))) }
+        ensures rest { IfOk result (λ n. drop n buf.new ≡ drop n buf.old) }
+        ensures schedule_ok { OnOk result
+            (stream_schedule self.new ≡ record (stream_schedule self.old) {
+              recvs = next_number (stream_schedule self.old).recvs;
+              cuts = cuts_after (stream_schedule self.old).cuts;
+            }) }
+        ensures schedule_err { OnErr result
+            (stream_schedule self.new ≡ record (stream_schedule self.old) {
+              recvs = next_number (stream_schedule self.old).recvs;
+            }) }
+    {
+        self.recvs = self.recvs.saturating_add(1);
+        if find_failure(&self.fails, CallKind::Recv, self.recvs).is_some() {
+            self.faults = self.faults.saturating_add(1);
+            return Err(Failed);
+        }
+        let piece = self.cuts.take();
+        let left = &self.input[self.taken..];
+        let n = piece.min(buf.len()).min(left.len());
+        buf[..n].copy_from_slice(&left[..n]);
+        self.taken += n;
+        Ok(n)
+    }
+
+    /// Takes the bytes that are sent. It fails exactly where its list says so.
+    fn send(&mut self, bytes: &[u8]) -> Result<(), Failed>
+        ensures ok { OnOk result
+            (Goes (Exchanged [] bytes.now) (link_of self.old) (link_of self.new)) }
+        ensures part { OnErr result (SendsPart bytes.now (link_of self.old) (link_of self.new)) }
+        ensures failed { OnErr result (Rose (faults_of self.old) (faults_of self.new)) }
+        ensures faults { faults_of self.old ≤ faults_of self.new }
+        ensures role { role_of self.new ≡ role_of self.old }
+
+        ensures listed { IsErr result ↔ IsSome (send_failure (stream_schedule self.old)) }
+        ensures let_out { Goes
+            (Exchanged [] (bytes_let_out (send_failure (stream_schedule self.old)) bytes.now))
+            (link_of self.old) (link_of self.new) }
+        ensures schedule { stream_schedule self.new ≡ record (stream_schedule self.old) {
+          sends = next_number (stream_schedule self.old).sends;
+        } }
+    {
+        self.sends = self.sends.saturating_add(1);
+        let failure = find_failure(&self.fails, CallKind::Send, self.sends);
+        self.output.write(bytes, failure);
+        match failure {
+            None => Ok(()),
+            Some(_) => {
+                self.faults = self.faults.saturating_add(1);
+                Err(Failed)
+            }
+        }
+    }
+}

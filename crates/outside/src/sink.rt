@@ -1,0 +1,20 @@
+ghost use Rattle.std.specs.Prelude.{◌≡◌, ℕ, ◌≤◌, List, take, Option, OnErr, OnOk};
+ghost use Rattle.outside.specs.Told.{Gains, GainsPart, Rose};
+
+use crate::act::Failed;
+
+/// What bytes are appended to, as a log.
+pub trait Sink: Drop + Send {
+    // The bytes that it holds, where it tells them.
+    ghost held: { Self → Option (List ℕ) };
+
+    // How many faults it had.
+    ghost faults: { Self → ℕ };
+
+    /// Appends all bytes. `Failed`: a first part of them was appended, perhaps none.
+    fn append(&mut self, bytes: &[u8]) -> Result<(), Failed>
+        ensures ok { OnOk result (Gains (held self.old) bytes.now (held self.new)) }
+        ensures part { OnErr result (GainsPart (held self.old) bytes.now (held self.new)) }
+        ensures failed { OnErr result (Rose (faults self.old) (faults self.new)) }
+        ensures faults { faults self.old ≤ faults self.new };
+}

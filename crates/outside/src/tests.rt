@@ -1,0 +1,194 @@
+ghost use Rattle.std.specs.Prelude.{◌≡◌, ◌<◌, ◌≤◌, IfOk, length};
+ghost use Rattle.outside.specs.MemPost.{accept_faults_of, conn_faults_of, keeper_faults_of, link_faults_of, scene_of};
+ghost use Rattle.outside.specs.Scene.{IsFresh};
+
+use super::{
+    Accepted, Act, Bytes, CallKind, Fail, Failed, MemConn, MemPost, MemSink, MemSite, MemStream,
+    Place, Post, Role, Script, Sink, Site, Stream, Talk, Word,
+};
+use std::alloc::{AllocError, Global};
+use std::test::Fail as Fault;
+
+const PRE: Role = Role::Pre { session: 1 };
+
+fn fail(call: CallKind, number: u32, sent: usize) -> Fail {
+    Fail { call, number, sent }
+}
+
+/// Receives through the bound.
+fn receive<S: Stream>(stream: &mut S, buf: &mut [u8]) -> Result<usize, Failed>
+    requires { 0 < length buf.old }
+    ensures { IfOk result (λ n. n ≤ length buf.new) }
+{
+    stream.recv(buf)
+}
+
+/// Sends through the bound.
+fn send<S: Stream>(stream: &mut S, bytes: &[u8]) -> Result<(), Failed> {
+    stream.send(bytes)
+}
+
+#[test]
+fn a_stream_gives_pieces_and_fails_as_listed(rt: HostRuntime) -> Result<(), Fault> {
+    let fails = [fail(CallKind::Recv, 2, 0), fail(CallKind::Send, 2, 1)];
+    let mut stream = MemStream::new(rt.alloc(), b"abcdefg", &[3, 2], &fails)?;
+    let received: [Result<&[u8], Failed>; 5] = [
+        Ok(b"abc"),
+        Err(Failed),
+        Ok(b"de"),
+        Ok(b"fg"),
+        Ok(b""),
+    ];
+    for want in received {
+        let mut buf = [0; 4];
+        let got = receive(&mut stream, &mut buf).map(|n| &buf[..n]);
+        assert_eq!(rt; got, want);
+    }
+    assert_eq!(rt; send(&mut stream, b"xy"), Ok(()));
+    assert_eq!(rt; send(&mut stream, b"zw"), Err(Failed));
+    assert!(rt; stream.tells());
+    assert_eq!(rt; stream.sent(), b"xyz".as_slice());
+    Ok(())
+}
+
+/// Appends through the bound.
+fn append<S: Sink>(sink: &mut S, bytes: &[u8]) -> Result<(), Failed> {
+    sink.append(bytes)
+}
+
+#[test]
+fn a_sink_keeps_a_first_part_of_a_failing_append(rt: HostRuntime) -> Result<(), Fault> {
+    let mut sink = MemSink::new(rt.alloc(), &[fail(CallKind::Append, 2, 3)])?;
+    assert_eq!(rt; append(&mut sink, b"hello "), Ok(()));
+    assert_eq!(rt; append(&mut sink, b"world"), Err(Failed));
+    assert_eq!(rt; append(&mut sink, b"!"), Ok(()));
+    assert!(rt; sink.tells());
+    assert_eq!(rt; sink.held(), b"hello wor!".as_slice());
+    Ok(())
+}
+
+fn script(alloc: Global, pre: &[u8]) -> Result<Script, AllocError> {
+    Ok(Script {
+        client: Bytes::of(alloc, b"client")?,
+        pre: Bytes::of(alloc, pre)?,
+        user: Bytes::of(alloc, b"user")?,
+    })
+}
+
+fn post(alloc: Global, room: usize, fails: &[Fail]) -> Result<MemPost, AllocError>
+    ensures { IfOk result
+        (IsFresh scene_of accept_faults_of keeper_faults_of link_faults_of conn_faults_of) }
+{
+    let scripts = vec![in alloc; script(alloc, b"hello")?, script(alloc, b"later")?]?;
+    MemPost::new(alloc, scripts, &[3], room, fails)
+}
+
+/// One connection with one child, through the bound: whether a connection came.
+fn serve<P: Post>(post: &mut P) -> Result<bool, Failed> {
+    let Some(mut conn) = post.accept()? else {
+        return Ok(false);
+    };
+    let started = post.start(&PRE);
+    let _ = post.conn_send(&mut conn, b"a");
+    if let Ok(mut child) = started {
+        let mut buf = [0; 8];
+        let _ = child.recv(&mut buf);
+        let _ = child.recv(&mut buf);
+        let _ = child.send(b"ok");
+        post.finish(child);
+    }
+    post.hang_up(conn);
+    Ok(true)
+}
+
+#[test]
+fn a_post_plays_its_scripts_and_fails_as_listed(rt: HostRuntime) -> Result<(), Fault> {
+    let alloc = rt.alloc();
+    let fails = [
+        fail(CallKind::Accept, 2, 0),
+        fail(CallKind::Start, 2, 0),
+        fail(CallKind::ConnSend, 2, 0),
+        fail(CallKind::Recv, 1, 0),
+        fail(CallKind::Send, 1, 1),
+    ];
+    let mut post = post(alloc, 11, &fails)?;
+    let served = [Ok(true), Err(Failed), Ok(true), Ok(false)];
+    for want in served {
+        assert_eq!(rt; serve(&mut post), want);
+    }
+    assert!(rt; post.tells());
+    let acts = vec![in alloc;
+        Act::Accept {
+            outcome: Accepted::Came
+        },
+        Act::Start {
+            role: PRE,
+            outcome: Ok(())
+        },
+        Act::ConnSend {
+            bytes: Bytes::of(alloc, b"a")?,
+            outcome: Ok(())
+        },
+        Act::Finish { role: PRE },
+        Act::HangUp,
+        Act::Accept {
+            outcome: Accepted::Failed
+        },
+        Act::Accept {
+            outcome: Accepted::Came
+        },
+        Act::Start {
+            role: PRE,
+            outcome: Err(Failed)
+        },
+        Act::ConnSend {
+            bytes: Bytes::of(alloc, b"a")?,
+            outcome: Err(Failed)
+        },
+        Act::HangUp,
+        Act::Accept {
+            outcome: Accepted::NoneLeft
+        },
+    ]?;
+    assert_eq!(rt; post.acts(), acts.as_slice());
+    let talks = vec![in alloc;
+        Talk {
+            role: PRE,
+            taken: Bytes::of(alloc, b"hel")?,
+            sent: Bytes::of(alloc, b"o")?,
+        },
+    ]?;
+    assert_eq!(rt; post.talks(), talks.as_slice());
+    assert_eq!(rt; serve(&mut post), Ok(false));
+    assert!(rt; !post.tells(), "there is room for 11 acts");
+    Ok(())
+}
+
+/// How many posts a site gives, through the bound.
+fn listen<S: Site>(site: &mut S, place: &Place) -> Result<usize, Failed>
+    requires { 1 ≤ place.now.workers }
+{
+    Ok(site.listen(place)?.len())
+}
+
+#[test]
+fn a_site_gives_its_posts_once_to_as_many_workers(rt: HostRuntime) -> Result<(), Fault> {
+    let alloc = rt.alloc();
+    let mut posts = Vec::new(alloc);
+    posts.push(post(alloc, 4, &[])?)?;
+    posts.push(post(alloc, 4, &[])?)?;
+    let mut site = MemSite::new(alloc, posts)?;
+    let mut place = Place {
+        socket: Word::of(alloc, b"/run/otp")?,
+        launcher: Word::of(alloc, b"/bin/launch")?,
+        vault: Word::of(alloc, b"/var/otp")?,
+        workers: 3,
+    };
+    assert_eq!(rt; listen(&mut site, &place), Err(Failed));
+    place.workers = 2;
+    assert_eq!(rt; listen(&mut site, &place), Ok(2));
+    assert_eq!(rt; listen(&mut site, &place), Err(Failed));
+    assert!(rt; site.tells());
+    assert_eq!(rt; place.socket.as_str(), "/run/otp");
+    Ok(())
+}
