@@ -1,0 +1,86 @@
+-- What can be read off one ask, one decision and one event.
+use Rattle.std.specs.Prelude.{ℕ, Bool, true, false, not, ◌&&◌, ◌||◌, nat_le, Option, Some, None}
+use Rattle.request_catalogue.specs.declared.kind.Kind.{Kind}
+use Rattle.request_catalogue.specs.declared.kind.Kind.TheVariants as kinds
+use Rattle.request_catalogue.specs.Kinds.{kind_number}
+use Rattle.policy_model.specs.declared.event.Why.{Why}
+use Rattle.policy_model.specs.declared.event.Why.TheVariants as whys
+use Rattle.policy_model.specs.declared.event.Ask.{Ask}
+use Rattle.policy_model.specs.declared.event.Ask.TheVariants as asks
+use Rattle.policy_model.specs.declared.event.Decision.{Decision}
+use Rattle.policy_model.specs.declared.event.Decision.TheVariants as decisions
+use Rattle.policy_model.specs.declared.event.Event.{Event}
+
+abbrev pub is_begin : Ask → Bool
+is_begin asks.Begin = true
+is_begin _ = false
+
+abbrev pub is_end : Ask → Bool
+is_end (asks.End why) = true
+is_end _ = false
+
+-- it came by a frame of a child
+abbrev pub is_request : Ask → Bool
+is_request ask = not (is_begin ask) && not (is_end ask)
+
+abbrev pub is_finish : Ask → Bool
+is_finish asks.Finish = true
+is_finish _ = false
+
+-- the rule that an ask names is in its range
+abbrev pub is_proper_why : Why → Bool
+is_proper_why (whys.Violation rule) = nat_le 1 rule && nat_le rule 7
+is_proper_why _ = true
+
+abbrev pub is_proper : Ask → Bool
+is_proper (asks.Bad rule detail) = nat_le 2 rule && nat_le rule 5
+is_proper (asks.End why) = is_proper_why why
+is_proper _ = true
+
+-- the kind of the request that an ask is
+abbrev pub kind_of : Ask → Option Kind
+kind_of asks.Begin = None
+kind_of asks.Banner = Some kinds.Banner
+kind_of (asks.Challenge user now) = Some kinds.Challenge
+kind_of (asks.Reply words hex) = Some kinds.Reply
+kind_of asks.Abandon = Some kinds.Abandon
+kind_of (asks.Export len) = Some kinds.Export
+kind_of asks.Import = Some kinds.Import
+kind_of (asks.ReadAt handle offset max) = Some kinds.ReadAt
+kind_of (asks.WriteAt handle offset len) = Some kinds.WriteAt
+kind_of (asks.OpenFile mode name) = Some kinds.OpenFile
+kind_of (asks.CloseFile handle) = Some kinds.CloseFile
+kind_of (asks.Info number) = Some kinds.Info
+kind_of (asks.Note text) = Some kinds.Note
+kind_of asks.Finish = Some kinds.Finish
+kind_of (asks.Bad rule detail) = None
+kind_of (asks.End why) = None
+
+abbrev pub number_of : Option Kind → ℕ
+number_of None = 0
+number_of (Some kind) = kind_number kind
+
+-- the request's number, and 0 for an opening, an end and a frame that is no request
+abbrev pub request_number : Ask → ℕ
+request_number ask = number_of (kind_of ask)
+
+abbrev pub is_permit : Decision → Bool
+is_permit (decisions.Permit value) = true
+is_permit _ = false
+
+abbrev pub is_lost : Decision → Bool
+is_lost decisions.Lost = true
+is_lost _ = false
+
+-- a denial that ends the session: by a rule of 1 to 7
+abbrev pub is_violation : Decision → Bool
+is_violation (decisions.Deny rule detail) = nat_le 1 rule && nat_le rule 7
+is_violation _ = false
+
+-- a session is opened by a permitted opening
+abbrev pub opens : Event → Bool
+opens e = is_begin e.ask && is_permit e.decision
+
+-- after such an event its session is over: its end, a permitted FINISH, a violation, or a lost decision
+abbrev pub ends_session : Event → Bool
+ends_session e = is_end e.ask || is_finish e.ask && is_permit e.decision || is_violation e.decision || is_lost e.decision

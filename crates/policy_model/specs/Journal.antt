@@ -1,0 +1,42 @@
+-- What can be read off the one list of all events.
+use Rattle.std.specs.Prelude.{ℕ, Bool, ◌&&◌, ◌||◌, ◌==◌, not, List, filter, count_by, Option, Some, None, if◌then◌else◌}
+use Rattle.std.specs.List.{last_or, list_any}
+use Rattle.policy_model.specs.declared.event.Event.{Event}
+use Rattle.policy_model.specs.Asks.{is_begin, is_end, is_permit, is_request, is_lost, opens}
+
+-- the events of a session, in order
+abbrev pub events_of : List Event → ℕ → List Event
+events_of journal session = filter (λ e. e.session == session) journal
+
+-- a permitted opening or end of a worker
+abbrev pub is_turn_of : ℕ → Event → Bool
+is_turn_of worker e = e.worker == worker && (is_begin e.ask || is_end e.ask) && is_permit e.decision
+
+-- the session of an opening, and 0 for an end or nothing
+abbrev pub session_opened : Option Event → ℕ
+session_opened None = 0
+session_opened (Some e) = if is_begin e.ask then e.session else 0
+
+-- the worker's open session, or 0: that of its last permitted opening where no permitted end of the worker follows
+abbrev pub open_session_of : List Event → ℕ → ℕ
+open_session_of journal worker = session_opened (last_or None (filter (is_turn_of worker) journal))
+
+-- what an event makes of the worker's open session
+abbrev pub opened_after : ℕ → ℕ → Event → ℕ
+opened_after worker session e = if is_turn_of worker e then session_opened (Some e) else session
+
+-- how many asks a session has made besides its opening and its end
+abbrev pub asks_of : List Event → ℕ → ℕ
+asks_of journal session = count_by (λ e. is_request e.ask) (events_of journal session)
+
+-- how many sessions were opened
+abbrev pub openings_of : List Event → ℕ
+openings_of journal = count_by opens journal
+
+-- some decision was lost
+abbrev pub has_lost : List Event → Bool
+has_lost journal = list_any (λ e. is_lost e.decision) journal
+
+-- the events whose decisions were not lost
+abbrev pub kept_events : List Event → List Event
+kept_events journal = filter (λ e. not (is_lost e.decision)) journal
