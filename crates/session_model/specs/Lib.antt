@@ -1,0 +1,9 @@
+pub mod Places
+pub mod Requests
+pub mod Acts
+pub mod Answers
+pub mod Log
+pub mod Parts
+pub mod Sittings
+pub mod Stories
+pub mod Smallest
