@@ -1,0 +1,137 @@
+-- What the top call promises of a whole run, in its parts.
+use Rattle.std.specs.Prelude.{◌≡◌, ◌≢◌, ◌⊎◌, ℕ, ◌+◌, ◌<◌, ◌≤◌, Bool, true, false, ◌&&◌, ◌==◌, List, [], ◌∷◌, ◌++◌, length, take, find, count_by, codes, slice_get, Option, Some, None, IfSome}
+use Rattle.std.specs.List.{AllByRecursion, last_or, list_any}
+use Rattle.outside.specs.Told.{Goes}
+use Rattle.outside.specs.Scene.{Scene}
+use Rattle.outside.specs.declared.act.Act.{Act}
+use Rattle.outside.specs.declared.act.Act.TheVariants.{Accept}
+use Rattle.outside.specs.declared.act.Accepted.TheVariants as accepted
+use Rattle.policy_model.specs.declared.event.Ask.{Ask}
+use Rattle.policy_model.specs.declared.event.Ask.TheVariants.{End}
+use Rattle.policy_model.specs.declared.event.Why.TheVariants.{LinkFault, KeeperFault, LogLost}
+use Rattle.policy_model.specs.declared.event.Event.{Event}
+use Rattle.policy_model.specs.Asks.{is_lost, opens}
+use Rattle.policy_model.specs.Journal.{has_lost, kept_events}
+use Rattle.policy_model.specs.Legal.{IsLegal, next_event}
+use Rattle.policy_model.specs.Runs.{IsOfWorker, IsProperEvent}
+use Rattle.policy_model.specs.Settings.{Settings}
+use Rattle.session_model.specs.Log.{line_of, log_text}
+use Rattle.session_model.specs.Sittings.{AreSittingsOf, Sitting}
+use Rattle.session_model.specs.Stories.{IsStory, LastAccept, story_acts}
+
+-- the words of the command that serves the plain setup
+abbrev pub serve_words : List (List ℕ)
+serve_words = codes "serve" ∷ []
+
+-- ---- the journal is legal
+
+-- each event is the policy's on those before it, or is lost with all later ones; each ask is proper, each worker the setup's
+pub record JournalIsLegal (setup : Settings) (journal : List Event) : Type 0 where
+  pub legal : IsLegal setup journal
+  pub proper : AllByRecursion IsProperEvent journal
+  pub workers : AllByRecursion (IsOfWorker setup) journal
+  pub few : length journal ≤ 1048576
+
+-- a worker's events are its sessions, one after the other; a lost opening alone may stand behind them
+pub record SessionsInOrder (journal : List Event) : Type 0 where
+  pub in_order : (worker : ℕ) → (sittings : List Sitting) × AreSittingsOf journal worker sittings
+
+-- ---- the operations and the bytes
+
+-- it holds of each worker and of what its post tells, where it tells
+abbrev pub EachScene : {P : Type 0} → (P → Option Scene) → List P → (ℕ → Scene → Type 0) → Type 0
+EachScene {P} scene posts Holds = (worker : ℕ) (post : P) → slice_get posts worker ≡ Some post → IfSome (scene post) (Holds worker)
+
+-- the operations done are those of the sessions, and nothing else but a last accept
+pub record OperationsMatch {P : Type 0} (scene : P → Option Scene) (journal : List Event) (posts : List P) : Type 0 where
+  pub done : EachScene scene posts (λ worker s. (sittings : List Sitting) × (last : LastAccept) × AreSittingsOf journal worker sittings × (s.acts ≡ story_acts sittings last))
+
+-- the same sessions have the bytes that passed, and those that were left unread
+pub record ConversationsMatch {P : Type 0} (scene : P → Option Scene) (journal : List Event) (posts : List P) : Type 0 where
+  pub held : EachScene scene posts (λ worker s. (sittings : List Sitting) × (last : LastAccept) × AreSittingsOf journal worker sittings × IsStory sittings last s)
+
+-- ---- the log
+
+-- the line that the first lost event would have had
+abbrev pub lost_line_of : Settings → List Event → Option Event → List ℕ
+lost_line_of setup kept None = []
+lost_line_of setup kept (Some e) = line_of (length kept + 1) (next_event setup kept e.worker e.ask)
+
+abbrev pub lost_line : Settings → List Event → List ℕ
+lost_line setup journal = lost_line_of setup (kept_events journal) (find (λ e. is_lost e.decision) journal)
+
+-- behind what the log held stand the journal's lines, and then a front of the line that was lost, if one was
+pub record HoldsLines (setup : Settings) (journal : List Event) (before after : List ℕ) : Type 0 where
+  pub lines : (n : ℕ) × (after ≡ before ++ log_text journal ++ take n (lost_line setup journal))
+
+abbrev pub LogMatches : Settings → List Event → Option (List ℕ) → Option (List ℕ) → Type 0
+LogMatches setup journal before after = Goes (HoldsLines setup journal) before after
+
+-- ---- the length of the run
+
+-- an accept by which no connection came
+abbrev pub is_stop : Act → Bool
+is_stop (Accept accepted.NoneLeft) = true
+is_stop (Accept accepted.Failed) = true
+is_stop _ = false
+
+abbrev pub openings_by : List Event → ℕ → ℕ
+openings_by journal worker = count_by (λ e. e.worker == worker && opens e) journal
+
+abbrev pub lost_by : List Event → ℕ → Bool
+lost_by journal worker = list_any (λ e. e.worker == worker && is_lost e.decision) journal
+
+-- a worker that no accept stopped and of which no decision was lost has served as many sessions as the setup says
+pub record RunsToQuota {P : Type 0} (setup : Settings) (scene : P → Option Scene) (journal : List Event) (posts : List P) : Type 0 where
+  pub quota : EachScene scene posts (λ worker s. list_any is_stop s.acts ≡ false → lost_by journal worker ≡ false → openings_by journal worker ≡ setup.connections)
+
+-- ---- the statuses and their causes
+
+-- nothing was used: no event, no post, and the log is as it was
+pub record IsUnused {P K : Type 0} (before after : K) (journal : List Event) (posts : List P) : Type 0 where
+  pub log : after ≡ before
+  pub events : journal ≡ []
+  pub workers : posts ≡ []
+
+abbrev pub is_failed_accept : Act → Bool
+is_failed_accept (Accept accepted.Failed) = true
+is_failed_accept _ = false
+
+abbrev pub is_fault : Option Act → Bool
+is_fault None = false
+is_fault (Some act) = is_failed_accept act
+
+-- the last thing asked of a post was an accept, and it failed
+abbrev pub ends_by_accept_fault : Scene → Bool
+ends_by_accept_fault scene = is_fault (last_or None scene.acts)
+
+-- the statuses of a run
+abbrev pub IsStatus : ℕ → Type 0
+IsStatus status = (status ≡ 0) ⊎ (status ≡ 2) ⊎ (status ≡ 6) ⊎ (status ≡ 7) ⊎ (status ≡ 9) ⊎ (status ≡ 10)
+
+-- what comes only for its cause, and what comes exactly for it; rose says that a count rose in this call
+pub record StatusHasCause {P : Type 0} (words : List (List ℕ)) (status : ℕ) (setup : Settings) (journal : List Event) (posts : List P) (scene : P → Option Scene) (accept_faults : P → ℕ) (ListenRose LogRose : Type 0) : Type 0 where
+  pub listed : IsStatus status
+  pub no_command : words ≢ serve_words → status ≡ 2
+  pub command : status ≡ 2 → words ≢ serve_words
+  pub listen_fault : status ≡ 6 → ListenRose
+  pub lost : has_lost journal ≡ true → status ≡ 7
+  pub log_lost : status ≡ 7 → (has_lost journal ≡ true) × LogRose
+  pub accept_fault : status ≡ 10 → (worker : ℕ) × (post : P) × (slice_get posts worker ≡ Some post) × (0 < accept_faults post) × IfSome (scene post) (λ s. ends_by_accept_fault s ≡ true)
+  pub success : status ≡ 0 → (has_lost journal ≡ false) × EachScene scene posts (λ worker s. ends_by_accept_fault s ≡ false) × RunsToQuota setup scene journal posts
+  pub one_each : (status ≡ 0) ⊎ (status ≡ 7) ⊎ (status ≡ 10) → length posts ≡ setup.workers
+
+-- ---- completeness
+
+-- an end that a fault of the outside causes
+abbrev pub is_fault_end : Ask → Bool
+is_fault_end (End LinkFault) = true
+is_fault_end (End KeeperFault) = true
+is_fault_end (End LogLost) = true
+is_fault_end _ = false
+
+-- without a fault `serve` succeeds, unless memory is wanted: nothing is lost, and each session ends by what its child did
+pub record IsComplete (words : List (List ℕ)) (status : ℕ) (journal : List Event) (NoFault : Type 0) : Type 0 where
+  pub succeeds : words ≡ serve_words → NoFault → (status ≡ 0) ⊎ (status ≡ 9)
+  pub kept : NoFault → status ≡ 0 → has_lost journal ≡ false
+  pub ended : NoFault → status ≡ 0 → list_any (λ e. is_fault_end e.ask) journal ≡ false

@@ -1,0 +1,17 @@
+//! The monitor: what it promises of a whole run stands on its top call.
+#![tactic(auto)]
+
+mod asking;
+mod book;
+mod buffers;
+mod line;
+mod report;
+mod session;
+mod top;
+mod worker;
+
+pub use report::Report;
+pub use top::otplogd;
+
+#[cfg(test)]
+mod tests;

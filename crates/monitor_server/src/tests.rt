@@ -1,0 +1,300 @@
+ghost use Rattle.std.specs.Prelude.{◌<◌, ◌≤◌, All, IfOk, length};
+ghost use Rattle.outside.specs.MemPost.{accept_faults_of, conn_faults_of, keeper_faults_of, link_faults_of, scene_of};
+ghost use Rattle.outside.specs.Scene.{IsFresh};
+
+use super::{Report, otplogd};
+use outside::{
+    Accepted, Act, Bytes, CallKind, Fail, Failed, MemPost, MemSink, MemSite, Role, Script, Word,
+};
+use std::alloc::{AllocError, Global};
+use std::test::Fail as Fault;
+
+/// The child before the login of the first session.
+const PRE: Role = Role::Pre { session: 1 };
+
+/// WRITE of `hi` to the client's connection.
+const WRITE_HI: &[u8] = b"\x08\0\0\0\x1e\0\0\0\0\0\0\0\0\0\0\0\0\0\0\0\0\0\0\0\0\0\0\0hi";
+
+/// WRITE of `hi` and FINISH.
+const SMALLEST: &[u8] = b"\x08\0\0\0\x1e\0\0\0\0\0\0\0\0\0\0\0\0\0\0\0\0\0\0\0\0\0\0\0hi\
+    \x0d\0\0\0\x10\0\0\0\0\0\0\0\0\0\0\0";
+
+/// The reply to the WRITE, done.
+const WROTE: &[u8] = b"\x08\x01\0\0\x11\0\0\0\0\0\0\0\x01\0\0\0\0";
+
+/// The replies to both, done.
+const BOTH_DONE: &[u8] = b"\x08\x01\0\0\x11\0\0\0\0\0\0\0\x01\0\0\0\0\
+    \x0d\x01\0\0\x11\0\0\0\0\0\0\0\x01\0\0\0\0";
+
+const OPENED: &str = "1 w0 s1 open permit\n";
+
+const SMALLEST_LOG: &str = "1 w0 s1 open permit\n2 w0 s1 write 0 0 2 permit\n\
+    3 w0 s1 finish permit\n4 w0 s1 end finished permit\n";
+
+fn fail(call: CallKind, number: u32, sent: usize) -> Fail {
+    Fail { call, number, sent }
+}
+
+/// A post with one connection, whose child sends these bytes in pieces of these lengths.
+fn post(alloc: Global, pre: &[u8], cuts: &[usize], fails: &[Fail]) -> Result<MemPost, AllocError>
+    requires some_cut { 0 < length cuts.now }
+    requires each_cut { All (λ c. 1 ≤ c) cuts.now }
+    ensures { IfOk result (IsFresh scene_of accept_faults_of keeper_faults_of link_faults_of conn_faults_of) }
+{
+    let script = Script {
+        client: Bytes::of(alloc, b"")?,
+        pre: Bytes::of(alloc, pre)?,
+        user: Bytes::of(alloc, b"")?,
+    };
+    MemPost::new(alloc, vec![in alloc; script]?, cuts, 100, fails)
+}
+
+/// A run of `serve` with one such post.
+fn serve(
+    alloc: Global,
+    pre: &[u8],
+    cuts: &[usize],
+    fails: &[Fail],
+    log_fails: &[Fail],
+) -> Result<Report<MemPost, MemSink>, AllocError>
+    requires some_cut { 0 < length cuts.now }
+    requires each_cut { All (λ c. 1 ≤ c) cuts.now }
+{
+    let posts = vec![in alloc; post(alloc, pre, cuts, fails)?]?;
+    let mut site = MemSite::new(alloc, posts)?;
+    let words = [Word::of(alloc, "serve".as_bytes())?];
+    Ok(otplogd(alloc, &words, &mut site, MemSink::new(alloc, log_fails)?))
+}
+
+/// The text of the log, as bytes.
+fn log_of(report: &Report<MemPost, MemSink>) -> &[u8] {
+    report.log.held()
+}
+
+/// The bytes that the first child was sent, if one was given back.
+fn sent_to_child(report: &Report<MemPost, MemSink>) -> Option<&[u8]> {
+    report
+        .posts
+        .first()?
+        .talks()
+        .first()
+        .map(|talk| talk.sent.as_slice())
+}
+
+#[test]
+fn the_smallest_run_succeeds(rt: HostRuntime) -> Result<(), Fault> {
+    let alloc = rt.alloc();
+    let acts = vec![in alloc;
+        Act::Accept {
+            outcome: Accepted::Came
+        },
+        Act::Start {
+            role: PRE,
+            outcome: Ok(())
+        },
+        Act::ConnSend {
+            bytes: Bytes::of(alloc, b"hi")?,
+            outcome: Ok(())
+        },
+        Act::Finish { role: PRE },
+        Act::HangUp,
+    ]?;
+    for cuts in [[100, 100, 100], [1, 1, 1], [15, 2, 100]] {
+        let report = serve(alloc, SMALLEST, &cuts, &[], &[])?;
+        assert_eq!(rt; report.status, 0);
+        assert_eq!(rt; report.journal.len(), 4);
+        assert_eq!(rt; log_of(&report), SMALLEST_LOG.as_bytes());
+        assert_eq!(rt; sent_to_child(&report), Some(BOTH_DONE));
+        assert_eq!(rt; report.posts.len(), 1);
+        assert_eq!(rt; report.posts[0].acts(), acts.as_slice());
+    }
+    Ok(())
+}
+
+/// What one child sends, what it is sent, and the log behind the opening's line.
+struct Case {
+    pre: &'static [u8],
+    sent: &'static [u8],
+    log: &'static str,
+}
+
+const CASES: [Case; 11] = [
+    // FINISH with flags 1, 2 and 3.
+    Case {
+        pre: b"\x0d\0\0\0\x10\0\x01\0\0\0\0\0\0\0\0\0",
+        sent: b"\0\x01\0\0\x16\0\0\0\0\0\0\0\x01\0\0\0\x01\x02\x01\0\0\0",
+        log: "2 w0 s1 bad 2 1 deny 2 1\n3 w0 s1 end violation 2 permit\n",
+    },
+    Case {
+        pre: b"\x0d\0\0\0\x10\0\x02\0\0\0\0\0\0\0\0\0",
+        sent: b"\0\x01\0\0\x16\0\0\0\0\0\0\0\x01\0\0\0\x01\x03\x02\0\0\0",
+        log: "2 w0 s1 bad 3 2 deny 3 2\n3 w0 s1 end violation 3 permit\n",
+    },
+    Case {
+        pre: b"\x0d\0\0\0\x10\0\x03\0\0\0\0\0\0\0\0\0",
+        sent: b"\0\x01\0\0\x16\0\0\0\0\0\0\0\x01\0\0\0\x01\x02\x03\0\0\0",
+        log: "2 w0 s1 bad 2 3 deny 2 3\n3 w0 s1 end violation 2 permit\n",
+    },
+    // WRITE of `a` to handle 5.
+    Case {
+        pre: b"\x08\0\0\0\x1d\0\0\0\0\0\0\0\0\0\0\0\x05\0\0\0\0\0\0\0\0\0\0\0a",
+        sent: b"\x08\x01\0\0\x16\0\0\0\0\0\0\0\x01\0\0\0\x01\x11\x05\0\0\0",
+        log: "2 w0 s1 write 5 0 1 deny 17 5\n3 w0 s1 end child-ended permit\n",
+    },
+    // BANNER, which the narrow table doesn't permit.
+    Case {
+        pre: b"\x01\0\0\0\x10\0\0\0\0\0\0\0\0\0\0\0",
+        sent: b"\x01\x01\0\0\x16\0\0\0\0\0\0\0\x01\0\0\0\x01\x06\x01\0\0\0",
+        log: "2 w0 s1 banner deny 6 1\n3 w0 s1 end violation 6 permit\n",
+    },
+    // An unknown kind, 14.
+    Case {
+        pre: b"\x0e\0\0\0\x10\0\0\0\0\0\0\0\0\0\0\0",
+        sent: b"\0\x01\0\0\x16\0\0\0\0\0\0\0\x01\0\0\0\x01\x04\x0e\0\0\0",
+        log: "2 w0 s1 bad 4 14 deny 4 14\n3 w0 s1 end violation 4 permit\n",
+    },
+    // Nothing, a part of a header, and one whole WRITE.
+    Case {
+        pre: b"",
+        sent: b"",
+        log: "2 w0 s1 end child-ended permit\n",
+    },
+    Case {
+        pre: b"\x08\0\0\0\x1e\0\0",
+        sent: b"",
+        log: "2 w0 s1 end truncated permit\n",
+    },
+    Case {
+        pre: WRITE_HI,
+        sent: WROTE,
+        log: "2 w0 s1 write 0 0 2 permit\n3 w0 s1 end child-ended permit\n",
+    },
+    // Headers whose length is 15 and 16,385.
+    Case {
+        pre: b"\x08\0\0\0\x0f\0\0\0\0\0\0\0\0\0\0\0",
+        sent: b"",
+        log: "2 w0 s1 end bad-frame 15 permit\n",
+    },
+    Case {
+        pre: b"\x08\0\0\0\x01\x40\0\0\0\0\0\0\0\0\0\0",
+        sent: b"",
+        log: "2 w0 s1 end bad-frame 16385 permit\n",
+    },
+];
+
+#[test]
+fn each_kind_of_bytes_has_its_answer_and_its_lines(rt: HostRuntime) -> Result<(), Fault> {
+    for case in &CASES {
+        let report = serve(rt.alloc(), case.pre, &[100], &[], &[])?;
+        assert_eq!(rt; report.status, 0);
+        assert_eq!(rt; sent_to_child(&report), Some(case.sent));
+        let opening = log_of(&report).strip_prefix(OPENED.as_bytes());
+        assert_eq!(rt; opening, Some(case.log.as_bytes()), "{}", case.log);
+    }
+    Ok(())
+}
+
+/// A call that fails once, and how the run ends then.
+struct Failing {
+    fail: Fail,
+    status: u8,
+    sent: Option<&'static [u8]>,
+    log: &'static str,
+}
+
+const FAULTS: [Failing; 6] = [
+    Failing {
+        fail: Fail {
+            call: CallKind::Accept,
+            number: 1,
+            sent: 0,
+        },
+        status: 10,
+        sent: None,
+        log: "",
+    },
+    Failing {
+        fail: Fail {
+            call: CallKind::Start,
+            number: 1,
+            sent: 0,
+        },
+        status: 0,
+        sent: None,
+        log: "1 w0 s1 open permit\n2 w0 s1 end keeper-fault permit\n",
+    },
+    Failing {
+        fail: Fail {
+            call: CallKind::Recv,
+            number: 1,
+            sent: 0,
+        },
+        status: 0,
+        sent: Some(b""),
+        log: "1 w0 s1 open permit\n2 w0 s1 end link-fault permit\n",
+    },
+    // Three bytes of the first reply go out.
+    Failing {
+        fail: Fail {
+            call: CallKind::Send,
+            number: 1,
+            sent: 3,
+        },
+        status: 0,
+        sent: Some(b"\x08\x01\0"),
+        log: "1 w0 s1 open permit\n2 w0 s1 write 0 0 2 permit\n3 w0 s1 end link-fault permit\n",
+    },
+    // The connection fails: the WRITE is answered by device 1.
+    Failing {
+        fail: Fail {
+            call: CallKind::ConnSend,
+            number: 1,
+            sent: 0,
+        },
+        status: 0,
+        sent: Some(
+            b"\x08\x01\0\0\x12\0\0\0\0\0\0\0\x01\0\0\0\x02\x01\
+            \x0d\x01\0\0\x11\0\0\0\0\0\0\0\x01\0\0\0\0",
+        ),
+        log: SMALLEST_LOG,
+    },
+    // The third line is cut after five bytes: FINISH is not answered.
+    Failing {
+        fail: Fail {
+            call: CallKind::Append,
+            number: 3,
+            sent: 5,
+        },
+        status: 7,
+        sent: Some(WROTE),
+        log: "1 w0 s1 open permit\n2 w0 s1 write 0 0 2 permit\n3 w0 ",
+    },
+];
+
+#[test]
+fn each_call_fails_once(rt: HostRuntime) -> Result<(), Fault> {
+    for case in &FAULTS {
+        let fails = [case.fail];
+        let report = serve(rt.alloc(), SMALLEST, &[100], &fails, &fails)?;
+        assert_eq!(rt; report.status, case.status);
+        assert_eq!(rt; sent_to_child(&report), case.sent);
+        assert_eq!(rt; log_of(&report), case.log.as_bytes(), "{}", case.log);
+    }
+    Ok(())
+}
+
+#[test]
+fn no_command_and_no_place_use_nothing(rt: HostRuntime) -> Result<(), Fault> {
+    let alloc = rt.alloc();
+    for (text, status) in [("serve", 6), ("fly", 2), ("", 2)] {
+        let mut site: MemSite<MemPost> = MemSite::new(alloc, Vec::new(alloc))?;
+        let words = [Word::of(alloc, text.as_bytes())?];
+        let report = otplogd(alloc, &words, &mut site, MemSink::new(alloc, &[])?);
+        assert_eq!(rt; report.status, status);
+        assert_eq!(rt; report.posts.len(), 0);
+    }
+    let mut site: MemSite<MemPost> = MemSite::new(alloc, Vec::new(alloc))?;
+    let report = otplogd(alloc, &[], &mut site, MemSink::new(alloc, &[])?);
+    assert_eq!(rt; report.status, 2);
+    Ok(())
+}
