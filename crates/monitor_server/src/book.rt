@@ -28,6 +28,7 @@ impl<K: Sink> Book<K> {
         ensures capacity { vec_capacity self.new.journal ≡ vec_capacity self.old.journal }
         ensures logged { Logged setup.now self.old.journal.items self.new.journal.items (K.held self.old.log) (K.held self.new.log) (K.faults self.old.log) (K.faults self.new.log) }
     {
+        // For its contract: the ranges of the setup's numbers bound the journal.
         let _workers = setup.workers();
         let decision = self.decide(setup, worker, ask);
         let event = event_after(&self.journal, worker, ask, &decision);

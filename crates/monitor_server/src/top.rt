@@ -106,12 +106,11 @@ fn serve<P: Post, K: Sink>(prepared: Prepared, mut posts: Vec<P>, log: K) -> Rep
 {
     let Prepared {
         setup,
-        place: _place,
+        place: _,
         mut reader,
         mut buffers,
         journal,
     } = prepared;
-    let _workers = setup.workers();
     let mut book = Book { journal, log };
     let mut accept_failed = false;
     let mut worker = 0;
