@@ -1,0 +1,34 @@
+use super::*;
+use std::test::*;
+
+const PHRASE: &[u8] = b"This is a test.";
+
+#[test]
+fn passwords_of_the_standard(rt: HostRuntime) -> Result<(), Fail> {
+    let seed = Seed::of(b"TeSt").ok_or("a seed")?;
+    let rows = [
+        (Algo::Md5, 0, 0x9E87_6134_D904_99DD),
+        (Algo::Md5, 1, 0x7965_E054_36F5_029F),
+        (Algo::Md5, 99, 0x50FE_1962_C496_5880),
+        (Algo::Sha1, 0, 0xBB9E_6AE1_979D_8FF4),
+        (Algo::Sha1, 1, 0x63D9_3663_9734_385B),
+    ];
+    for (algo, n, password) in rows {
+        assert_eq!(rt; at(algo, &seed, PHRASE, n), password);
+    }
+    assert_eq!(rt; first(Algo::Md5, &seed, PHRASE), rows[0].2);
+    assert_eq!(rt; step(Algo::Md5, rows[0].2), rows[1].2);
+    Ok(())
+}
+
+#[test]
+fn seeds(rt: HostRuntime) -> Result<(), Fail> {
+    let seed = Seed::of(b"0aZ9").ok_or("a seed")?;
+    assert_eq!(rt; seed.as_slice(), b"0az9".as_slice());
+    assert_eq!(rt; Some(seed), Seed::of(b"0az9"));
+    assert!(rt; Seed::of(b"abcdefghijklmnop").is_some());
+    for text in [b"".as_slice(), b"a b", b"a-b", b"abcdefghijklmnopq"] {
+        assert!(rt; Seed::of(text).is_none());
+    }
+    Ok(())
+}
