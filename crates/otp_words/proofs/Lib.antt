@@ -1,0 +1,10 @@
+pub mod ChallengeLemmas
+pub mod DictionaryLemmas
+pub mod DigitLemmas
+pub mod HexLemmas
+pub mod HexText
+pub mod ListLemmas
+pub mod NumberLemmas
+pub mod PlainLemmas
+pub mod WordLemmas
+pub mod WordText

@@ -1,0 +1,10 @@
+-- The passwords that a text spells.
+use Rattle.std.specs.Prelude.{◌≡◌, ℕ, ◌^◌, ◌<◌, List, Option, Some, IfSome}
+use Rattle.otp_words.specs.Hex.{hex_reading}
+use Rattle.otp_words.specs.Words.{IsSixWords}
+
+-- what is read in words is spelled so, and what is spelled so is read; and the hexadecimal reading
+pub record AreCandidatesOf (dictionary : List (List ℕ)) (text : List ℕ) (words hex : Option ℕ) : Type 0 where
+  pub found : IfSome words (IsSixWords dictionary text)
+  pub only : (password : ℕ) → password < 2 ^ 64 → IsSixWords dictionary text password → words ≡ Some password
+  pub hexadecimal : hex ≡ hex_reading text

@@ -1,0 +1,23 @@
+//! The spellings of one-time passwords (RFC 2289): six words of a dictionary, or hexadecimal
+//! digits, and the text of a challenge.
+#![tactic(auto)]
+
+mod challenge;
+mod dictionary;
+mod digits;
+mod fault;
+mod hex;
+mod reading;
+mod spellings;
+mod words;
+
+pub use challenge::challenge_text;
+pub use dictionary::Dictionary;
+pub use fault::{DictError, DictFault, DictRule};
+pub use hex::to_hex;
+pub use reading::candidates;
+pub use spellings::Candidates;
+pub use words::to_words;
+
+#[cfg(test)]
+mod tests;
