@@ -1,0 +1,21 @@
+ghost use Rattle.std.specs.Prelude.{◌≡◌, IfOk, IsErr, Ok, OnErr};
+ghost use Rattle.outside_real.specs.Counts.{Counts};
+
+use outside::Failed;
+use std::io;
+
+/// The outcome of a call of the system, whose error raises the count of such faults. The count
+/// stands still at 2^64 - 1.
+pub fn counted<T>(count: &mut u64, outcome: io::Result<T>) -> Result<T, Failed>
+    ensures ok { IfOk result (λ value. outcome ≡ Ok value) }
+    ensures err { OnErr result (IsErr outcome) }
+    ensures count { Counts result count.old count.new }
+{
+    match outcome {
+        Ok(value) => Ok(value),
+        Err(_) => {
+            *count = count.saturating_add(1);
+            Err(Failed)
+        }
+    }
+}

@@ -1,0 +1,42 @@
+ghost use Rattle.std.specs.Prelude.{◌≡◌, None, OnOk};
+ghost use Rattle.std.specs.Io.KnownBytes.{Appends};
+ghost use Rattle.outside_real.specs.Counts.{Counts};
+
+use crate::counted::counted;
+use outside::{Failed, Sink};
+use std::io::Write;
+
+/// A log to a writer, as to standard error.
+#[derive(Drop)]
+pub struct RealSink<W> {
+    writer: W,
+    faults: u64,
+}
+
+impl<W> RealSink<W> {
+    ghost use Rattle.outside_real.specs.RealSink.{faults_of};
+
+    /// A log to this writer, without a fault.
+    pub fn new(writer: W) -> RealSink<W>
+        ensures faultless { faults_of result ≡ 0 }
+    {
+        RealSink { writer, faults: 0 }
+    }
+}
+
+impl<W: Write + Drop + Send> Sink for RealSink<W> {
+    ghost use Rattle.outside_real.specs.RealSink.{faults_of, writer_of};
+
+    ghost held = { λ _. None };
+
+    ghost faults = { faults_of };
+
+    /// Writes all bytes. It fails exactly where the writer does.
+    fn append(&mut self, bytes: &[u8]) -> Result<(), Failed>
+        ensures written { OnOk result (Appends (W.contents (writer_of self.old))
+            (W.contents (writer_of self.new)) bytes.now) }
+        ensures count { Counts result (faults_of self.old) (faults_of self.new) }
+    {
+        counted(&mut self.faults, self.writer.write_all(bytes))
+    }
+}
