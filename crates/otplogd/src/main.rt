@@ -1,0 +1,41 @@
+//! The program: it serves with the real outside by the words of its command line, and logs to
+//! standard error.
+#![tactic(auto)]
+
+use monitor_server::otplogd;
+use outside::Word;
+use outside_real::{RealSink, RealSite};
+use std::alloc::{AllocError, Global};
+use std::env;
+use std::env::Args;
+use std::process::ExitCode;
+use std::rt::Env;
+
+/// The words are no command.
+const NO_COMMAND: u8 = 2;
+
+/// Memory was wanted before the run began.
+const NO_MEMORY: u8 = 9;
+
+/// The words of the command line, without the program's name.
+fn words_of(alloc: Global, args: Args) -> Result<Vec<Word>, AllocError> {
+    let mut words = Vec::new(alloc);
+    for arg in args.skip(1) {
+        words.push(Word::of(alloc, arg.as_str().as_bytes())?)?;
+    }
+    Ok(words)
+}
+
+fn main(rt: HostRuntime) -> ExitCode {
+    let alloc = rt.alloc();
+    let Ok(args) = env::args(&rt) else {
+        return ExitCode::from(NO_COMMAND);
+    };
+    let Ok(words) = words_of(alloc, args) else {
+        return ExitCode::from(NO_MEMORY);
+    };
+    let log = RealSink::new(rt.stderr());
+    let mut site = RealSite::new(rt, alloc);
+    let report = otplogd(alloc, words.as_slice(), &mut site, log);
+    ExitCode::from(report.status)
+}
