@@ -1,52 +1,57 @@
--- The hexadecimal reading, byte by byte.
-use Rattle.std.proofs.Common.{◌≡◌, ℕ, suc, ◌+◌, ◌*◌, ◌^◌, ◌<◌, Bool, true, false, List, ◌∷◌, map, length, refl, sym, arith, ◌&&◌, Option, None, Some, zero-add, get_or, drop, add-one, drop-cons}
-use Rattle.std.specs.Prelude.{fold, filter, ◌==◌}
+-- Hexadecimal digits with blanks between them.
+use Rattle.std.proofs.Common.{◌≡◌, ℕ, ◌/◌, ◌%◌, Bool, true, false, List, [], ◌∷◌, map, length, refl, sym, ap, ◌∙◌, Option, None, Some, Result, Ok, Err}
+use Rattle.std.specs.Prelude.{filter}
 use Rattle.std.specs.Bool.{then_some}
-use Rattle.std.specs.Char.{is_ascii_hexdigit}
-use Rattle.std.specs.List.{list_all, range_with_len}
-use Rattle.std.proofs.lemmas.Bool.Decides.{nat_tests}
-use Rattle.otp_words.specs.Hex.{is_blank, is_no_blank, hex_digit_value, hex_reading, hex_text, hex_byte_at}
-
--- the reading of what is left, behind so many digits of such a number
-abbrev pub rest_reading : ℕ → ℕ → List ℕ → Option ℕ
-rest_reading count number rest =
-    let digits = filter is_no_blank rest in
-    then_some (count + length digits == 16 && list_all is_ascii_hexdigit digits) (fold (λ n d. n * 2 ^ 4 + d) number (map hex_digit_value digits))
-
--- a blank changes nothing
-pub rest_reading-blank : (count number c : ℕ) (cs : List ℕ) → is_blank c ≡ true → rest_reading count number (c ∷ cs) ≡ rest_reading count number cs
-rest_reading-blank count number c cs e = rw e refl
-
--- a digit behind 16 is one too many
-pub rest_reading-full : (number c : ℕ) (cs : List ℕ) → is_blank c ≡ false → rest_reading 16 number (c ∷ cs) ≡ None
-rest_reading-full number c cs e = rw e (grind (arith, nat_tests))
-
--- what is no digit is not read
-pub rest_reading-other : (count number c : ℕ) (cs : List ℕ) → is_blank c ≡ false → is_ascii_hexdigit c ≡ false → rest_reading count number (c ∷ cs) ≡ None
-rest_reading-other count number c cs e f = rw (e, f) (grind arith)
-
--- a digit is taken into the number
-pub rest_reading-digit : (count number c : ℕ) (cs : List ℕ) → is_blank c ≡ false → is_ascii_hexdigit c ≡ true → rest_reading count number (c ∷ cs) ≡ rest_reading (count + 1) (number * 16 + hex_digit_value c) cs
-rest_reading-digit count number c cs e f =
-    let more : count + suc (length (filter is_no_blank cs)) ≡ count + 1 + length (filter is_no_blank cs) = omega arith in
-    rw (e, f, more) refl
-
--- before the first byte nothing is read
-pub rest_reading-none : (text : List ℕ) → rest_reading 0 0 text ≡ hex_reading text
-unfolding hex_reading
-rest_reading-none text = rw (zero-add (length (filter is_no_blank text))) refl
+use Rattle.std.specs.Char.{to_ascii_uppercase}
+use Rattle.std.specs.Int.{w64, from_be_bytes}
+use Rattle.std.specs.List.{range_with_len}
+use Rattle.std.specs.Option.{option_map}
+use Rattle.std.specs.Result.{result_ok, IsOk, OnOk}
+use Rattle.std.proofs.lemmas.Bool.{false≢true}
+use Rattle.std.proofs.Math.ListN.{get_or-map}
+use Rattle.hex.specs.Hex.{encode_with, encode_lower, encode_upper, lower_digits, decode_sized}
+use Rattle.hex.specs.declared.error.FromHexError.{FromHexError}
+use Rattle.hex.proofs.HexLemmas.{decode_sized-ok}
+use Rattle.otp_words.specs.Blanks.{is_no_blank}
+use Rattle.otp_words.specs.Hex.{hex_digits, hex_text, hex_reading, grouped}
 
 -- what a test lets through
 pub then_some-parts : {A : Type 0} (test : Bool) (x v : A) → then_some test x ≡ Some v → (test ≡ true) × (x ≡ v)
 then_some-parts true x v e = (refl, cc)
 then_some-parts false x v e = absurd (cc)
 
--- the digit at a place is taken into the number
-pub rest_reading-more : (count number v i : ℕ) (text : List ℕ) → i < length text → is_blank (get_or text i 0) ≡ false → is_ascii_hexdigit (get_or text i 0) ≡ true → v ≡ hex_digit_value (get_or text i 0) → rest_reading (count + 1) (number * 16 + v) (drop (i + 1) text) ≡ rest_reading count number (drop i text)
-rest_reading-more count number v i text lt e f is =
-    rw (is, add-one i, drop-cons text i 0) (sym (rest_reading-digit count number (get_or text i 0) (drop (suc i) text) e f))
-
 -- the text, place by place
-pub hex_text-places : (password : ℕ) → map (hex_byte_at password) (range_with_len 0 19) ≡ hex_text password
-unfolding hex_text
-hex_text-places password = refl
+pub hex_text-places : (password : ℕ) (digits : List ℕ) → digits ≡ hex_digits password → map (grouped digits) (range_with_len 0 19) ≡ hex_text password
+unfolding hex_text encode_with
+hex_text-places password digits e = ap (λ (d : List ℕ). map (grouped d) (range_with_len 0 19)) e
+
+-- digits by a table in upper case
+map-upper : (t xs : List ℕ) → map to_ascii_uppercase (encode_with t xs) ≡ encode_with (map to_ascii_uppercase t) xs
+unfolding encode_with
+map-upper t [] = refl
+map-upper t (b ∷ rest) = rw (get_or-map to_ascii_uppercase t (b / 16) 0, get_or-map to_ascii_uppercase t (b % 16) 0, map-upper t rest) refl
+
+-- lower-case digits in upper case
+pub encode_lower-upper : (xs : List ℕ) → map to_ascii_uppercase (encode_lower xs) ≡ encode_upper xs
+encode_lower-upper xs = map-upper lower_digits xs
+
+-- what isn't 16 digits is not decoded
+no_bytes : (text : List ℕ) (r : Result (List ℕ) FromHexError) → r ≡ decode_sized text 8 → (length text ≡ 16 → ⊥) → result_ok r ≡ None
+no_bytes text (Ok bytes) e other = absurd (other (decode_sized-ok text 8 bytes (sym e)))
+no_bytes text (Err fault) e other = refl
+
+-- a text of which other than 16 bytes remain is not read
+pub other_reading : (text : List ℕ) → (length (filter is_no_blank text) ≡ 16 → ⊥) → hex_reading text ≡ None
+unfolding hex_reading
+other_reading text other = ap (option_map (from_be_bytes w64)) (no_bytes (filter is_no_blank text) (decode_sized (filter is_no_blank text) 8) refl other)
+
+-- a text is read by what its digits decode to
+pub reading_of : (text digits : List ℕ) (r : Result (List ℕ) FromHexError) (bytes : Option (List ℕ)) → digits ≡ filter is_no_blank text → r ≡ decode_sized digits 8 → bytes ≡ result_ok r → hex_reading text ≡ option_map (from_be_bytes w64) bytes
+unfolding hex_reading
+reading_of text digits r bytes kept decoded ok =
+    sym (ap (option_map (from_be_bytes w64)) (ok ∙ ap result_ok decoded ∙ ap (λ (d : List ℕ). result_ok (decode_sized d 8)) kept))
+
+-- what holds where there is a value, where there is one
+pub on_ok : {T E : Type 0} (r : Result T E) (P : Type 0) → IsOk r → OnOk r P → P
+on_ok (Ok v) P ok p = p
+on_ok (Err e) P ok p = absurd (false≢true ok)

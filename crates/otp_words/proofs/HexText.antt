@@ -1,91 +1,98 @@
 -- What is written in hexadecimal is read.
-use Rattle.std.proofs.Common.{◌≡◌, ℕ, zero, suc, ◌-◌, ◌*◌, ◌/◌, ◌%◌, ◌^◌, ◌<◌, true, false, List, [], ◌∷◌, ◌++◌, map, length, refl, ap, ◌∙◌, arith, Some, filter}
-use Rattle.std.specs.Char.{is_ascii_hexdigit}
+use Rattle.std.proofs.Common.{◌≡◌, ℕ, zero, suc, ◌/◌, ◌%◌, ◌^◌, ◌<◌, Bool, true, List, [], ◌∷◌, ◌++◌, length, take, drop, refl, ap, ◌∙◌, arith, Some, Ok, Result, filter}
+use Rattle.hex.specs.declared.error.FromHexError.{FromHexError}
+use Rattle.std.specs.Prelude.{slice_index}
+use Rattle.std.specs.Int.{w64, from_be_bytes, to_be_bytes, byte_at, bytes_high_first}
 use Rattle.std.specs.List.{list_all}
-use Rattle.std.proofs.lemmas.Bool.Decides.{nat_tests}
+use Rattle.std.specs.Option.{option_map}
+use Rattle.std.specs.Result.{result_ok}
+use Rattle.std.proofs.lemmas.Bool.{and_parts, and_from}
 use Rattle.std.proofs.lemmas.List.Elements.{filter-append}
-use Rattle.std.proofs.lemmas.Nat.{mod_below}
-use Rattle.otp_words.specs.Digits.{digits_of, number_of}
-use Rattle.otp_words.specs.Hex.{is_blank, is_no_blank, hex_digit_value, upper_hex_digit, hex_reading, hex_text}
-use Rattle.otp_words.proofs.DigitLemmas.{number_of-digits_of}
+use Rattle.std.proofs.lemmas.Nat.{from_be_bytes-to_be_bytes_8, mod_below}
+use Rattle.hex.specs.Hex.{encode_with, upper_digits, decode_sized, IsBytes}
+use Rattle.hex.proofs.HexLemmas.{decode_sized-twice, decode_of-encode_upper}
+use Rattle.otp_words.specs.Blanks.{is_no_blank}
+use Rattle.otp_words.specs.Hex.{hex_digits, hex_reading, hex_text}
 
--- a digit is no blank
-is_blank-upper : (d : ℕ) → d < 16 → is_blank (upper_hex_digit d) ≡ false
-is_blank-upper d small = grind (arith, nat_tests)
+-- what passes stays
+filter-all : (p : ℕ → Bool) (xs : List ℕ) → list_all p xs ≡ true → filter p xs ≡ xs
+filter-all p [] e = refl
+filter-all p (x ∷ xs) e =
+    let parts = and_parts (p x) (list_all p xs) e in
+    rw (parts.0, filter-all p xs parts.1) refl
 
--- a digit is a hexadecimal digit
-is_ascii_hexdigit-upper : (d : ℕ) → d < 16 → is_ascii_hexdigit (upper_hex_digit d) ≡ true
-is_ascii_hexdigit-upper d small = grind (arith, nat_tests)
+-- a front of what passes does
+list_all-take : (p : ℕ → Bool) (n : ℕ) (xs : List ℕ) → list_all p xs ≡ true → list_all p (take n xs) ≡ true
+list_all-take p zero xs e = refl
+list_all-take p (suc n) [] e = refl
+list_all-take p (suc n) (x ∷ xs) e =
+    let parts = and_parts (p x) (list_all p xs) e in
+    and_from _ _ parts.0 (list_all-take p n xs parts.1)
 
--- a digit has the value that it was written for
-hex_digit_value-upper : (d : ℕ) → d < 16 → hex_digit_value (upper_hex_digit d) ≡ d
-hex_digit_value-upper d small = grind (arith, nat_tests)
+-- what follows a front of what passes does
+list_all-drop : (p : ℕ → Bool) (n : ℕ) (xs : List ℕ) → list_all p xs ≡ true → list_all p (drop n xs) ≡ true
+list_all-drop p zero xs e = e
+list_all-drop p (suc n) [] e = refl
+list_all-drop p (suc n) (x ∷ xs) e = list_all-drop p n xs ((and_parts (p x) (list_all p xs) e).1)
 
--- the digit at a place
-abbrev digit_at : ℕ → ℕ → ℕ
-digit_at p place = upper_hex_digit (p / 2 ^ (4 * place) % 2 ^ 4)
+-- an element of what passes does, and 0 past the end
+at_all : (p : ℕ → Bool) (xs : List ℕ) (i : ℕ) → p 0 ≡ true → list_all p xs ≡ true → p (slice_index xs i) ≡ true
+at_all p [] i none e = none
+at_all p (x ∷ xs) zero none e = (and_parts (p x) (list_all p xs) e).0
+at_all p (x ∷ xs) (suc i) none e = at_all p xs i none ((and_parts (p x) (list_all p xs) e).1)
 
--- four digits of a password, the first at a place
-unfoldable group : ℕ → ℕ → List ℕ
-group p place = digit_at p place ∷ digit_at p (place - 1) ∷ digit_at p (place - 2) ∷ digit_at p (place - 3) ∷ []
-
--- a digit stays where blanks are dropped
-filter-digit : (p place : ℕ) (rest : List ℕ) → filter is_no_blank rest ≡ rest → filter is_no_blank (digit_at p place ∷ rest) ≡ digit_at p place ∷ rest
-filter-digit p place rest e = rw (is_blank-upper (p / 2 ^ (4 * place) % 2 ^ 4) (mod_below (p / 2 ^ (4 * place)) 16 (omega arith)), e) refl
-
--- no digit of a group is dropped as a blank
-filter-group : (p place : ℕ) → filter is_no_blank (group p place) ≡ group p place
-unfolding group
-filter-group p place =
-    let last : List ℕ = digit_at p (place - 3) ∷ [] in
-    let third : List ℕ = digit_at p (place - 2) ∷ last in
-    let second : List ℕ = digit_at p (place - 1) ∷ third in
-    filter-digit p place second (filter-digit p (place - 1) third (filter-digit p (place - 2) last (filter-digit p (place - 3) [] refl)))
+-- no digit is a blank
+no_blanks : (xs : List ℕ) → list_all is_no_blank (encode_with upper_digits xs) ≡ true
+unfolding encode_with
+no_blanks [] = refl
+no_blanks (b ∷ rest) =
+    and_from _ _ (at_all is_no_blank upper_digits (b / 16) refl refl) (and_from _ _ (at_all is_no_blank upper_digits (b % 16) refl refl) (no_blanks rest))
 
 -- the blanks between lists without blanks are dropped
 filter-spaced : (a b c d : List ℕ) → filter is_no_blank a ≡ a → filter is_no_blank b ≡ b → filter is_no_blank c ≡ c → filter is_no_blank d ≡ d → filter is_no_blank (a ++ 32 ∷ b ++ 32 ∷ c ++ 32 ∷ d) ≡ a ++ b ++ c ++ d
 filter-spaced a b c d ea eb ec ed = simp (filter-append, ea, eb, ec, ed) refl
 
--- the text in groups
-hex_text-groups : (p : ℕ) → hex_text p ≡ group p 15 ++ 32 ∷ group p 11 ++ 32 ∷ group p 7 ++ 32 ∷ group p 3
-unfolding hex_text group
-hex_text-groups p = refl
+-- the groups of a password's digits are its digits
+groups_joined : (p : ℕ) → take 4 (hex_digits p) ++ take 4 (drop 4 (hex_digits p)) ++ take 4 (drop 8 (hex_digits p)) ++ drop 12 (hex_digits p) ≡ hex_digits p
+unfolding encode_with
+groups_joined p = refl
 
--- the digits in groups
-digits-groups : (p : ℕ) → group p 15 ++ group p 11 ++ group p 7 ++ group p 3 ≡ map upper_hex_digit (digits_of 4 16 p)
-unfolding group
-digits-groups p = refl
-
--- the blanks between the groups are dropped
-filter-hex_text : (p : ℕ) → filter is_no_blank (hex_text p) ≡ map upper_hex_digit (digits_of 4 16 p)
+-- the digits are what is left without blanks
+filter-hex_text : (p : ℕ) → filter is_no_blank (hex_text p) ≡ hex_digits p
+unfolding hex_text
 filter-hex_text p =
-    ap (λ (t : List ℕ). filter is_no_blank t) (hex_text-groups p)
-    ∙ filter-spaced (group p 15) (group p 11) (group p 7) (group p 3) (filter-group p 15) (filter-group p 11) (filter-group p 7) (filter-group p 3)
-    ∙ digits-groups p
+    let digits : List ℕ = hex_digits p in
+    let all : list_all is_no_blank digits ≡ true = no_blanks (to_be_bytes w64 p) in
+    let kept = λ (n m : ℕ). filter-all is_no_blank (take n (drop m digits)) (list_all-take is_no_blank n (drop m digits) (list_all-drop is_no_blank m digits all)) in
+    filter-spaced (take 4 digits) (take 4 (drop 4 digits)) (take 4 (drop 8 digits)) (drop 12 digits) (kept 4 0) (kept 4 4) (kept 4 8) (filter-all is_no_blank (drop 12 digits) (list_all-drop is_no_blank 12 digits all))
+    ∙ groups_joined p
 
--- all of the digits are hexadecimal digits
-list_all-upper : (count n : ℕ) → list_all is_ascii_hexdigit (map upper_hex_digit (digits_of 4 count n)) ≡ true
-list_all-upper zero n = refl
-list_all-upper (suc count) n = rw (is_ascii_hexdigit-upper (n / 2 ^ (4 * count) % 2 ^ 4) (mod_below (n / 2 ^ (4 * count)) 16 (omega arith))) (list_all-upper count n)
+-- a password has 16 digits
+length-hex_digits : (p : ℕ) → length (hex_digits p) ≡ 16
+unfolding encode_with
+length-hex_digits p = refl
 
--- the values of the digits
-map-upper : (count n : ℕ) → map hex_digit_value (map upper_hex_digit (digits_of 4 count n)) ≡ digits_of 4 count n
-map-upper zero n = refl
-map-upper (suc count) n =
-    let head = hex_digit_value-upper (n / 2 ^ (4 * count) % 2 ^ 4) (mod_below (n / 2 ^ (4 * count)) 16 (omega arith)) in
-    rw (head, map-upper count n) refl
+-- a byte of a number is one
+byte_below : (k n : ℕ) → byte_at k n < 256
+byte_below zero n = mod_below n 256 (omega arith)
+byte_below (suc k) n = mod_below (n / 256 ^ suc k) 256 (omega arith)
 
--- a text is read whose digits have a number
-reading_of_digits : (text digits values : List ℕ) (p : ℕ) → filter is_no_blank text ≡ digits → length digits ≡ 16 → list_all is_ascii_hexdigit digits ≡ true → map hex_digit_value digits ≡ values → number_of 4 values ≡ p → hex_reading text ≡ Some p
-unfolding hex_reading
-reading_of_digits text digits values p kept long legal valued same = rw (kept, long, legal, valued, same) refl
+-- the bytes of a number are bytes
+bytes_below : (k n : ℕ) → IsBytes (bytes_high_first k n)
+bytes_below zero n i = omega arith
+bytes_below (suc k) n zero = byte_below k n
+bytes_below (suc k) n (suc i) = bytes_below k n i
 
 -- what is written in hexadecimal is read
 pub hex_reading-hex_text : (password : ℕ) → password < 2 ^ 64 → hex_reading (hex_text password) ≡ Some password
+unfolding hex_reading
 hex_reading-hex_text p small =
-    reading_of_digits (hex_text p) (map upper_hex_digit (digits_of 4 16 p)) (digits_of 4 16 p) p (filter-hex_text p) refl (list_all-upper 16 p) (map-upper 16 p) (number_of-digits_of 4 16 p small)
+    let read : decode_sized (hex_digits p) 8 ≡ Ok (to_be_bytes w64 p) = decode_sized-twice (hex_digits p) 8 (length-hex_digits p) ∙ decode_of-encode_upper (to_be_bytes w64 p) (bytes_below 8 p) in
+    ap (λ (t : List ℕ). option_map (from_be_bytes w64) (result_ok (decode_sized t 8))) (filter-hex_text p)
+    ∙ ap (λ (r : Result (List ℕ) FromHexError). option_map (from_be_bytes w64) (result_ok r)) read
+    ∙ ap (λ (n : ℕ). Some n) (from_be_bytes-to_be_bytes_8 p small)
 
 -- the text has 19 bytes
 pub length-hex_text : (password : ℕ) → length (hex_text password) ≡ 19
-unfolding hex_text
+unfolding hex_text encode_with
 length-hex_text p = refl

@@ -3,8 +3,12 @@ pub mod DictionaryLemmas
 pub mod DigitLemmas
 pub mod HexLemmas
 pub mod HexText
+pub mod JudgedLemmas
 pub mod ListLemmas
 pub mod NumberLemmas
 pub mod PlainLemmas
+pub mod ReadingLemmas
+pub mod RunLemmas
 pub mod WordLemmas
 pub mod WordText
+pub mod WrittenLemmas

@@ -7,7 +7,7 @@ use Rattle.std.specs.List.{list_all}
 use Rattle.std.proofs.lemmas.Bool.Decides.{nat_tests}
 use Rattle.std.proofs.lemmas.Nat.{mod_below}
 use Rattle.std.proofs.lemmas.List.{append-nil}
-use Rattle.otp_words.specs.Hex.{is_blank}
+use Rattle.otp_words.specs.Blanks.{is_blank}
 use Rattle.otp_words.specs.Dictionaries.{upper, IsDictionary}
 use Rattle.otp_words.specs.Digits.{digits_of}
 use Rattle.otp_words.specs.Words.{IsWords, check_bits, checked}
@@ -19,11 +19,11 @@ suc_is_not_zero : (n : ℕ) → (suc n == 0) ≡ false
 suc_is_not_zero n = grind (arith, nat_tests)
 
 -- what is empty has nothing
-no_length : (n : ℕ) → 1 ≤ n → true ≡ (n == 0) → ⊥
+pub no_length : (n : ℕ) → 1 ≤ n → true ≡ (n == 0) → ⊥
 no_length n some e = grind (arith, nat_tests)
 
 -- what isn't empty has something
-some_length : (n : ℕ) → false ≡ (n == 0) → 1 ≤ n
+pub some_length : (n : ℕ) → false ≡ (n == 0) → 1 ≤ n
 some_length n e = grind (arith, nat_tests)
 
 -- the number of some words behind the words that another stands for

@@ -1,35 +1,17 @@
 -- Words parted by blanks, one behind the other.
-use Rattle.std.proofs.Common.{◌≡◌, ℕ, suc, ◌+◌, ◌≤◌, Bool, true, false, List, [], ◌∷◌, ◌++◌, length, take, drop, refl, sym, ap, subst, ◌∙◌, arith, ◌&&◌, Some}
-use Rattle.std.specs.Prelude.{slice_get, nat_le, cond}
+use Rattle.std.proofs.Common.{◌≡◌, ℕ, ◌≤◌, true, false, List, [], ◌∷◌, ◌++◌, length, take, drop, refl, sym, ap, subst, ◌∙◌, arith, ◌&&◌, Some}
+use Rattle.std.specs.Prelude.{slice_get, nat_le}
 use Rattle.std.specs.Char.{is_ascii_alphabetic}
 use Rattle.std.specs.List.{list_all, prefix_len}
 use Rattle.std.proofs.lemmas.Bool.{and_parts, and_from}
 use Rattle.std.proofs.lemmas.Bool.Decides.{nat_tests}
 use Rattle.std.proofs.lemmas.List.{take_at, drop_at, append-nil}
 use Rattle.std.proofs.Math.Seq.{take-length, drop-length}
-use Rattle.otp_words.specs.Hex.{is_blank, is_no_blank}
+use Rattle.otp_words.specs.Blanks.{is_blank, is_no_blank}
 use Rattle.otp_words.specs.Dictionaries.{upper, is_word, IsDictionary}
 use Rattle.otp_words.specs.Words.{IsWords}
 use Rattle.otp_words.proofs.DictionaryLemmas.{is_word-upper, is_word-parts}
-
--- a front that passes, before what doesn't
-prefix_len-exact : (p : ℕ → Bool) (xs ys : List ℕ) → list_all p xs ≡ true → prefix_len p ys ≡ 0 → prefix_len p (xs ++ ys) ≡ length xs
-prefix_len-exact p [] ys passes stops = stops
-prefix_len-exact p (x ∷ xs) ys passes stops =
-    let parts = and_parts (p x) (list_all p xs) passes in
-    rw (parts.0, prefix_len-exact p xs ys parts.1 stops) (omega arith)
-
--- one more of the front that passes
-list_all-prefix_more : (p : ℕ → Bool) (x : ℕ) (xs : List ℕ) (n : ℕ) (b : Bool) → p x ≡ b → list_all p (take n xs) ≡ true → list_all p (take (cond b (1 + n) 0) (x ∷ xs)) ≡ true
-list_all-prefix_more p x xs n true here rest =
-    let more : 1 + n ≡ suc n = omega arith in
-    rw more (and_from (p x) (list_all p (take n xs)) here rest)
-list_all-prefix_more p x xs n false here rest = refl
-
--- the front that passes does
-pub list_all-prefix : (p : ℕ → Bool) (xs : List ℕ) → list_all p (take (prefix_len p xs) xs) ≡ true
-list_all-prefix p [] = refl
-list_all-prefix p (x ∷ xs) = list_all-prefix_more p x xs (prefix_len p xs) (p x) refl (list_all-prefix p xs)
+use Rattle.otp_words.proofs.RunLemmas.{prefix_len-exact}
 
 -- a letter is no blank
 is_no_blank-letter : (c : ℕ) → is_ascii_alphabetic c ≡ true → is_no_blank c ≡ true

@@ -1,7 +1,11 @@
 -- The text of a challenge (RFC 2289).
-use Rattle.std.specs.Prelude.{ℕ, ◌+◌, ◌/◌, ◌%◌, List, [], ◌∷◌, ◌++◌, drop, codes, nat_lt, if◌then◌else◌}
+use Rattle.std.specs.Prelude.{◌≡◌, ℕ, ◌+◌, ◌-◌, ◌*◌, ◌/◌, ◌%◌, ◌≤◌, Bool, true, List, [], ◌∷◌, ◌++◌, length, drop, map, fold, codes, nat_lt, ◌==◌, ◌||◌, if◌then◌else◌}
+use Rattle.std.specs.Char.{is_ascii_digit, to_ascii_lowercase}
+use Rattle.std.specs.List.{list_all}
+use Rattle.otp_hash.specs.Seeds.{is_seed_text}
 use Rattle.otp_hash.specs.declared.chain.Algo.{Algo}
 use Rattle.otp_hash.specs.declared.chain.Algo.TheVariants as algos
+use Rattle.otp_words.specs.Blanks.{IsGap}
 
 -- the first word of a challenge
 abbrev pub algo_text : Algo → List ℕ
@@ -23,3 +27,36 @@ decimal n = drop (leading_zeros n) (four_digits n)
 -- the challenge of an algorithm, a number and a seed
 unfoldable pub challenge_of : Algo → ℕ → List ℕ → List ℕ
 challenge_of algo n seed = algo_text algo ++ 32 ∷ decimal n ++ 32 ∷ seed ++ 10 ∷ []
+
+-- the number of decimal digits, leading zeros allowed
+abbrev pub decimal_value : List ℕ → ℕ
+decimal_value digits = fold (λ number digit. number * 10 + (digit - 48)) 0 digits
+
+-- a space or a newline
+abbrev pub is_close : ℕ → Bool
+is_close c = c == 32 || c == 10
+
+-- a number in one to four decimal digits
+pub record IsNumber (digits : List ℕ) (n : ℕ) : Type 0 where
+  pub some : 1 ≤ length digits
+  pub few : length digits ≤ 4
+  pub legal : list_all is_ascii_digit digits ≡ true
+  pub value : n ≡ decimal_value digits
+
+-- a text begins with a challenge: the word of an algorithm, a number and a seed in any letter case,
+-- with spaces and tabs between, then a space or a newline; up to that last byte it is used
+pub record BeginsWithChallenge (text : List ℕ) (algo : Algo) (n : ℕ) (seed : List ℕ) (used : ℕ) : Type 0 where
+  pub gap : List ℕ
+  pub digits : List ℕ
+  pub second_gap : List ℕ
+  pub name : List ℕ
+  pub close : ℕ
+  pub unread : List ℕ
+  pub spelled : text ≡ algo_text algo ++ (gap ++ (digits ++ (second_gap ++ (name ++ close ∷ unread))))
+  pub parted : IsGap gap
+  pub number : IsNumber digits n
+  pub parted_again : IsGap second_gap
+  pub legal : is_seed_text name ≡ true
+  pub in_lower_case : seed ≡ map to_ascii_lowercase name
+  pub closed : is_close close ≡ true
+  pub all_used : used + length unread ≡ length text

@@ -1,3 +1,4 @@
+pub mod Blanks
 pub mod Candidates
 pub mod Challenges
 pub mod Dictionaries
@@ -5,4 +6,5 @@ pub mod Digits
 pub mod Hex
 pub mod Lists
 pub mod Places
+pub mod Readings
 pub mod Words

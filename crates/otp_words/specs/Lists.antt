@@ -1,7 +1,8 @@
--- Word lists as they are read, line by line.
-use Rattle.std.specs.Prelude.{ℕ, ◌+◌, List, [], ◌∷◌, ◌++◌, length, Option, Some, None, Result, Ok, Err, min, nat_le, not, ◌==◌, ◌&&◌, if◌then◌else◌}
+-- The words that a text lists, or its first fault.
+use Rattle.std.specs.Prelude.{ℕ, ◌+◌, List, [], ◌∷◌, length, map, take, slice_index_or, Option, Some, None, Result, Ok, Err, min, nat_le, not, ◌==◌, ◌&&◌, if◌then◌else◌}
+use Rattle.std.specs.Option.{option_map}
 use Rattle.std.specs.Char.{is_ascii_alphabetic}
-use Rattle.std.specs.List.{list_all, list_any}
+use Rattle.std.specs.List.{list_all, list_any, filter_map, range_with_len}
 use Rattle.std.specs.Str.{bytes_eq}
 use Rattle.std.specs.Str.Lines.{lines}
 use Rattle.otp_words.specs.declared.fault.DictRule.{DictRule}
@@ -21,16 +22,19 @@ rule_of earlier line =
 abbrev pub fault_at : ℕ → DictRule → DictFault
 fault_at number rule = record { line = min number 4294967295; rule = rule }
 
--- the fault of a rule that is broken, or else what follows
-abbrev pub refused_or : Option DictRule → ℕ → Result (List (List ℕ)) DictFault → Result (List (List ℕ)) DictFault
-refused_or None number next = next
-refused_or (Some rule) number next = Err (fault_at number rule)
+-- the fault of the line at a place, if it breaks a rule behind the words of all lines before it
+abbrev pub fault_of : List (List ℕ) → ℕ → Option DictFault
+fault_of lines i = option_map (fault_at (i + 1)) (rule_of (map upper (take i lines)) (slice_index_or lines i []))
 
--- the words of a list, or its first fault, behind the words of the lines before
-abbrev pub judged : List (List ℕ) → List (List ℕ) → Result (List (List ℕ)) DictFault
-judged earlier [] = if length earlier == 2048 then Ok earlier else Err (fault_at (length earlier) rules_of.Count)
-judged earlier (line ∷ rest) = refused_or (rule_of earlier line) (length earlier + 1) (judged (earlier ++ upper line ∷ []) rest)
+-- the faults of all lines, in their order
+abbrev pub faults_of : List (List ℕ) → List DictFault
+faults_of lines = filter_map (fault_of lines) (range_with_len 0 (length lines))
+
+-- the first fault of these lines; where no line has one, their words, if they are 2,048
+abbrev pub judged : List (List ℕ) → List DictFault → Result (List (List ℕ)) DictFault
+judged lines (fault ∷ faults) = Err fault
+judged lines [] = if length lines == 2048 then Ok (map upper lines) else Err (fault_at (length lines) rules_of.Count)
 
 -- the words of a text's lines, or the first fault
 unfoldable pub dictionary_of : List ℕ → Result (List (List ℕ)) DictFault
-dictionary_of text = judged [] (lines text)
+dictionary_of text = judged (lines text) (faults_of (lines text))

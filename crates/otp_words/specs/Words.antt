@@ -3,7 +3,7 @@ use Rattle.std.specs.Prelude.{◌≡◌, ℕ, ◌+◌, ◌*◌, ◌%◌, ◌≤�
 use Rattle.std.specs.List.{list_all}
 use Rattle.otp_words.specs.Digits.{digits_of, number_of}
 use Rattle.otp_words.specs.Dictionaries.{upper}
-use Rattle.otp_words.specs.Hex.{is_blank}
+use Rattle.otp_words.specs.Blanks.{is_blank}
 
 -- the two low bits of the sum of a password's 32 pairs of bits
 unfoldable pub check_bits : ℕ → ℕ

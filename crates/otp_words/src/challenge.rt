@@ -1,13 +1,13 @@
 //! The text of a challenge.
 
-ghost use Rattle.std.specs.Prelude.{◌≡◌, ◌+◌, ◌≤◌, ◌++◌, length, take, drop};
+ghost use Rattle.std.specs.Prelude.{◌≡◌, ℕ, ◌+◌, ◌≤◌, List, ◌++◌, length, take, drop};
 ghost use Rattle.otp_hash.specs.SeedBytes.{seed_bytes};
-ghost use Rattle.otp_words.specs.Challenges.{algo_text, leading_zeros, four_digits, challenge_of};
+ghost use Rattle.otp_words.specs.Challenges.{algo_text, leading_zeros, four_digits, challenge_of, BeginsWithChallenge};
 
 use otp_hash::{Algo, Seed};
 
 /// Writes the challenge of a number and a seed to the front of `out`, as `otp-md5 99 test` and a
-/// newline, and gives its length.
+/// newline, and gives its length. What is written is read whole, whatever follows it.
 #[tactic(auto, unfolding(crate::specs::Challenges::challenge_of))]
 pub fn challenge_text(algo: Algo, n: u16, seed: &Seed, out: &mut [u8]) -> usize
     requires four_digits { n ≤ 9999 }
@@ -15,6 +15,7 @@ pub fn challenge_text(algo: Algo, n: u16, seed: &Seed, out: &mut [u8]) -> usize
     ensures len { result ≡ length (challenge_of algo n (seed_bytes seed.now)) }
     ensures within { result ≤ 32 }
     ensures written { out.new ≡ challenge_of algo n (seed_bytes seed.now) ++ drop result out.old }
+    ensures read_back { (unread : List ℕ) → BeginsWithChallenge (challenge_of algo n (seed_bytes seed.now) ++ unread) algo n (seed_bytes seed.now) result }
 {
     let at = put(out, 0, algo_text(algo));
     let at = put(out, at, b" ");
@@ -26,7 +27,7 @@ pub fn challenge_text(algo: Algo, n: u16, seed: &Seed, out: &mut [u8]) -> usize
 }
 
 /// The first word of a challenge.
-fn algo_text(algo: Algo) -> &'static [u8]
+pub fn algo_text(algo: Algo) -> &'static [u8]
     ensures text { result.now ≡ algo_text algo }
     ensures len { length result.now ≤ 8 }
 {

@@ -2,19 +2,22 @@
 //! digits, and the text of a challenge.
 #![tactic(auto)]
 
+mod blanks;
 mod challenge;
+mod challenge_reading;
 mod dictionary;
 mod digits;
 mod fault;
-mod hex;
+mod hexadecimal;
 mod reading;
 mod spellings;
 mod words;
 
 pub use challenge::challenge_text;
+pub use challenge_reading::{Challenge, Unreadable, read_challenge};
 pub use dictionary::Dictionary;
 pub use fault::{DictError, DictFault, DictRule};
-pub use hex::to_hex;
+pub use hexadecimal::to_hex;
 pub use reading::candidates;
 pub use spellings::Candidates;
 pub use words::to_words;

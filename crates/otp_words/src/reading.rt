@@ -3,7 +3,7 @@
 ghost use Rattle.otp_words.specs.Candidates.{AreCandidatesOf};
 
 use crate::dictionary::Dictionary;
-use crate::hex::hex_reading;
+use crate::hexadecimal::hex_reading;
 use crate::spellings::Candidates;
 use crate::words::words_reading;
 

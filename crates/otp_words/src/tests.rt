@@ -87,6 +87,7 @@ fn word_lists(rt: HostRuntime) -> Result<(), Fail> {
         ((0, b"qaaa"), 2_047, Some((2_047, DictRule::Count))),
         ((2_048, b"QaAa"), 2_049, Some((2_049, DictRule::Twice))),
         ((2_048, b"z"), 2_049, Some((2_049, DictRule::Count))),
+        ((4, b"z"), 3_000, Some((3_000, DictRule::Count))),
         ((4, b"QAAA"), 2_048, Some((5, DictRule::Twice))),
         ((4, b""), 9, Some((5, DictRule::Length))),
         ((4, b"QAAAA"), 9, Some((5, DictRule::Length))),
@@ -124,6 +125,65 @@ fn challenges(rt: HostRuntime) -> Result<(), Fail> {
         let mut out = [0; 32];
         let len = challenge_text(algo, n, &seed, &mut out);
         assert_eq!(rt; &out[..len], text);
+    }
+    Ok(())
+}
+
+#[test]
+fn challenges_read(rt: HostRuntime) -> Result<(), Fail> {
+    let rows = [
+        (
+            b"otp-md5 99 test\n".as_slice(),
+            Algo::Md5,
+            99,
+            b"test".as_slice(),
+            16,
+        ),
+        (
+            b"otp-sha1 \t 0099\t\tTeSt left",
+            Algo::Sha1,
+            99,
+            b"test",
+            22,
+        ),
+        (
+            b"otp-md5 0 abcdefghijklmno9\n\n",
+            Algo::Md5,
+            0,
+            b"abcdefghijklmno9",
+            27,
+        ),
+        (b"otp-sha1 9999 1 otp-md5 1 2 ", Algo::Sha1, 9_999, b"1", 16),
+    ];
+    for (text, algo, n, seed, used) in rows {
+        let seed = Seed::of(seed).ok_or("a seed")?;
+        let challenge = Challenge {
+            algo,
+            n,
+            seed,
+            used,
+        };
+        assert_eq!(rt; read_challenge(text), Ok(challenge));
+    }
+    let faulty = [
+        b"".as_slice(),
+        b"otp-md5 99 test",
+        b"otp-md5 99 test\t",
+        b"otp-md5 99 test\r\n",
+        b" otp-md5 99 test\n",
+        b"otp-MD5 99 test\n",
+        b"otp-md4 99 test\n",
+        b"otp-md599 test\n",
+        b"otp-md5 test\n",
+        b"otp-md5 99test\n",
+        b"otp-md5 00099 test\n",
+        b"otp-md5 -9 test\n",
+        b"otp-md5 99 te-st\n",
+        b"otp-md5 99 \n",
+        b"otp-md5 99 abcdefghijklmnopq\n",
+    ];
+    for text in faulty {
+        assert_eq!(rt; read_challenge(text), Err(Unreadable));
     }
     Ok(())
 }

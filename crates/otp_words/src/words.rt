@@ -2,14 +2,14 @@
 
 ghost use Rattle.std.specs.Prelude.{◌≡◌, ℕ, ◌+◌, ◌-◌, ◌*◌, ◌^◌, ◌<◌, ◌≤◌, ◌++◌, List, Some, IfSome, length, take, drop, fold};
 ghost use Rattle.std.specs.List.{prefix_len};
-ghost use Rattle.otp_words.specs.Hex.{is_blank, is_no_blank};
+ghost use Rattle.otp_words.specs.Blanks.{is_no_blank};
 ghost use Rattle.otp_words.specs.Digits.{digits_of, number_of};
 ghost use Rattle.otp_words.specs.Dictionaries.{IsDictionary};
 ghost use Rattle.otp_words.specs.Words.{check_bits, checked, spaced, words_at, words_text, IsWords, IsSixWords};
 
+use crate::blanks::{gap_len, is_blank};
 use crate::dictionary::Dictionary;
 use crate::digits::digit;
-use crate::hex::is_blank;
 
 /// The number of words of a password.
 const WORDS: u32 = 6;
@@ -107,11 +107,4 @@ fn word_len(text: &[u8]) -> usize
     ensures { result ≡ prefix_len is_no_blank text.now }
 {
     text.iter().take_while(|byte| !is_blank(**byte)).count()
-}
-
-/// The number of spaces and tabs at the front.
-fn gap_len(text: &[u8]) -> usize
-    ensures { result ≡ prefix_len is_blank text.now }
-{
-    text.iter().take_while(|byte| is_blank(**byte)).count()
 }

@@ -1,4 +1,8 @@
-use Rattle.std.proofs.Common.{[], refl}
+use Rattle.std.proofs.Common.{◌≡◌, ◌∙◌, [], true, refl, sym, ap, arith}
+use Rattle.std.proofs.lemmas.Grind.{common_steps}
+use Rattle.otp_words.specs.Challenges.{challenge_of}
+use Rattle.otp_hash.specs.Seeds.{is_seed}
+use Rattle.otp_words.proofs.WrittenLemmas.{challenge_of-reads}
 use Rattle.otp_hash.specs.SeedBytes.{seed_bytes}
 use Rattle.otp_words.proofs.ChallengeLemmas.{IsWritten, put_next, challenge_written}
 use Rattle.otp_words.proofs.challenge.challenge_text.Goals as goal
@@ -14,3 +18,12 @@ returns-clause-written c =
     let fifth = put_next _ _ out _ _ _ _ fourth c.put-at-5.ensures.end c.put-at-5.ensures.out in
     let last = put_next _ _ out _ _ _ _ fifth c.put.ensures.end c.put.ensures.out in
     challenge_written c.args.algo c.args.n (seed_bytes c.args.seed.now) _ _ out _ _ _ _ c.algo_text.ensures.text c.leading_zeros.ensures.zeros c.four_digits-digits.ensures c.as_slice.ensures.bytes last
+
+pub returns-clause-len : goal.returns-clause-len
+unfolding challenge_of
+returns-clause-len c = grind (arith, common_steps)
+
+pub returns-clause-read_back : goal.returns-clause-read_back
+returns-clause-read_back c = λ unread.
+    let legal : is_seed (seed_bytes c.args.seed.now) ≡ true = ap is_seed (sym c.as_slice.ensures.bytes) ∙ c.as_slice.ensures.legal in
+    challenge_of-reads c.args.algo c.args.n c.put.result (seed_bytes c.args.seed.now) unread c.requires.four_digits legal (returns-clause-len c)

@@ -6,9 +6,10 @@ use Rattle.std.proofs.lemmas.Option.{slice_get_within}
 use Rattle.std.proofs.lemmas.List.Sums.{prefix_len-le-length}
 use Rattle.std.proofs.lemmas.List.{take-append-drop}
 use Rattle.std.specs.Bool.{then_some}
-use Rattle.otp_words.specs.Hex.{is_blank, is_no_blank}
+use Rattle.otp_words.specs.Blanks.{is_blank, is_no_blank}
 use Rattle.otp_words.specs.Dictionaries.{upper}
-use Rattle.otp_words.proofs.WordLemmas.{front_of, behind, gap_of, behind_gap, list_all-prefix}
+use Rattle.otp_words.proofs.WordLemmas.{front_of, behind, gap_of, behind_gap}
+use Rattle.otp_words.proofs.RunLemmas.{list_all-prefix}
 use Rattle.otp_words.proofs.NumberLemmas.{not_found, last_only, last_found, then_some_below, number_grows, more_only, no_gap, more_found}
 use Rattle.otp_words.proofs.words.+number_behind.Goals as goal
 

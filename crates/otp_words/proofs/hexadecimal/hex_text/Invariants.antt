@@ -1,9 +1,9 @@
 use Rattle.std.proofs.Common.{◌≡◌, ℕ, ◌<◌, length, get_or}
-use Rattle.otp_words.specs.Hex.{hex_byte_at}
-use Rattle.otp_words.proofs.hex.hex_text.Given as goal
+use Rattle.otp_words.specs.Hex.{grouped}
+use Rattle.otp_words.proofs.hexadecimal.hex_text.Given as goal
 
 abbrev pub invariant-loop-k : goal.invariant-loop-k
 invariant-loop-k l = record {
   long : length l.text ≡ 19;
-  same : (j : ℕ) → j < l.k → get_or l.text j 0 ≡ hex_byte_at l.password j;
+  same : (j : ℕ) → j < l.k → get_or l.text j 0 ≡ grouped l.digits j;
 }

@@ -2,7 +2,7 @@ use Rattle.std.proofs.Common.{◌≡◌, ◌∙◌, length, ap, drop}
 use Rattle.std.proofs.lemmas.List.{take_at}
 use Rattle.otp_words.specs.Hex.{hex_text}
 use Rattle.otp_words.proofs.HexText.{hex_reading-hex_text, length-hex_text}
-use Rattle.otp_words.proofs.hex.to_hex.Goals as goal
+use Rattle.otp_words.proofs.hexadecimal.to_hex.Goals as goal
 
 pub returns-clause-read_back : goal.returns-clause-read_back
 returns-clause-read_back c =
