@@ -2,5 +2,6 @@ pub mod Told
 pub mod Exchanges
 pub mod Scenes
 mod CutLemmas
+mod FileLemmas
 mod ReceivingLemmas
 mod ScriptLemmas

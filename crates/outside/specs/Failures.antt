@@ -1,6 +1,6 @@
 use Rattle.std.specs.Prelude.{ℕ, ◌+◌, ◌-◌, ◌^◌, ◌==◌, ◌&&◌, min, Bool, true, false, List, find, take, Option, Some, None, option_map}
 use Rattle.outside.specs.declared.memory.fail.CallKind.{CallKind}
-use Rattle.outside.specs.declared.memory.fail.CallKind.TheVariants.{Recv, Send, Append, Accept, Start, ConnSend}
+use Rattle.outside.specs.declared.memory.fail.CallKind.TheVariants.{Recv, Send, Append, Read, Replace, Accept, Start, ConnSend}
 use Rattle.outside.specs.declared.memory.fail.Fail.{Fail}
 
 -- whether two calls are of one kind
@@ -8,6 +8,8 @@ abbrev pub same_kind : CallKind → CallKind → Bool
 same_kind Recv Recv = true
 same_kind Send Send = true
 same_kind Append Append = true
+same_kind Read Read = true
+same_kind Replace Replace = true
 same_kind Accept Accept = true
 same_kind Start Start = true
 same_kind ConnSend ConnSend = true

@@ -4,8 +4,10 @@ pub mod Scene
 pub mod Failures
 pub mod Cuts
 pub mod Output
+pub mod Files
 pub mod MemStream
 pub mod MemSink
+pub mod MemFiles
 pub mod Transcript
 pub mod Script
 pub mod MemPost

@@ -1,9 +1,10 @@
-//! The outside of the monitor: the traits through which it reaches children, clients, logs and its
-//! site, and objects in memory that stand in for them.
+//! The outside of the monitor: the traits through which it reaches children, clients, logs, files
+//! and its site, and objects in memory that stand in for them.
 #![tactic(auto)]
 
 mod act;
 mod bytes;
+mod files;
 mod memory;
 mod place;
 mod post;
@@ -13,7 +14,8 @@ mod stream;
 
 pub use act::{Accepted, Act, Failed, Role, Talk};
 pub use bytes::{Bytes, Word};
-pub use memory::{CallKind, Fail, MemConn, MemPost, MemSink, MemSite, MemStream, Script};
+pub use files::Files;
+pub use memory::{CallKind, Fail, MemConn, MemFiles, MemPost, MemSink, MemSite, MemStream, Script};
 pub use place::Place;
 pub use post::Post;
 pub use sink::Sink;

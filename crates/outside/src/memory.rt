@@ -2,6 +2,7 @@
 
 mod cuts;
 mod fail;
+mod files;
 mod output;
 mod post;
 mod script;
@@ -11,6 +12,7 @@ mod stream;
 mod transcript;
 
 pub use fail::{CallKind, Fail};
+pub use files::MemFiles;
 pub use post::{MemConn, MemPost};
 pub use script::Script;
 pub use sink::MemSink;

@@ -1,10 +1,10 @@
-ghost use Rattle.std.specs.Prelude.{◌≡◌, ◌<◌, ◌≤◌, IfOk, length};
+ghost use Rattle.std.specs.Prelude.{◌≡◌, ◌<◌, ◌≤◌, IfOk, IfSome, length};
 ghost use Rattle.outside.specs.MemPost.{accept_faults_of, conn_faults_of, keeper_faults_of, link_faults_of, scene_of};
 ghost use Rattle.outside.specs.Scene.{IsFresh};
 
 use super::{
-    Accepted, Act, Bytes, CallKind, Fail, Failed, MemConn, MemPost, MemSink, MemSite, MemStream,
-    Place, Post, Role, Script, Sink, Site, Stream, Talk, Word,
+    Accepted, Act, Bytes, CallKind, Fail, Failed, Files, MemConn, MemFiles, MemPost, MemSink,
+    MemSite, MemStream, Place, Post, Role, Script, Sink, Site, Stream, Talk, Word,
 };
 use std::alloc::{AllocError, Global};
 use std::test::Fail as Fault;
@@ -64,6 +64,60 @@ fn a_sink_keeps_a_first_part_of_a_failing_append(rt: HostRuntime) -> Result<(), 
     assert_eq!(rt; append(&mut sink, b"!"), Ok(()));
     assert!(rt; sink.tells());
     assert_eq!(rt; sink.held(), b"hello wor!".as_slice());
+    Ok(())
+}
+
+/// Reads through the bound.
+fn read<F: Files>(
+    files: &mut F,
+    name: &Word,
+    offset: u64,
+    buf: &mut [u8],
+) -> Result<Option<usize>, Failed>
+    ensures { IfOk result (λ found. IfSome found (λ n. n ≤ length buf.new)) }
+{
+    files.read(name, offset, buf)
+}
+
+/// Replaces through the bound.
+fn replace<F: Files>(files: &mut F, name: &Word, bytes: &[u8]) -> Result<(), Failed> {
+    files.replace(name, bytes)
+}
+
+#[test]
+fn files_are_read_and_replaced_and_fail_as_listed(rt: HostRuntime) -> Result<(), Fault> {
+    let alloc = rt.alloc();
+    let old = Word::of(alloc, b"old")?;
+    let new = Word::of(alloc, b"new")?;
+    let pairs = vec![in alloc;
+        (Word::of(alloc, b"old")?, Bytes::of(alloc, b"abcdef")?),
+        (Word::of(alloc, b"old")?, Bytes::of(alloc, b"twice")?),
+    ]?;
+    let fails = [fail(CallKind::Read, 3, 0), fail(CallKind::Replace, 2, 0)];
+    let mut files = MemFiles::new(alloc, pairs.as_slice(), &fails)?;
+    let pieces: [(u64, Result<Option<&[u8]>, Failed>); 5] = [
+        (0, Ok(Some(b"abcd"))),
+        (4, Ok(Some(b"ef"))),
+        (0, Err(Failed)),
+        (6, Ok(Some(b""))),
+        (u64::MAX, Ok(Some(b""))),
+    ];
+    for (offset, want) in pieces {
+        let mut buf = [0; 4];
+        let got = read(&mut files, &old, offset, &mut buf);
+        assert_eq!(rt; got.map(|found| found.map(|n| &buf[..n])), want);
+    }
+    assert_eq!(rt; read(&mut files, &new, 0, &mut [0; 4]), Ok(None));
+    for (bytes, want) in [
+        (b"x".as_slice(), Ok(())),
+        (b"y", Err(Failed)),
+        (b"zz", Ok(())),
+    ] {
+        assert_eq!(rt; replace(&mut files, &new, bytes), want);
+    }
+    assert!(rt; files.tells());
+    assert_eq!(rt; files.file(&old), Some(b"abcdef".as_slice()));
+    assert_eq!(rt; files.file(&new), Some(b"zz".as_slice()));
     Ok(())
 }
 

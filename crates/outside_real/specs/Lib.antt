@@ -1,5 +1,7 @@
 pub mod Counts
 pub mod Launching
+pub mod RealEnds
+pub mod RealFiles
 pub mod RealSink
 pub mod RealStream
 pub mod RealPost

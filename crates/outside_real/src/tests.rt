@@ -1,8 +1,8 @@
-ghost use Rattle.std.specs.Prelude.{◌≡◌, ◌<◌, IfOk, length};
+ghost use Rattle.std.specs.Prelude.{◌≡◌, ◌<◌, ◌≤◌, IfOk, IfSome, length};
 
-use super::{RealSink, RealSite};
-use outside::{Failed, Place, Post, Role, Sink, Site, Stream, Word};
-use std::io::Read;
+use super::{RealEnds, RealFiles, RealSink, RealSite};
+use outside::{Failed, Files, Place, Post, Role, Sink, Site, Stream, Word};
+use std::io::{Read, Write};
 use std::os::unix::net::UnixStream;
 use std::rt::{Env, Process};
 use std::test::Fail as Fault;
@@ -98,5 +98,66 @@ fn append<S: Sink>(sink: &mut S, bytes: &[u8]) -> Result<(), Failed> {
 #[test]
 fn a_log_goes_to_standard_error(rt: HostRuntime) -> Result<(), Fault> {
     append(&mut RealSink::new(rt.stderr()), b"1 w0 s1 open permit\n")?;
+    Ok(())
+}
+
+/// Receives up to 8 bytes through the bound and sends an answer.
+fn exchange<E: Stream>(ends: &mut E, answer: &[u8]) -> Result<([u8; 8], usize), Failed> {
+    let mut buf = [0; 8];
+    let n = ends.recv(&mut buf)?;
+    ends.send(answer)?;
+    Ok((buf, n))
+}
+
+#[test]
+fn ends_pass_bytes_both_ways(rt: HostRuntime) -> Result<(), Fault> {
+    let (ours, mut theirs) = UnixStream::pair(&rt)?;
+    theirs.write_all(b"phrase\n")?;
+    let mut ends = RealEnds::new(ours.try_clone()?, ours);
+    let mut want = [0; 8];
+    want[..7].copy_from_slice(b"phrase\n");
+    assert_eq!(rt; exchange(&mut ends, b"password"), Ok((want, 7)));
+    drop(ends);
+    let mut got = Vec::new(rt.alloc());
+    theirs.read_to_end(&mut got)?;
+    assert_eq!(rt; got.as_slice(), b"password".as_slice());
+    RealEnds::new(rt.stdin(), rt.stdout()).send(b"")?;
+    Ok(())
+}
+
+/// Reads up to 4 bytes through the bound.
+fn read<F: Files>(
+    files: &mut F,
+    name: &Word,
+    offset: u64,
+) -> Result<Option<([u8; 4], usize)>, Failed> {
+    let mut buf = [0; 4];
+    Ok(files.read(name, offset, &mut buf)?.map(|n| (buf, n)))
+}
+
+/// Replaces through the bound.
+fn replace<F: Files>(files: &mut F, name: &Word, bytes: &[u8]) -> Result<(), Failed> {
+    files.replace(name, bytes)
+}
+
+#[test]
+fn a_file_is_replaced_and_read(rt: HostRuntime) -> Result<(), Fault> {
+    let alloc = rt.alloc();
+    let place = temporary_place(&rt, rt.process(), "replaces", "echo")?;
+    let file = place.socket;
+    let mut files = RealFiles::new(rt, alloc);
+    assert_eq!(rt; read(&mut files, &file, 0), Ok(None));
+    for bytes in [b"old contents".as_slice(), b"abcdef"] {
+        assert_eq!(rt; replace(&mut files, &file, bytes), Ok(()));
+    }
+    let rows = [(0, (*b"abcd", 4)), (4, (*b"ef\0\0", 2)), (6, ([0; 4], 0))];
+    for (offset, want) in rows {
+        assert_eq!(rt; read(&mut files, &file, offset), Ok(Some(want)));
+    }
+    fs::remove_file(&rt, file.as_str())?;
+    let folder = Word::of(alloc, b"/")?;
+    assert_eq!(rt; read(&mut files, &folder, 0), Err(Failed));
+    let nowhere = Word::of(alloc, b"/no/such/folder/file")?;
+    assert_eq!(rt; replace(&mut files, &nowhere, b"x"), Err(Failed));
     Ok(())
 }

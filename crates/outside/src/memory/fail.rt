@@ -10,6 +10,10 @@ pub enum CallKind {
     Send,
     /// A sink's `append`.
     Append,
+    /// A file's `read`.
+    Read,
+    /// A file's `replace`.
+    Replace,
     /// A post's `accept`.
     Accept,
     /// A post's `start`.

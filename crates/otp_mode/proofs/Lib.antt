@@ -1,0 +1,4 @@
+mod Exactness
+mod OutcomeLemmas
+mod PhraseLemmas
+mod TextLemmas

@@ -1,0 +1,36 @@
+use Rattle.std.proofs.Common.{◌≡◌, List, ℕ, Option, Some, Ok, Err, Result, inl, refl}
+use Rattle.outside.specs.Files.{Contents}
+use Rattle.outside.specs.Link.{Link}
+use Rattle.otp_mode.specs.declared.fault.OtpFault.{OtpFault}
+use Rattle.otp_mode.specs.declared.fault.OtpFault.TheVariants as faults
+use Rattle.otp_mode.specs.Outcome.{HasWords, IsListFault, IsOutcome, IsPrinting}
+use Rattle.otp_mode.specs.Received.{IsPhraseFault}
+use Rattle.otp_mode.specs.Words.{OtpParts}
+
+-- a phrase that was not received was not printed
+pub IsPrinting-phrase : (parts : OtpParts) (words : Option (List (List ℕ))) (before after : Option Link) (EndsFailed : Type 0) (fault : OtpFault) → IsPhraseFault before after EndsFailed fault → IsPrinting parts words before after EndsFailed (Err fault)
+IsPrinting-phrase parts words before after EndsFailed faults.EndsFailed h = (h.0, inl h.1)
+IsPrinting-phrase parts words before after EndsFailed faults.PhraseRefused h = h
+IsPrinting-phrase parts words before after EndsFailed faults.ReadFailed h = absurd h
+IsPrinting-phrase parts words before after EndsFailed faults.ListMissing h = absurd h
+IsPrinting-phrase parts words before after EndsFailed (faults.ListRefused _) h = absurd h
+IsPrinting-phrase parts words before after EndsFailed faults.OutOfMemory h = absurd h
+
+-- a word list that was not taken ends the mode
+pub IsOutcome-list : (parts : OtpParts) (contents : Option Contents) (before after : Option Link) (ReadFailed EndsFailed : Type 0) (name : List ℕ) (fault : OtpFault) → parts.list ≡ Some name → IsListFault contents name ReadFailed fault → IsOutcome parts contents before after ReadFailed EndsFailed (Err fault)
+IsOutcome-list parts contents before after ReadFailed EndsFailed name faults.ReadFailed named h = (rw named refl, h)
+IsOutcome-list parts contents before after ReadFailed EndsFailed name faults.ListMissing named h = rw named h
+IsOutcome-list parts contents before after ReadFailed EndsFailed name (faults.ListRefused fault) named h = rw named h
+IsOutcome-list parts contents before after ReadFailed EndsFailed name faults.OutOfMemory named h = rw named refl
+IsOutcome-list parts contents before after ReadFailed EndsFailed name faults.EndsFailed named h = absurd h
+IsOutcome-list parts contents before after ReadFailed EndsFailed name faults.PhraseRefused named h = absurd h
+
+-- the printing is all that came of it, where the word list was taken
+pub IsOutcome-printing : (parts : OtpParts) (contents : Option Contents) (words : Option (List (List ℕ))) (before after : Option Link) (ReadFailed EndsFailed : Type 0) (result : Result (Unit {0}) OtpFault) → HasWords contents parts.list words → IsPrinting parts words before after EndsFailed result → IsOutcome parts contents before after ReadFailed EndsFailed result
+IsOutcome-printing parts contents words before after ReadFailed EndsFailed (Ok _) has h = (words, has, h)
+IsOutcome-printing parts contents words before after ReadFailed EndsFailed (Err faults.EndsFailed) has h = (h.0, (words, has, h.1))
+IsOutcome-printing parts contents words before after ReadFailed EndsFailed (Err faults.PhraseRefused) has h = ((words, has), h)
+IsOutcome-printing parts contents words before after ReadFailed EndsFailed (Err faults.ReadFailed) has h = absurd h
+IsOutcome-printing parts contents words before after ReadFailed EndsFailed (Err faults.ListMissing) has h = absurd h
+IsOutcome-printing parts contents words before after ReadFailed EndsFailed (Err (faults.ListRefused _)) has h = absurd h
+IsOutcome-printing parts contents words before after ReadFailed EndsFailed (Err faults.OutOfMemory) has h = absurd h

@@ -1,0 +1,32 @@
+-- The faults, and those that are handed on.
+use Rattle.std.specs.Prelude.{ℕ, Result, Ok, Err}
+use Rattle.file_front.specs.declared.FrontError.{FrontError}
+use Rattle.file_front.specs.declared.FrontError.TheVariants as front_errors
+use Rattle.otp_words.specs.declared.fault.DictError.{DictError}
+use Rattle.otp_words.specs.declared.fault.DictError.TheVariants as list_errors
+use Rattle.otp_mode.specs.declared.fault.OtpFault.{OtpFault}
+use Rattle.otp_mode.specs.declared.fault.OtpFault.TheVariants as faults
+
+-- why a word list's file was not read
+abbrev pub fault_of_front : FrontError → OtpFault
+fault_of_front front_errors.Failed = faults.ReadFailed
+fault_of_front front_errors.OutOfMemory = faults.OutOfMemory
+
+-- why a word list was not taken
+abbrev pub fault_of_list : DictError → OtpFault
+fault_of_list (list_errors.Refused fault) = faults.ListRefused fault
+fault_of_list list_errors.OutOfMemory = faults.OutOfMemory
+
+-- the exit status of a program that ends by a fault
+abbrev pub fault_status : OtpFault → ℕ
+fault_status faults.ReadFailed = 3
+fault_status faults.ListMissing = 4
+fault_status (faults.ListRefused _) = 5
+fault_status faults.OutOfMemory = 9
+fault_status faults.EndsFailed = 11
+fault_status faults.PhraseRefused = 12
+
+-- the exit status of a program that ends by what came of the mode
+abbrev pub status_of : Result (Unit {0}) OtpFault → ℕ
+status_of (Ok _) = 0
+status_of (Err fault) = fault_status fault

@@ -1,0 +1,28 @@
+-- The pass phrase in an input.
+use Rattle.std.specs.Prelude.{ℕ, Bool, nat_le, ◌==◌, ◌&&◌, List, length, take, Option, Some, None}
+use Rattle.std.specs.Bool.{then_some}
+use Rattle.std.specs.List.{list_all, position}
+use Rattle.std.specs.Str.Lines.{strip_carriage_return}
+
+-- the line that ends at a newline's place, without a carriage return at its end; the whole input
+-- where there is no newline
+abbrev pub line_to : Option ℕ → List ℕ → List ℕ
+line_to None input = input
+line_to (Some place) input = strip_carriage_return (take place input)
+
+-- the first line of an input
+abbrev pub first_line : List ℕ → List ℕ
+first_line input = line_to (position (λ c. c == 10) input) input
+
+-- printable ASCII, from the space to `~`
+abbrev pub is_printable : ℕ → Bool
+is_printable c = nat_le 32 c && nat_le c 126
+
+-- a pass phrase: 10 to 63 bytes of printable ASCII (RFC 2289, section 6.0, of which 63 is the upper
+-- bound of this program)
+unfoldable pub is_phrase : List ℕ → Bool
+is_phrase line = nat_le 10 (length line) && nat_le (length line) 63 && list_all is_printable line
+
+-- the pass phrase that an input has: its first line, where that is one
+unfoldable pub phrase_of : List ℕ → Option (List ℕ)
+phrase_of input = then_some (is_phrase (first_line input)) (first_line input)

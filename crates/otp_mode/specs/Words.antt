@@ -1,0 +1,54 @@
+-- The words of the mode `otp`.
+use Rattle.std.specs.Prelude.{ℕ, ◌+◌, ◌-◌, ◌*◌, Bool, true, not, nat_le, ◌==◌, ◌&&◌, if◌then◌else◌, List, [], ◌∷◌, length, map, fold, codes, Option, Some, None, option_map}
+use Rattle.std.specs.Char.{is_ascii_digit, to_ascii_lowercase}
+use Rattle.std.specs.List.{list_all}
+use Rattle.std.specs.Str.{bytes_eq}
+use Rattle.otp_hash.specs.declared.chain.Algo.{Algo}
+use Rattle.otp_hash.specs.declared.chain.Algo.TheVariants as algos
+use Rattle.otp_hash.specs.Seeds.{is_seed_text}
+
+-- what the words ask for: the password of this number in the chain of this seed, by this algorithm,
+-- and the file of a word list, if one is named
+pub record OtpParts : Type 0 where
+  pub algo : Algo
+  pub number : ℕ
+  pub seed : List ℕ
+  pub list : Option (List ℕ)
+
+-- the algorithm that a word names
+unfoldable pub algo_named : List ℕ → Option Algo
+algo_named word =
+    if bytes_eq word (codes "md5") then Some algos.Md5
+    else if bytes_eq word (codes "sha1") then Some algos.Sha1
+    else None
+
+-- a number's word: one to four decimal digits
+unfoldable pub is_number_word : List ℕ → Bool
+is_number_word word = nat_le 1 (length word) && nat_le (length word) 4 && list_all is_ascii_digit word
+
+-- the number of decimal digits
+abbrev pub number_of_digits : List ℕ → ℕ
+number_of_digits digits = fold (λ number digit. number * 10 + (digit - 48)) 0 digits
+
+-- a word that may name a word list: any that doesn't begin with `-`
+unfoldable pub is_list_name : List ℕ → Bool
+is_list_name [] = true
+is_list_name (c ∷ _) = not (c == 45)
+
+-- whether the word list, if one is named, has such a name
+abbrev pub is_list_word : Option (List ℕ) → Bool
+is_list_word None = true
+is_list_word (Some name) = is_list_name name
+
+-- what four words, and perhaps a fifth, ask for
+abbrev pub parts_of : List ℕ → List ℕ → List ℕ → List ℕ → Option (List ℕ) → Option OtpParts
+parts_of mode algo number seed list =
+    if bytes_eq mode (codes "otp") && is_number_word number && is_seed_text seed && is_list_word list
+    then option_map (λ a. record { algo = a; number = number_of_digits number; seed = map to_ascii_lowercase seed; list = list }) (algo_named algo)
+    else None
+
+-- what the words `otp ALGO N SEED` or `otp ALGO N SEED WORDS` ask for; other words ask for nothing
+abbrev pub otp_command : List (List ℕ) → Option OtpParts
+otp_command (mode ∷ algo ∷ number ∷ seed ∷ []) = parts_of mode algo number seed None
+otp_command (mode ∷ algo ∷ number ∷ seed ∷ list ∷ []) = parts_of mode algo number seed (Some list)
+otp_command _ = None

@@ -1,0 +1,120 @@
+//! The words of the mode.
+
+ghost use Rattle.std.specs.Prelude.{◌≡◌, ◌≤◌, IfSome, length, option_map};
+ghost use Rattle.std.specs.Bool.{then_some};
+ghost use Rattle.std.specs.Char.{is_ascii_digit};
+ghost use Rattle.std.specs.List.{list_all};
+ghost use Rattle.std.specs.Option.{option_copied};
+ghost use Rattle.otp_mode.specs.Command.{command_parts};
+ghost use Rattle.otp_mode.specs.Words.{algo_named, is_list_name, is_list_word, is_number_word, number_of_digits, otp_command, parts_of};
+
+use otp_hash::{Algo, Seed};
+use outside::Word;
+
+/// The most digits of a number.
+const NUMBER_MAX: usize = 4;
+
+/// A command `otp ALGO N SEED` or `otp ALGO N SEED WORDS`.
+#[derive(Clone, Copy)]
+pub struct OtpCommand<'a> {
+    /// The algorithm, from the word `md5` or `sha1`.
+    pub algo: Algo,
+    /// The password's number in its chain, from 0 to 9,999.
+    pub number: u16,
+    /// The seed of the chain.
+    pub seed: Seed,
+    /// The name of the word list's file, if one is named.
+    pub list: Option<&'a Word>,
+}
+
+/// Reads the words of a command line without the program's name. `None` exactly where they are not
+/// `otp ALGO N SEED` or `otp ALGO N SEED WORDS`: `ALGO` is `md5` or `sha1`, `N` one to four decimal
+/// digits, `SEED` 1 to 16 ASCII letters and digits, and `WORDS` doesn't begin with `-`.
+pub fn read_otp_command(words: &[Word]) -> Option<OtpCommand<'_>>
+    ensures { option_map command_parts result ≡ otp_command words.now }
+{
+    match words {
+        [mode, algo, number, seed] => command_of(mode, algo, number, seed, None),
+        [mode, algo, number, seed, list] => command_of(mode, algo, number, seed, Some(list)),
+        _ => None,
+    }
+}
+
+/// The command of these words.
+fn command_of<'a>(
+    mode: &Word,
+    algo: &Word,
+    number: &Word,
+    seed: &Word,
+    list: Option<&'a Word>,
+) -> Option<OtpCommand<'a>>
+    ensures { option_map command_parts result
+        ≡ parts_of mode.now algo.now number.now seed.now (option_copied list.entry) }
+{
+    if mode.as_str() != "otp" || !is_list_word(list) {
+        return None;
+    }
+    let number = read_number(number.as_slice())?;
+    let seed = Seed::of(seed.as_slice())?;
+    let algo = algo_named(algo.as_str())?;
+    Some(OtpCommand {
+        algo,
+        number,
+        seed,
+        list,
+    })
+}
+
+/// The algorithm that a word names.
+#[tactic(auto, unfolding(crate::specs::Words::algo_named))]
+fn algo_named(word: &str) -> Option<Algo>
+    ensures { result ≡ algo_named word.now }
+{
+    match word {
+        "md5" => Some(Algo::Md5),
+        "sha1" => Some(Algo::Sha1),
+        _ => None,
+    }
+}
+
+/// Whether a word list, if one is named, has a name that doesn't begin with `-`.
+#[tactic(auto, unfolding(crate::specs::Words::is_list_name))]
+fn is_list_word(list: Option<&Word>) -> bool
+    ensures { result ≡ is_list_word (option_copied list.entry) }
+{
+    match list {
+        None => true,
+        Some(name) => !name.as_str().starts_with('-'),
+    }
+}
+
+/// The number of one to four decimal digits.
+#[tactic(auto, unfolding(crate::specs::Words::is_number_word))]
+fn read_number(word: &[u8]) -> Option<u16>
+    ensures value { result ≡ then_some (is_number_word word.now) (number_of_digits word.now) }
+    ensures within { IfSome result (λ n. n ≤ 9999) }
+{
+    if !is_number_word(word) {
+        return None;
+    }
+    let mut number = 0;
+    for digit in word {
+        number = number * 10 + u16::from(*digit - b'0');
+    }
+    Some(number)
+}
+
+/// Whether a word is one to four decimal digits.
+#[tactic(auto, unfolding(crate::specs::Words::is_number_word))]
+fn is_number_word(word: &[u8]) -> bool
+    ensures { result ≡ is_number_word word.now }
+{
+    !word.is_empty() && word.len() <= NUMBER_MAX && are_digits(word)
+}
+
+/// Whether all bytes are ASCII digits.
+fn are_digits(word: &[u8]) -> bool
+    ensures { result ≡ list_all is_ascii_digit word.now }
+{
+    word.iter().all(|byte| byte.is_ascii_digit())
+}

@@ -1,0 +1,75 @@
+//! The mode.
+
+ghost use Rattle.std.specs.Prelude.{◌≡◌, ◌≤◌, None, true};
+ghost use Rattle.std.specs.Option.{option_copied};
+ghost use Rattle.outside.specs.Files.{SameFiles};
+ghost use Rattle.outside.specs.Told.{Goes, Rose};
+ghost use Rattle.otp_mode.specs.Command.{command_parts};
+ghost use Rattle.otp_mode.specs.Exact.{IsExact};
+ghost use Rattle.otp_mode.specs.Outcome.{IsOutcome, IsPrinting, ends_at_list};
+
+use crate::command::OtpCommand;
+use crate::fault::OtpFault;
+use crate::list::read_list;
+use crate::phrase::read_phrase;
+use crate::printing::{TEXT_MAX, put_password};
+use otp_hash::at;
+use otp_words::Dictionary;
+use outside::{Files, Stream};
+use std::alloc::Global;
+
+/// Runs the mode: reads the word list, if one is named, takes the pass phrase from the first line of
+/// the input, and prints its password, in hexadecimal groups and a newline, and where there is a
+/// word list in six words and a newline. The phrase is 10 to 63 bytes of printable ASCII, and no
+/// more than 4,096 bytes are received. The first fault ends it, in this order: of the word list, of
+/// the phrase, of the printing.
+pub fn run_otp<F: Files, E: Stream>(
+    alloc: Global,
+    command: &OtpCommand<'_>,
+    files: &mut F,
+    ends: &mut E,
+) -> Result<(), OtpFault>
+    ensures outcome { IsOutcome (command_parts command.now) (F.contents files.new)
+        (E.link ends.old) (E.link ends.new)
+        (Rose (F.read_faults files.old) (F.read_faults files.new))
+        (Rose (E.faults ends.old) (E.faults ends.new)) result }
+    ensures exact { IsExact (command_parts command.now) (F.contents files.new)
+        (E.link ends.old) (E.link ends.new)
+        (Rose (F.read_faults files.old) (F.read_faults files.new))
+        (Rose (E.faults ends.old) (E.faults ends.new)) result }
+    ensures no_list { (command_parts command.now).list ≡ None → files.new ≡ files.old }
+    ensures at_list { ends_at_list result ≡ true → ends.new ≡ ends.old }
+    ensures kept { Goes SameFiles (F.contents files.old) (F.contents files.new) }
+    ensures read_faults { F.read_faults files.old ≤ F.read_faults files.new }
+    ensures replace_faults { F.replace_faults files.old ≤ F.replace_faults files.new }
+    ensures faults { E.faults ends.old ≤ E.faults ends.new }
+{
+    let list = match command.list {
+        None => None,
+        Some(name) => Some(read_list(alloc, files, name)?),
+    };
+    print_password(command, list.as_ref(), ends)
+}
+
+/// Takes the pass phrase and prints its password.
+fn print_password<E: Stream>(
+    command: &OtpCommand<'_>,
+    list: Option<&Dictionary>,
+    ends: &mut E,
+) -> Result<(), OtpFault>
+    ensures printing { IsPrinting (command_parts command.now) (option_copied list.entry)
+        (E.link ends.old) (E.link ends.new) (Rose (E.faults ends.old) (E.faults ends.new)) result }
+    ensures faults { E.faults ends.old ≤ E.faults ends.new }
+{
+    let phrase = read_phrase(ends)?;
+    let password = at(
+        command.algo,
+        &command.seed,
+        phrase.as_slice(),
+        command.number,
+    );
+    let mut text = [0; TEXT_MAX];
+    let len = put_password(list, password, &mut text);
+    ends.send(&text[..len])?;
+    Ok(())
+}

@@ -1,0 +1,59 @@
+use Rattle.std.proofs.Common.{◌≡◌, ◌≢◌, ℕ, ◌≤◌, Bool, true, false, cond, ltb, List, [], ◌∷◌, ◌++◌, length, get_or, set, Option, Some, None, option_map, sym, ap, ◌∙◌, refl, arith, rules}
+use Rattle.std.specs.List.{find, position, position_or_len}
+use Rattle.std.specs.Option.{option_or}
+use Rattle.std.specs.Str.{bytes_eq}
+use Rattle.std.proofs.lemmas.Bool.{false_from_ne_true}
+use Rattle.std.proofs.lemmas.List.Folds.{find-append, find-set, find_at, find_past}
+use Rattle.std.proofs.lemmas.List.Quantifiers.{position-Some}
+use Rattle.std.proofs.lemmas.Option.{slice_get_past}
+use Rattle.std.proofs.lemmas.Slice.Eq.{bytes_eq-Decides}
+use Rattle.outside.specs.Files.{Replaced}
+use Rattle.outside.specs.MemFiles.{file_of}
+
+-- a name passes its own test, and no other
+bytes_eq-same : (a b : List ℕ) → a ≡ b → bytes_eq a b ≡ true
+bytes_eq-same a b e = (bytes_eq-Decides a b).1 e
+
+bytes_eq-other : (a b c : List ℕ) → bytes_eq a b ≡ true → c ≢ b → bytes_eq a c ≡ false
+bytes_eq-other a b c e ne =
+    false_from_ne_true (bytes_eq a c) (λ t. ne (sym ((bytes_eq-Decides a c).0 t) ∙ (bytes_eq-Decides a b).0 e))
+
+-- the place of the first that passes, where one does
+position-is : {X : Type 0} (p : X → Bool) (xs : List X) (i : ℕ) → position p xs ≡ Some i → i ≡ position_or_len p xs
+position-is p xs i e = grind arith
+
+-- nothing passes where there is no place
+find-none : {X : Type 0} (p : X → Bool) (xs : List X) → position p xs ≡ None → find p xs ≡ None
+find-none p xs e =
+    let past : length xs ≤ position_or_len p xs = grind arith in
+    find_at p xs ∙ slice_get_past xs (position_or_len p xs) past
+
+-- the first pair of a name has other bytes
+pub Replaced-set : (pairs : List (List ℕ × List ℕ)) (name bytes : List ℕ) (i : ℕ) (pair : List ℕ × List ℕ) → pair.0 ≡ name → pair.1 ≡ bytes → position (λ p. bytes_eq p.0 name) pairs ≡ Some i → Replaced name bytes (file_of pairs) (file_of (set pairs i pair))
+Replaced-set pairs name bytes i pair named holds at =
+    let found = position-Some (λ p. bytes_eq p.0 name) pairs i pair at in
+    let same = bytes_eq-same pair.0 name named in
+    record {
+      file = ap (option_map (λ p. p.1)) (find-set (λ p. bytes_eq p.0 name) pairs i pair (position-is (λ p. bytes_eq p.0 name) pairs i at) found.0 same) ∙ ap Some holds;
+      others = λ other ne. ap (option_map (λ p. p.1)) (find_past (λ p. bytes_eq p.0 other) pairs i pair pair (bytes_eq-other (get_or pairs i pair).0 name other found.1 ne) (bytes_eq-other pair.0 name other same ne));
+    }
+
+-- where the first part has none, the second counts, and where the second has none, the first
+find-first-none : {X : Type 0} (p : X → Bool) (xs : List X) (x : X) → find p xs ≡ None → p x ≡ true → find p (xs ++ x ∷ []) ≡ Some x
+find-first-none p xs x none passes = rw (find-append p xs (x ∷ []), none, passes) refl
+
+find-second-none : {X : Type 0} (p : X → Bool) (xs : List X) (x : X) → p x ≡ false → find p (xs ++ x ∷ []) ≡ find p xs
+find-second-none p xs x fails = rw (find-append p xs (x ∷ []), fails) (or-none (find p xs))
+  where
+    or-none : {Y : Type 0} (o : Option Y) → option_or o None ≡ o
+    or-none None = refl
+    or-none (Some y) = refl
+
+-- a pair of a new name is added
+pub Replaced-push : (pairs : List (List ℕ × List ℕ)) (name bytes : List ℕ) (pair : List ℕ × List ℕ) → pair.0 ≡ name → pair.1 ≡ bytes → position (λ p. bytes_eq p.0 name) pairs ≡ None → Replaced name bytes (file_of pairs) (file_of (pairs ++ pair ∷ []))
+Replaced-push pairs name bytes pair named holds at =
+    let same = bytes_eq-same pair.0 name named in
+    record {
+      file = ap (option_map (λ p. p.1)) (find-first-none (λ p. bytes_eq p.0 name) pairs pair (find-none (λ p. bytes_eq p.0 name) pairs at) same) ∙ ap Some holds;
+      others = λ other ne. ap (option_map (λ p. p.1)) (find-second-none (λ p. bytes_eq p.0 other) pairs pair (bytes_eq-other pair.0 name other same ne));
+    }

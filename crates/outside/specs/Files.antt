@@ -1,0 +1,27 @@
+use Rattle.std.specs.Prelude.{◌≡◌, ◌≢◌, ◌⊎◌, ℕ, List, take, drop, Option, Some, None, option_map}
+
+-- what stands in files: the bytes of the file of each name, if there is one
+abbrev pub Contents : Type 0
+Contents = List ℕ → Option (List ℕ)
+
+-- the bytes that a reading put to the front of the buffer, if there is a file
+abbrev pub bytes_read : Option ℕ → List ℕ → Option (List ℕ)
+bytes_read None buffer = None
+bytes_read (Some n) buffer = Some (take n buffer)
+
+-- the bytes of a file from a place on, as many as there is room for
+abbrev pub piece_of : Option (List ℕ) → ℕ → ℕ → Option (List ℕ)
+piece_of file offset room = option_map (λ bytes. take room (drop offset bytes)) file
+
+-- each file is as it was
+pub record SameFiles (before after : Contents) : Type 0 where
+  pub same : (name : List ℕ) → after name ≡ before name
+
+-- the file of this name has these bytes, and each other file is as it was
+pub record Replaced (name bytes : List ℕ) (before after : Contents) : Type 0 where
+  pub file : after name ≡ Some bytes
+  pub others : (other : List ℕ) → other ≢ name → after other ≡ before other
+
+-- the file of this name is as it was or has these bytes, and each other file is as it was
+pub record MayBeReplaced (name bytes : List ℕ) (before after : Contents) : Type 0 where
+  pub either : SameFiles before after ⊎ Replaced name bytes before after

@@ -1,0 +1,43 @@
+use Rattle.std.specs.Prelude.{ℕ, List, find, Option, option_map}
+use Rattle.std.specs.Str.{bytes_eq}
+use Rattle.outside.specs.declared.memory.fail.CallKind.TheVariants.{Read, Replace}
+use Rattle.outside.specs.declared.memory.fail.Fail.{Fail}
+use Rattle.outside.specs.declared.memory.files.MemFiles.{MemFiles}
+use Rattle.outside.specs.Failures.{failure_of, next_number}
+use Rattle.outside.specs.Files.{Contents}
+use Rattle.outside.specs.Told.{told_if}
+
+-- the bytes of the first of these pairs that has the name, if there is one
+abbrev pub file_of : List (List ℕ × List ℕ) → List ℕ → Option (List ℕ)
+file_of pairs name = option_map (λ p. p.1) (find (λ p. bytes_eq p.0 name) pairs)
+
+-- what stands in the files, if they tell it
+abbrev pub contents_of : MemFiles → Option Contents
+contents_of f = told_if f.telling (file_of f.pairs.items)
+
+-- how many readings failed
+abbrev pub read_faults_of : MemFiles → ℕ
+read_faults_of f = f.read_faults
+
+-- how many replacings failed
+abbrev pub replace_faults_of : MemFiles → ℕ
+replace_faults_of f = f.replace_faults
+
+-- what files in memory go by: the calls that are to fail, and how many of each kind were asked of
+-- them
+pub record FilesSchedule : Type 0 where
+  pub fails : List Fail
+  pub reads : ℕ
+  pub replaces : ℕ
+
+-- what the files go by
+abbrev pub files_schedule : MemFiles → FilesSchedule
+files_schedule f = record { fails = f.fails.items; reads = f.reads; replaces = f.replaces }
+
+-- the failure of the next reading, if it is to fail
+abbrev pub read_failure : FilesSchedule → Option ℕ
+read_failure s = failure_of s.fails Read (next_number s.reads)
+
+-- the failure of the next replacing, if it is to fail
+abbrev pub replace_failure : FilesSchedule → Option ℕ
+replace_failure s = failure_of s.fails Replace (next_number s.replaces)

@@ -1,0 +1,41 @@
+ghost use Rattle.std.specs.Prelude.{◌≡◌, ℕ, ◌≤◌, length, Option, IfOk, IfSome, OnErr, OnOk};
+ghost use Rattle.outside.specs.Files.{Contents, MayBeReplaced, Replaced, SameFiles, bytes_read, piece_of};
+ghost use Rattle.outside.specs.Told.{Goes, Rose};
+
+use crate::act::Failed;
+use crate::bytes::Word;
+
+/// Files, each with a name.
+pub trait Files: Drop {
+    // What stands in the files, where they tell it.
+    ghost contents: { Self → Option Contents };
+
+    // How many readings failed.
+    ghost read_faults: { Self → ℕ };
+
+    // How many replacings failed.
+    ghost replace_faults: { Self → ℕ };
+
+    /// Reads a file from the byte at `offset` on into the front of `buf`, and answers how many
+    /// bytes: as many as `buf` has room for, or as many as there are. `None`: there is no such
+    /// file.
+    fn read(&mut self, name: &Word, offset: u64, buf: &mut [u8]) -> Result<Option<usize>, Failed>
+        ensures bound { IfOk result (λ found. IfSome found (λ n. n ≤ length buf.old)) }
+        ensures found { IfOk result (λ found. IfSome (contents self.new) (λ files.
+            bytes_read found buf.new ≡ piece_of (files name.now) offset (length buf.old))) }
+        ensures kept { Goes SameFiles (contents self.old) (contents self.new) }
+        ensures failed { OnErr result (Rose (read_faults self.old) (read_faults self.new)) }
+        ensures read_faults { read_faults self.old ≤ read_faults self.new }
+        ensures replace_faults { replace_faults self.old ≤ replace_faults self.new };
+
+    /// Replaces what a file holds, or makes the file. `Failed`: it is as it was, or has been
+    /// replaced.
+    fn replace(&mut self, name: &Word, bytes: &[u8]) -> Result<(), Failed>
+        ensures ok { OnOk result (Goes (Replaced name.now bytes.now) (contents self.old)
+            (contents self.new)) }
+        ensures err { OnErr result (Goes (MayBeReplaced name.now bytes.now) (contents self.old)
+            (contents self.new)) }
+        ensures failed { OnErr result (Rose (replace_faults self.old) (replace_faults self.new)) }
+        ensures read_faults { read_faults self.old ≤ read_faults self.new }
+        ensures replace_faults { replace_faults self.old ≤ replace_faults self.new };
+}

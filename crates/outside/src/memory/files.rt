@@ -1,0 +1,202 @@
+ghost use Rattle.std.specs.Prelude.{◌≡◌, ◌↔◌, ◌≤◌, [], ◌++◌, drop, IfOk, IfSome, IsErr, IsSome, IsTrue, length, OnErr, OnOk, option_map, Some, None, take};
+ghost use Rattle.std.specs.List.{position};
+ghost use Rattle.std.specs.Str.{bytes_eq};
+ghost use Rattle.outside.specs.MemFiles.{file_of};
+ghost use Rattle.outside.specs.Failures.{next_number};
+ghost use Rattle.outside.specs.Files.{MayBeReplaced, Replaced, SameFiles, bytes_read, piece_of};
+ghost use Rattle.outside.specs.Told.{Goes, Rose};
+
+use super::fail::{CallKind, Fail, find_failure};
+use crate::act::Failed;
+use crate::bytes::{Bytes, Word};
+use crate::files::Files;
+use std::alloc::{AllocError, Global};
+
+/// Files in memory. They tell what stands in them as long as memory is found for it.
+#[derive(Debug, Drop)]
+pub struct MemFiles {
+    alloc: Global,
+    pairs: Vec<(Word, Bytes)>,
+    telling: bool,
+    fails: Vec<Fail>,
+    reads: u64,
+    replaces: u64,
+    read_faults: u64,
+    replace_faults: u64,
+}
+
+/// Copies of a name and of bytes.
+fn pair_of(alloc: Global, name: &Word, bytes: &[u8]) -> Result<(Word, Bytes), AllocError>
+    ensures { IfOk result (λ pair. (pair.0 ≡ name.now) × (pair.1 ≡ bytes.now)) }
+{
+    Ok((
+        Word::of(alloc, name.as_str().as_bytes())?,
+        Bytes::of(alloc, bytes)?,
+    ))
+}
+
+impl MemFiles {
+    ghost use Rattle.outside.specs.MemFiles.{contents_of, file_of, files_schedule, read_faults_of, replace_faults_of};
+
+    /// Files with these names and bytes; of two pairs with one name the first counts. Their calls
+    /// fail exactly where `fails` lists them.
+    pub fn new(
+        alloc: Global,
+        pairs: &[(Word, Bytes)],
+        fails: &[Fail],
+    ) -> Result<MemFiles, AllocError>
+        ensures contents { IfOk result (λ f. contents_of f ≡ Some (file_of pairs.now)) }
+        ensures read_faults { IfOk result (λ f. read_faults_of f ≡ 0) }
+        ensures replace_faults { IfOk result (λ f. replace_faults_of f ≡ 0) }
+        ensures schedule { IfOk result (λ f. files_schedule f
+            ≡ record { fails = fails.now; reads = 0; replaces = 0 }) }
+    {
+        let mut copies = Vec::new(alloc);
+        for (name, bytes) in pairs {
+            copies.push(pair_of(alloc, name, bytes.as_slice())?)?;
+        }
+        Ok(MemFiles {
+            alloc,
+            pairs: copies,
+            telling: true,
+            fails: Vec::from_slice(alloc, fails)?,
+            reads: 0,
+            replaces: 0,
+            read_faults: 0,
+            replace_faults: 0,
+        })
+    }
+
+    /// Whether they tell what stands in them.
+    pub fn tells(&self) -> bool
+        ensures { IsTrue result ↔ IsSome (contents_of self.now) }
+    {
+        self.telling
+    }
+
+    /// The bytes of a file, where they tell them. `None`: there is no such file.
+    pub fn file(&self, name: &Word) -> Option<&[u8]>
+        ensures { IfSome (contents_of self.now)
+            (λ files. option_map (λ bytes. bytes.now) result ≡ files name.now) }
+    {
+        find_file(&self.pairs, name)
+    }
+}
+
+/// The bytes of the first pair that has the name.
+fn find_file<'a>(pairs: &'a [(Word, Bytes)], name: &Word) -> Option<&'a [u8]>
+    ensures { option_map (λ bytes. bytes.now) result ≡ file_of pairs.now name.now }
+{
+    pairs
+        .iter()
+        .find(|pair| pair.0.as_slice() == name.as_slice())
+        .map(|pair| pair.1.as_slice())
+}
+
+/// Puts bytes into the file of a name, in place of those that it had.
+fn put_file(
+    alloc: Global,
+    pairs: &mut Vec<(Word, Bytes)>,
+    name: &Word,
+    bytes: &[u8],
+) -> Result<(), AllocError>
+    ensures { OnOk result
+        (Replaced name.now bytes.now (file_of pairs.old.items) (file_of pairs.new.items)) }
+{
+    let pair = pair_of(alloc, name, bytes)?;
+    match place_of(pairs, name) {
+        Some(place) => pairs[place] = pair,
+        None => pairs.push(pair)?,
+    }
+    Ok(())
+}
+
+/// The place of the first pair that has the name.
+fn place_of(pairs: &[(Word, Bytes)], name: &Word) -> Option<usize>
+    ensures { result ≡ position (λ p. bytes_eq p.0 name.now) pairs.now }
+{
+    pairs
+        .iter()
+        .position(|pair| pair.0.as_slice() == name.as_slice())
+}
+
+impl Files for MemFiles {
+    ghost use Rattle.outside.specs.MemFiles.{contents_of, files_schedule, read_failure, read_faults_of, replace_failure, replace_faults_of};
+
+    ghost contents = { contents_of };
+
+    ghost read_faults = { read_faults_of };
+
+    ghost replace_faults = { replace_faults_of };
+
+    /// Reads the bytes from the offset on. It fails exactly where its list says so.
+    fn read(&mut self, name: &Word, offset: u64, buf: &mut [u8]) -> Result<Option<usize>, Failed>
+        ensures bound { IfOk result (λ found. IfSome found (λ n. n ≤ length buf.old)) }
+        ensures found { IfOk result (λ found. IfSome (contents_of self.new) (λ files.
+            bytes_read found buf.new ≡ piece_of (files name.now) offset (length buf.old))) }
+        ensures kept { Goes SameFiles (contents_of self.old) (contents_of self.new) }
+        ensures failed { OnErr result (Rose (read_faults_of self.old) (read_faults_of self.new)) }
+        ensures read_faults { read_faults_of self.old ≤ read_faults_of self.new }
+        ensures replace_faults { replace_faults_of self.new ≡ replace_faults_of self.old }
+
+        ensures listed { IsErr result ↔ IsSome (read_failure (files_schedule self.old)) }
+        ensures tells { IsSome (contents_of self.old) → IsSome (contents_of self.new) }
+        ensures rest { IfOk result (λ found. IfSome found (λ n. drop n buf.new ≡ drop n buf.old)) }
+        ensures schedule { files_schedule self.new ≡ record (files_schedule self.old) {
+          reads = next_number (files_schedule self.old).reads;
+        } }
+    {
+        self.reads = self.reads.saturating_add(1);
+        if find_failure(&self.fails, CallKind::Read, self.reads).is_some() {
+            self.read_faults = self.read_faults.saturating_add(1);
+            return Err(Failed);
+        }
+        let Some(bytes) = find_file(&self.pairs, name) else {
+            return Ok(None);
+        };
+        Ok(Some(copy_from(bytes, offset, buf)))
+    }
+
+    /// Replaces what a file holds. It fails exactly where its list says so, and then keeps it.
+    fn replace(&mut self, name: &Word, bytes: &[u8]) -> Result<(), Failed>
+        ensures ok { OnOk result (Goes (Replaced name.now bytes.now) (contents_of self.old)
+            (contents_of self.new)) }
+        ensures err { OnErr result (Goes (MayBeReplaced name.now bytes.now) (contents_of self.old)
+            (contents_of self.new)) }
+        ensures failed { OnErr result (Rose (replace_faults_of self.old) (replace_faults_of self.new)) }
+        ensures read_faults { read_faults_of self.new ≡ read_faults_of self.old }
+        ensures replace_faults { replace_faults_of self.old ≤ replace_faults_of self.new }
+
+        ensures listed { IsErr result ↔ IsSome (replace_failure (files_schedule self.old)) }
+        ensures kept { OnErr result (contents_of self.new ≡ contents_of self.old) }
+        ensures schedule { files_schedule self.new ≡ record (files_schedule self.old) {
+          replaces = next_number (files_schedule self.old).replaces;
+        } }
+    {
+        self.replaces = self.replaces.saturating_add(1);
+        if find_failure(&self.fails, CallKind::Replace, self.replaces).is_some() {
+            self.replace_faults = self.replace_faults.saturating_add(1);
+            return Err(Failed);
+        }
+        if put_file(self.alloc, &mut self.pairs, name, bytes).is_err() {
+            self.telling = false;
+        }
+        Ok(())
+    }
+}
+
+/// Copies bytes from an offset on to the front of a buffer, as many as there is room for, and gives
+/// how many.
+fn copy_from(bytes: &[u8], offset: u64, buf: &mut [u8]) -> usize
+    ensures bound { result ≤ length buf.old }
+    ensures piece { take result buf.new ≡ take (length buf.old) (drop offset bytes.now) }
+    ensures rest { drop result buf.new ≡ drop result buf.old }
+{
+    let start = bytes
+        .len()
+        .min(usize::try_from(offset).unwrap_or(usize::MAX));
+    let left = &bytes[start..];
+    let n = left.len().min(buf.len());
+    buf[..n].copy_from_slice(&left[..n]);
+    n
+}

@@ -1,0 +1,10 @@
+use Rattle.std.specs.Prelude.{ℕ}
+use Rattle.outside_real.specs.declared.files.RealFiles.{RealFiles}
+
+-- how many readings failed
+abbrev pub read_faults_of : {R : Type 0} → RealFiles R → ℕ
+read_faults_of f = f.read_faults
+
+-- how many replacings failed
+abbrev pub replace_faults_of : {R : Type 0} → RealFiles R → ℕ
+replace_faults_of f = f.replace_faults

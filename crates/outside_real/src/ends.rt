@@ -1,0 +1,58 @@
+ghost use Rattle.std.specs.Prelude.{◌≡◌, ◌≤◌, IfOk, None, OnOk, length};
+ghost use Rattle.std.specs.Io.KnownBytes.{Appends};
+ghost use Rattle.outside.specs.declared.act.Role.{Role};
+ghost use Rattle.outside_real.specs.Counts.{Counts};
+
+use crate::counted::counted;
+use outside::{Failed, Role, Stream};
+use std::io::{Read, Write};
+
+/// A reader and a writer as one stream, as standard input and output.
+#[derive(Drop)]
+pub struct RealEnds<I, O> {
+    input: I,
+    output: O,
+    faults: u64,
+}
+
+impl<I, O> RealEnds<I, O> {
+    ghost use Rattle.outside_real.specs.RealEnds.{faults_of};
+
+    /// What is received comes from this reader, and what is sent goes to this writer.
+    pub fn new(input: I, output: O) -> RealEnds<I, O>
+        ensures faultless { faults_of result ≡ 0 }
+    {
+        RealEnds {
+            input,
+            output,
+            faults: 0,
+        }
+    }
+}
+
+impl<I: Read + Drop + Send, O: Write + Drop + Send> Stream for RealEnds<I, O> {
+    ghost use Rattle.outside_real.specs.RealEnds.{faults_of, output_of};
+
+    ghost link = { λ _. None };
+
+    ghost faults = { faults_of };
+
+    ghost role = { λ _. Role.Pre 0 };
+
+    /// Reads what there is. It fails exactly where the reader does.
+    fn recv(&mut self, buf: &mut [u8]) -> Result<usize, Failed>
+        ensures bound { IfOk result (λ n. n ≤ length buf.old) }
+        ensures count { Counts result (faults_of self.old) (faults_of self.new) }
+    {
+        counted(&mut self.faults, self.input.read(buf))
+    }
+
+    /// Writes all bytes. It fails exactly where the writer does.
+    fn send(&mut self, bytes: &[u8]) -> Result<(), Failed>
+        ensures written { OnOk result (Appends (O.contents (output_of self.old))
+            (O.contents (output_of self.new)) bytes.now) }
+        ensures count { Counts result (faults_of self.old) (faults_of self.new) }
+    {
+        counted(&mut self.faults, self.output.write_all(bytes))
+    }
+}
