@@ -1,3 +1,12 @@
 pub mod Decimals
-pub mod Logs
 pub mod Steps
+pub mod Serving
+pub mod Turns
+pub mod Faults
+pub mod Closing
+pub mod Opening
+pub mod Stories
+pub mod Ran
+pub mod Logs
+pub mod Headline
+pub mod Modes

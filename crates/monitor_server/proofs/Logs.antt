@@ -10,7 +10,8 @@ use Rattle.policy_model.specs.declared.event.Decision.{Decision}
 use Rattle.policy_model.specs.declared.event.Event.{Event}
 use Rattle.policy_model.specs.Asks.{is_lost}
 use Rattle.policy_model.specs.Journal.{has_lost, kept_events}
-use Rattle.policy_model.specs.Legal.{event_with, next_event}
+use Rattle.policy_model.specs.Narrow.{next_event}
+use Rattle.policy_model.specs.Legal.{event_with}
 use Rattle.policy_model.specs.Settings.{Settings}
 use Rattle.policy_model.proofs.Lists.{filter-push}
 use Rattle.policy_model.proofs.Runs.{has_lost-push}

@@ -7,7 +7,8 @@ use Rattle.policy_model.specs.declared.event.Why.{Why}
 use Rattle.policy_model.specs.declared.event.Event.{Event}
 use Rattle.policy_model.specs.Asks.{is_lost, is_proper, is_proper_why, is_request}
 use Rattle.policy_model.specs.Journal.{open_session_of}
-use Rattle.policy_model.specs.Runs.{IsAfter, IsIdle, IsRun, IsServing, OthersStay}
+use Rattle.policy_model.specs.Narrow.{IsAfter, IsRun, IsServing}
+use Rattle.policy_model.specs.Runs.{IsIdle, OthersStay}
 use Rattle.policy_model.specs.Settings.{Settings, quota_of}
 use Rattle.policy_model.proofs.Runs.{IsRun-none, IsRun-push, Opens, OthersStay-none, OthersStay-push, OthersStay-then, begins, goes_on, has_lost-now, idle_after, idle_open, stays_open}
 use Rattle.monitor_server.specs.Book.{Joins}

@@ -1,6 +1,8 @@
 -- What is answered to a request, and whether its session ends.
-use Rattle.std.specs.Prelude.{◌≡◌, ◌≤◌, Bool, true, false, [], Option, Some, None}
+use Rattle.std.specs.Prelude.{◌≡◌, ◌≤◌, Bool, true, false, [], Option, Some, None, Result, Ok, Err}
 use Rattle.request_catalogue.specs.declared.request.Bad.{Bad}
+use Rattle.request_catalogue.specs.declared.request.Request.{Request}
+use Rattle.request_catalogue.specs.Catalogue.{RequestValue, value_of}
 use Rattle.request_catalogue.specs.Replies.{AnswerValue, Denied, Device, Done}
 use Rattle.policy_model.specs.declared.event.Decision.{Decision}
 use Rattle.policy_model.specs.declared.event.Decision.TheVariants as decisions
@@ -14,6 +16,11 @@ use Rattle.session_model.specs.Parts.{why_of}
 pub record IsRuleOfBad (bad : Bad) : Type 0 where
   pub low : 2 ≤ bad.rule
   pub high : bad.rule ≤ 5
+
+-- the request that was read, without where its bytes lie in memory
+abbrev pub read_value : Result Request Bad → Result RequestValue Bad
+read_value (Ok request) = Ok (value_of request)
+read_value (Err bad) = Err bad
 
 -- what is answered to a decision, where its operation went well or not
 abbrev pub answered : Decision → Bool → Option AnswerValue

@@ -6,12 +6,13 @@ use Rattle.policy_model.specs.declared.event.Decision.{Decision}
 use Rattle.policy_model.specs.declared.event.Decision.TheVariants.{Lost}
 use Rattle.policy_model.specs.Asks.{is_lost}
 use Rattle.policy_model.specs.Journal.{has_lost}
-use Rattle.policy_model.specs.Legal.{IsNext, event_with, next_event}
+use Rattle.policy_model.specs.Narrow.{IsNext, next_event, verdict_of}
+use Rattle.policy_model.specs.Legal.{event_with}
 use Rattle.policy_model.specs.Settings.{Settings}
 use Rattle.outside.specs.Told.{Gains, GainsPart, Rose}
 use Rattle.session_model.specs.Log.{line_of}
 use Rattle.monitor_server.specs.Headline.{LogMatches}
-use Rattle.policy_model.specs.Verdict.{NamesRule, verdict_of}
+use Rattle.policy_model.specs.Verdict.{NamesRule}
 
 -- a decision on a worker's ask: the policy's, or lost; lost where one was lost before
 pub record IsDecided (setup : Settings) (journal : List Event) (worker : ℕ) (ask : Ask) (decision : Decision) : Type 0 where

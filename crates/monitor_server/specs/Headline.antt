@@ -1,23 +1,24 @@
 -- What the top call promises of a whole run, in its parts.
 use Rattle.std.specs.Prelude.{◌≡◌, ◌≢◌, ◌⊎◌, ℕ, ◌+◌, ◌<◌, ◌≤◌, Bool, true, false, ◌&&◌, ◌==◌, List, [], ◌∷◌, ◌++◌, length, take, find, count_by, codes, slice_get, Option, Some, None, IfSome}
 use Rattle.std.specs.List.{AllByRecursion, last_or, list_any}
+use Rattle.otp_mode.specs.Words.{OtpParts, otp_command}
 use Rattle.outside.specs.Told.{Goes}
 use Rattle.outside.specs.Scene.{Scene}
 use Rattle.outside.specs.declared.act.Act.{Act}
 use Rattle.outside.specs.declared.act.Act.TheVariants.{Accept}
 use Rattle.outside.specs.declared.act.Accepted.TheVariants as accepted
 use Rattle.policy_model.specs.declared.event.Ask.{Ask}
-use Rattle.policy_model.specs.declared.event.Ask.TheVariants.{End}
-use Rattle.policy_model.specs.declared.event.Why.TheVariants.{LinkFault, KeeperFault, LogLost}
 use Rattle.policy_model.specs.declared.event.Event.{Event}
 use Rattle.policy_model.specs.Asks.{is_lost, opens}
 use Rattle.policy_model.specs.Journal.{has_lost, kept_events}
-use Rattle.policy_model.specs.Legal.{IsLegal, next_event}
+use Rattle.policy_model.specs.Narrow.{IsLegal, next_event}
 use Rattle.policy_model.specs.Runs.{IsOfWorker, IsProperEvent}
 use Rattle.policy_model.specs.Settings.{Settings}
+use Rattle.session_model.specs.Ends.{is_fault_end, is_keeper_end, is_link_end}
 use Rattle.session_model.specs.Log.{line_of, log_text}
+use Rattle.session_model.specs.Parts.{IsAnswered}
 use Rattle.session_model.specs.Sittings.{AreSittingsOf, Sitting}
-use Rattle.session_model.specs.Stories.{IsStory, LastAccept, story_acts}
+use Rattle.session_model.specs.Stories.{IsStory, LastAccept, is_stop, parts_of, story_acts}
 
 -- the words of the command that serves the plain setup
 abbrev pub serve_words : List (List ℕ)
@@ -69,12 +70,6 @@ LogMatches setup journal before after = Goes (HoldsLines setup journal) before a
 
 -- ---- the length of the run
 
--- an accept by which no connection came
-abbrev pub is_stop : Act → Bool
-is_stop (Accept accepted.NoneLeft) = true
-is_stop (Accept accepted.Failed) = true
-is_stop _ = false
-
 abbrev pub openings_by : List Event → ℕ → ℕ
 openings_by journal worker = count_by (λ e. e.worker == worker && opens e) journal
 
@@ -105,33 +100,57 @@ is_fault (Some act) = is_failed_accept act
 abbrev pub ends_by_accept_fault : Scene → Bool
 ends_by_accept_fault scene = is_fault (last_or None scene.acts)
 
--- the statuses of a run
+-- the statuses of the program
+abbrev pub statuses : List ℕ
+statuses = 0 ∷ 2 ∷ 3 ∷ 4 ∷ 5 ∷ 6 ∷ 7 ∷ 9 ∷ 10 ∷ 11 ∷ 12 ∷ []
+
 abbrev pub IsStatus : ℕ → Type 0
-IsStatus status = (status ≡ 0) ⊎ (status ≡ 2) ⊎ (status ≡ 6) ⊎ (status ≡ 7) ⊎ (status ≡ 9) ⊎ (status ≡ 10)
+IsStatus status = list_any (λ s. s == status) statuses ≡ true
+
+-- the words of a command: `serve`, or those of the mode `otp`
+abbrev pub IsCommand : List (List ℕ) → Type 0
+IsCommand words = (words ≡ serve_words) ⊎ ((parts : OtpParts) × (otp_command words ≡ Some parts))
 
 -- what comes only for its cause, and what comes exactly for it; rose says that a count rose in this call
 pub record StatusHasCause {P : Type 0} (words : List (List ℕ)) (status : ℕ) (setup : Settings) (journal : List Event) (posts : List P) (scene : P → Option Scene) (accept_faults : P → ℕ) (ListenRose LogRose : Type 0) : Type 0 where
   pub listed : IsStatus status
-  pub no_command : words ≢ serve_words → status ≡ 2
-  pub command : status ≡ 2 → words ≢ serve_words
-  pub listen_fault : status ≡ 6 → ListenRose
+  pub no_command : ¬ (IsCommand words) → status ≡ 2
+  pub command : status ≡ 2 → ¬ (IsCommand words)
+  pub listen_fault : status ≡ 6 → (words ≡ serve_words) × ListenRose
   pub lost : has_lost journal ≡ true → status ≡ 7
   pub log_lost : status ≡ 7 → (has_lost journal ≡ true) × LogRose
   pub accept_fault : status ≡ 10 → (worker : ℕ) × (post : P) × (slice_get posts worker ≡ Some post) × (0 < accept_faults post) × IfSome (scene post) (λ s. ends_by_accept_fault s ≡ true)
   pub success : status ≡ 0 → (has_lost journal ≡ false) × EachScene scene posts (λ worker s. ends_by_accept_fault s ≡ false) × RunsToQuota setup scene journal posts
-  pub one_each : (status ≡ 0) ⊎ (status ≡ 7) ⊎ (status ≡ 10) → length posts ≡ setup.workers
+  pub one_each : words ≡ serve_words → (status ≡ 0) ⊎ (status ≡ 7) ⊎ (status ≡ 10) → length posts ≡ setup.workers
+
+-- ---- the ends by a fault
+
+abbrev pub ends_by : (Ask → Bool) → List Event → ℕ → ℕ
+ends_by test journal worker = count_by (λ e. e.worker == worker && test e.ask) journal
+
+-- of a worker's ends at most as many are by a fault of a link or of a start as its post counts
+pub record FaultEndsAreCounted {P : Type 0} (link_faults keeper_faults : P → ℕ) (journal : List Event) (posts : List P) : Type 0 where
+  pub link : (worker : ℕ) (post : P) → slice_get posts worker ≡ Some post → ends_by is_link_end journal worker ≤ link_faults post
+  pub keeper : (worker : ℕ) (post : P) → slice_get posts worker ≡ Some post → ends_by is_keeper_end journal worker ≤ keeper_faults post
 
 -- ---- completeness
 
--- an end that a fault of the outside causes
-abbrev pub is_fault_end : Ask → Bool
-is_fault_end (End LinkFault) = true
-is_fault_end (End KeeperFault) = true
-is_fault_end (End LogLost) = true
-is_fault_end _ = false
+-- no count of a post is above 0
+pub record IsFaultless {P : Type 0} (accept_faults keeper_faults link_faults : P → ℕ) (post : P) : Type 0 where
+  pub no_accept_fault : accept_faults post ≡ 0
+  pub no_keeper_fault : keeper_faults post ≡ 0
+  pub no_link_fault : link_faults post ≡ 0
 
--- without a fault `serve` succeeds, unless memory is wanted: nothing is lost, and each session ends by what its child did
-pub record IsComplete (words : List (List ℕ)) (status : ℕ) (journal : List Event) (NoFault : Type 0) : Type 0 where
-  pub succeeds : words ≡ serve_words → NoFault → (status ≡ 0) ⊎ (status ≡ 9)
-  pub kept : NoFault → status ≡ 0 → has_lost journal ≡ false
-  pub ended : NoFault → status ≡ 0 → list_any (λ e. is_fault_end e.ask) journal ≡ false
+-- no call of the site, of a post and of the log failed, as their counts tell; a fault of a connection is itself answered
+pub record NoFault {P : Type 0} (ListenRose LogRose : Type 0) (accept_faults keeper_faults link_faults : P → ℕ) (posts : List P) : Type 0 where
+  pub listen : ¬ ListenRose
+  pub log : ¬ LogRose
+  pub each : (worker : ℕ) (post : P) → slice_get posts worker ≡ Some post → IsFaultless accept_faults keeper_faults link_faults post
+
+-- without a fault `serve` succeeds, unless memory is wanted: nothing is lost, each session ends by what its child did, and
+-- each of its requests is answered
+pub record IsComplete {P : Type 0} (words : List (List ℕ)) (status : ℕ) (scene : P → Option Scene) (journal : List Event) (posts : List P) (NoFaultRose : Type 0) : Type 0 where
+  pub succeeds : words ≡ serve_words → NoFaultRose → (status ≡ 0) ⊎ (status ≡ 9)
+  pub kept : NoFaultRose → status ≡ 0 → has_lost journal ≡ false
+  pub ended : NoFaultRose → status ≡ 0 → list_any (λ e. is_fault_end e.ask) journal ≡ false
+  pub answered : NoFaultRose → status ≡ 0 → EachScene scene posts (λ worker s. (sittings : List Sitting) × (last : LastAccept) × AreSittingsOf journal worker sittings × IsStory sittings last s × AllByRecursion IsAnswered (parts_of sittings))

@@ -2,5 +2,8 @@ pub mod Asking
 pub mod Book
 pub mod Headline
 pub mod Line
+pub mod Modes
+pub mod Ran
 pub mod Room
+pub mod Serving
 pub mod Session

@@ -3,7 +3,8 @@ use Rattle.std.specs.Prelude.{◌≡◌, ℕ, ◌+◌, ◌*◌, ◌≤◌, true,
 use Rattle.policy_model.specs.declared.event.Event.{Event}
 use Rattle.policy_model.specs.Asks.{ends_session, is_lost}
 use Rattle.policy_model.specs.Journal.{asks_of, has_lost, open_session_of}
-use Rattle.policy_model.specs.Runs.{IsAfter, IsIdle, IsRun, IsServing, OthersStay}
+use Rattle.policy_model.specs.Narrow.{IsAfter, IsRun, IsServing}
+use Rattle.policy_model.specs.Runs.{IsIdle, OthersStay}
 use Rattle.policy_model.specs.Settings.{Settings, quota_of}
 
 -- a request of a session joined the journal: where the session goes on, it has made one ask more, within the limit

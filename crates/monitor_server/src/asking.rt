@@ -1,7 +1,6 @@
 //! What a child asks by a message, and what it is answered.
 
-ghost use Rattle.std.specs.Prelude.{◌≡◌, ◌≤◌, true, IfOk, IfErr, IfSome, MatchResult, is_ok};
-ghost use Rattle.std.specs.Option.{option_map};
+ghost use Rattle.std.specs.Prelude.{◌≡◌, ◌≤◌, true, false, Some, IfOk, IfErr, IfSome, MatchResult, is_ok};
 ghost use Rattle.request_catalogue.specs.Catalogue.{IsInRange, value_of};
 ghost use Rattle.request_catalogue.specs.Replies as replies;
 ghost use Rattle.policy_model.specs.Asks.{ends_session, is_lost, is_proper, is_proper_why, is_request};
@@ -71,14 +70,15 @@ pub(crate) fn ask_of(read: &Result<Request<'_>, Bad>) -> Ask
 }
 
 /// The answer to a decision that isn't lost, by what came of its operation.
-pub(crate) fn answer_of(decision: &Decision, outcome: Result<(), Failed>) -> Option<Answer<'static>>
-    ensures { option_map replies.answer_of result ≡ answered decision.now (is_ok outcome) }
+pub(crate) fn answer_of(decision: &Decision, outcome: Result<(), Failed>) -> Answer<'static>
+    requires { is_lost decision.now ≡ false }
+    ensures { Some (replies.answer_of result) ≡ answered decision.now (is_ok outcome) }
 {
     match *decision {
-        Decision::Permit { .. } if outcome.is_ok() => Some(Answer::Done { body: &[] }),
-        Decision::Permit { .. } => Some(Answer::Device { device: CONNECTION }),
-        Decision::Deny { rule, detail } => Some(Answer::Denied { rule, detail }),
-        Decision::Lost => None,
+        Decision::Permit { .. } if outcome.is_ok() => Answer::Done { body: &[] },
+        Decision::Permit { .. } => Answer::Device { device: CONNECTION },
+        Decision::Deny { rule, detail } => Answer::Denied { rule, detail },
+        Decision::Lost => unreachable!(),
     }
 }
 

@@ -8,7 +8,7 @@ ghost use Rattle.monitor_server.specs.Room.{HasRoom};
 
 use crate::line::line_of;
 use outside::{Failed, Sink};
-use policy_model::{Ask, Decision, Event, Setup, event_after, has_lost, judge};
+use policy_model::{Ask, Decision, Event, Setup, event_after, has_lost, judge_narrow};
 
 /// All events of a run, and the log that has a line of each.
 #[derive(Drop)]
@@ -47,7 +47,7 @@ impl<K: Sink> Book<K> {
         if has_lost(&self.journal) {
             return Decision::Lost;
         }
-        let decision = judge(setup, &self.journal, worker, ask);
+        let decision = judge_narrow(setup, &self.journal, worker, ask);
         let event = event_after(&self.journal, worker, ask, &decision);
         let line = line_of(self.journal.len() as u64 + 1, &event);
         match self.log.append(line.as_slice()) {

@@ -6,11 +6,12 @@ mod book;
 mod buffers;
 mod line;
 mod report;
+mod run;
 mod session;
 mod top;
 mod worker;
 
-pub use report::Report;
+pub use report::{Detail, FileKind, Report};
 pub use top::otplogd;
 
 #[cfg(test)]

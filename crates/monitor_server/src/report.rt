@@ -1,16 +1,60 @@
+//! What a run came to.
+
+ghost use Rattle.std.specs.Prelude.{◌≡◌};
+ghost use Rattle.monitor_server.specs.Headline.{IsUnused};
+
+use otp_words::DictFault;
 use policy_model::Event;
+use std::alloc::Global;
+
+/// A file that the words of the command line name.
+#[derive(Clone, Copy, PartialEq, Eq, Debug)]
+pub enum FileKind {
+    /// The word list.
+    Words,
+}
+
+/// What an exit status alone doesn't tell.
+#[derive(Clone, Copy, PartialEq, Eq, Debug)]
+pub enum Detail {
+    /// There is no more to tell.
+    Nothing,
+    /// A file is not there, with status 4.
+    Missing { file: FileKind },
+    /// The word list is refused by this fault, with status 5.
+    WordsBad(DictFault),
+}
 
 /// What a run came to.
 #[derive(Drop)]
 pub struct Report<P, K> {
     /// The program's exit status: 0 where nothing below applies, 2 where the words are no command,
+    /// 3 where a file could not be read, 4 where one isn't there, 5 where a word list is refused,
     /// 6 where the site could not listen, 7 where the log could not be written, 9 where memory was
-    /// wanted, 10 where a worker could not wait for a connection.
+    /// wanted, 10 where a worker could not wait for a connection, 11 where the ends failed, 12 where
+    /// the pass phrase is refused.
     pub status: u8,
+    /// Which file is missing, or what is wrong with it.
+    pub detail: Detail,
     /// All events of the run, in the order in which they were decided.
     pub journal: Vec<Event>,
     /// The log that was handed in.
     pub log: K,
-    /// The posts of the workers, in their order.
+    /// The posts of the workers, in their order; none where nobody was served.
     pub posts: Vec<P>,
+}
+
+/// A report of a mode that served nobody.
+pub(crate) fn unused<P, K>(alloc: Global, status: u8, detail: Detail, log: K) -> Report<P, K>
+    ensures status { result.status ≡ status }
+    ensures detail { result.detail ≡ detail }
+    ensures unused { IsUnused log result.log result.journal.items result.posts.items }
+{
+    Report {
+        status,
+        detail,
+        journal: Vec::new(alloc),
+        log,
+        posts: Vec::new(alloc),
+    }
 }

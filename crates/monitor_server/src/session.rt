@@ -1,12 +1,18 @@
 //! One session: its opening, the requests of its child, its end.
 
-ghost use Rattle.std.specs.Prelude.{◌≡◌, ◌≢◌, ◌<◌, ◌≤◌, ◌+◌, ◌-◌, true, length, vec_len, vec_capacity, IfNone, IfSome, is_ok};
+ghost use Rattle.std.specs.Prelude.{◌≡◌, ◌≢◌, ◌<◌, ◌≤◌, ◌+◌, ◌-◌, true, false, length, vec_len, vec_capacity, IfNone, IfSome, Some, is_ok};
+ghost use Rattle.imsg_frame.specs.Cut.{IsPartialFront};
+ghost use Rattle.imsg_frame.specs.Message.{IsMessage, message_of};
+ghost use Rattle.outside.specs.Scene.{IsUnused, planned_bytes};
 ghost use Rattle.policy_model.specs.Asks.{is_proper_why};
 ghost use Rattle.policy_model.specs.Journal.{asks_of, has_lost, open_session_of};
-ghost use Rattle.policy_model.specs.Runs.{IsAfter, IsIdle, IsRun, IsServing, OthersStay};
+ghost use Rattle.policy_model.specs.Narrow.{IsAfter, IsRun, IsServing};
+ghost use Rattle.policy_model.specs.Runs.{IsIdle, OthersStay};
 ghost use Rattle.policy_model.specs.Settings.{IsInRange};
+ghost use Rattle.monitor_server.specs.Asking.{read_value};
 ghost use Rattle.monitor_server.specs.Book.{Logged};
 ghost use Rattle.monitor_server.specs.Room.{HasRoom};
+ghost use Rattle.monitor_server.specs.Serving.{Advances, Concludes, EndHasCause, HasPart, HasRest, HasServed, HasSitting, NoFewer, Performs, Receives, Turns, request_operations};
 ghost use Rattle.monitor_server.specs.Session.{Ended, GoesOn};
 
 use crate::asking::{answer_of, ask_of, end_of};
@@ -26,7 +32,10 @@ fn perform<P: Post>(
     conn: &mut P::Conn,
     request: &Result<Request<'_>, Bad>,
     decision: &Decision,
-) -> Result<(), Failed> {
+) -> Result<(), Failed>
+    ensures done { Performs (request_operations (read_value request.now) decision.now) result (P.scene post.old) (P.scene post.new) }
+    ensures kept { NoFewer (P.link_faults post.old) (P.keeper_faults post.old) (P.link_faults post.new) (P.keeper_faults post.new) }
+{
     match (request, decision) {
         (
             Ok(
@@ -59,24 +68,27 @@ fn serve_message<P: Post, K: Sink>(
     requires below { worker < setup.now.workers }
     requires serving { IsServing setup.now book.old.journal.items worker session }
     requires room { HasRoom setup.now (vec_len book.old.journal) (vec_capacity book.old.journal) 1 }
+    requires right { IsMessage 16384 (message_of message.now) }
     ensures after { IsAfter setup.now worker session book.old.journal.items book.new.journal.items }
     ensures goes_on { IfNone result (GoesOn setup.now session book.old.journal.items book.new.journal.items) }
     ensures proper { IfSome result (λ why. is_proper_why why ≡ true) }
     ensures len { vec_len book.new.journal ≡ vec_len book.old.journal + 1 }
     ensures capacity { vec_capacity book.new.journal ≡ vec_capacity book.old.journal }
     ensures logged { Logged setup.now book.old.journal.items book.new.journal.items (K.held book.old.log) (K.held book.new.log) (K.faults book.old.log) (K.faults book.new.log) }
+    ensures served { HasServed worker (message_of message.now) result book.old.journal.items book.new.journal.items (P.scene post.old) (P.scene post.new) (P.Child.link child.old) (P.Child.link child.new) }
+    ensures fault { result ≡ Some Why.LinkFault → 0 < P.Child.faults child.new }
+    ensures role { P.Child.role child.new ≡ P.Child.role child.old }
+    ensures kept { NoFewer (P.link_faults post.old) (P.keeper_faults post.old) (P.link_faults post.new) (P.keeper_faults post.new) }
 {
     let header = message.header;
     let request = read_request(header.kind, header.flags, message.body);
     let ask = ask_of(&request);
     let event = book.apply(setup, worker, &ask);
-    let outcome = match event.decision {
-        Decision::Lost => return Some(Why::LogLost),
-        decision => perform(post, conn, &request, &decision),
-    };
-    let Some(answer) = answer_of(&event.decision, outcome) else {
+    if event.decision.is_lost() {
         return Some(Why::LogLost);
-    };
+    }
+    let outcome = perform(post, conn, &request, &event.decision);
+    let answer = answer_of(&event.decision, outcome);
     let reply = buffers.reply(&header, session, &answer);
     match child.send(reply) {
         Ok(()) => end_of(&event),
@@ -86,11 +98,15 @@ fn serve_message<P: Post, K: Sink>(
 
 /// Receives the next piece of the child's bytes. Why the session ends, if it does.
 fn receive<C: Stream>(child: &mut C, reader: &mut Reader) -> Option<Why>
-    requires { length reader.old.bytes < reader.old.max }
+    requires room { length reader.old.bytes < reader.old.max }
+    requires front { IsPartialFront 16384 reader.old.bytes }
     ensures max { reader.new.max ≡ reader.old.max }
     ensures more { IfNone result (length reader.old.bytes < length reader.new.bytes) }
     ensures within { length reader.new.bytes ≤ reader.new.max }
     ensures proper { IfSome result (λ why. is_proper_why why ≡ true) }
+    ensures received { Receives result reader.old.bytes reader.new.bytes (C.link child.old) (C.link child.new) }
+    ensures fault { result ≡ Some Why.LinkFault → 0 < C.faults child.new }
+    ensures role { C.role child.new ≡ C.role child.old }
 {
     let mut piece = [0; PIECE_LEN];
     let room = reader.room().min(PIECE_LEN);
@@ -102,6 +118,45 @@ fn receive<C: Stream>(child: &mut C, reader: &mut Reader) -> Option<Why>
             None
         }
         Err(Failed) => Some(Why::LinkFault),
+    }
+}
+
+/// Takes one turn of serving a session's child: serves its next message where a whole one is held,
+/// and else receives more of its bytes. Why the session ends, if it does.
+fn serve_turn<P: Post, K: Sink>(
+    book: &mut Book<K>,
+    setup: &Setup,
+    worker: u32,
+    session: u32,
+    post: &mut P,
+    conn: &mut P::Conn,
+    child: &mut P::Child,
+    reader: &mut Reader,
+    buffers: &mut Buffers,
+) -> Option<Why>
+    requires in_range { IsInRange setup.now }
+    requires below { worker < setup.now.workers }
+    requires serving { IsServing setup.now book.old.journal.items worker session }
+    requires room { HasRoom setup.now (vec_len book.old.journal) (vec_capacity book.old.journal) 1 }
+    requires max { reader.old.max ≡ 16384 }
+    ensures after { IsAfter setup.now worker session book.old.journal.items book.new.journal.items }
+    ensures advances { IfNone result (Advances setup.now.requests (asks_of book.old.journal.items session) (asks_of book.new.journal.items session) (vec_len book.old.journal) (vec_len book.new.journal) (length reader.old.bytes) (length reader.new.bytes)) }
+    ensures proper { IfSome result (λ why. is_proper_why why ≡ true) }
+    ensures len { vec_len book.new.journal ≤ vec_len book.old.journal + 1 }
+    ensures capacity { vec_capacity book.new.journal ≡ vec_capacity book.old.journal }
+    ensures logged { Logged setup.now book.old.journal.items book.new.journal.items (K.held book.old.log) (K.held book.new.log) (K.faults book.old.log) (K.faults book.new.log) }
+    ensures max { reader.new.max ≡ reader.old.max }
+    ensures turns { Turns worker result book.old.journal.items book.new.journal.items (P.scene post.old) (P.scene post.new) (P.Child.link child.old) (P.Child.link child.new) reader.old.bytes reader.new.bytes }
+    ensures fault { result ≡ Some Why.LinkFault → 0 < P.Child.faults child.new }
+    ensures role { P.Child.role child.new ≡ P.Child.role child.old }
+    ensures kept { NoFewer (P.link_faults post.old) (P.keeper_faults post.old) (P.link_faults post.new) (P.keeper_faults post.new) }
+{
+    match reader.next() {
+        Next::Frame(message) => serve_message(
+            book, setup, worker, session, post, conn, child, &message, buffers,
+        ),
+        Next::NotYet => receive(child, reader),
+        Next::Bad { len } => Some(Why::BadFrame { len }),
     }
 }
 
@@ -129,29 +184,69 @@ fn serve_child<P: Post, K: Sink>(
     ensures capacity { vec_capacity book.new.journal ≡ vec_capacity book.old.journal }
     ensures logged { Logged setup.now book.old.journal.items book.new.journal.items (K.held book.old.log) (K.held book.new.log) (K.faults book.old.log) (K.faults book.new.log) }
     ensures max { reader.new.max ≡ reader.old.max }
+    ensures concludes { Concludes worker result book.old.journal.items book.new.journal.items (P.scene post.old) (P.scene post.new) (P.Child.link child.old) (P.Child.link child.new) reader.old.bytes }
+    ensures fault { result ≡ Why.LinkFault → 0 < P.Child.faults child.new }
+    ensures role { P.Child.role child.new ≡ P.Child.role child.old }
+    ensures kept { NoFewer (P.link_faults post.old) (P.keeper_faults post.old) (P.link_faults post.new) (P.keeper_faults post.new) }
 {
     loop {
-        let end = match reader.next() {
-            Next::Frame(message) => serve_message(
-                book, setup, worker, session, post, conn, child, &message, buffers,
-            ),
-            Next::NotYet => receive(child, reader),
-            Next::Bad { len } => Some(Why::BadFrame { len }),
-        };
+        let end = serve_turn(
+            book, setup, worker, session, post, conn, child, reader, buffers,
+        );
         if let Some(why) = end {
             return why;
         }
     }
 }
 
-/// Serves a session that was opened: starts its child, serves it, and makes the session's end.
+/// Serves a session whose child was started to its end: the child is given back, and the
+/// connection is closed.
+fn serve_started<P: Post, K: Sink>(
+    book: &mut Book<K>,
+    setup: &Setup,
+    worker: u32,
+    session: u32,
+    post: &mut P,
+    mut conn: P::Conn,
+    mut child: P::Child,
+    reader: &mut Reader,
+    buffers: &mut Buffers,
+) -> Why
+    requires in_range { IsInRange setup.now }
+    requires below { worker < setup.now.workers }
+    requires serving { IsServing setup.now book.old.journal.items worker session }
+    requires unasked { asks_of book.old.journal.items session ≡ 0 }
+    requires room { HasRoom setup.now (vec_len book.old.journal) (vec_capacity book.old.journal) (setup.now.requests + 2) }
+    requires max { reader.old.max ≡ 16384 }
+    requires role { P.Child.role child ≡ Role.Pre session }
+    requires unused { IfSome (P.Child.link child) IsUnused }
+    requires planned { IfSome (P.scene post.old) (λ s. IfSome (P.Child.link child) (λ l. l.left ≡ planned_bytes s (Role.Pre session))) }
+    ensures ended { Ended setup.now worker book.old.journal.items book.new.journal.items }
+    ensures len { vec_len book.new.journal ≤ vec_len book.old.journal + setup.now.requests + 2 }
+    ensures capacity { vec_capacity book.new.journal ≡ vec_capacity book.old.journal }
+    ensures logged { Logged setup.now book.old.journal.items book.new.journal.items (K.held book.old.log) (K.held book.new.log) (K.faults book.old.log) (K.faults book.new.log) }
+    ensures max { reader.new.max ≡ reader.old.max }
+    ensures part { HasPart worker session result book.old.journal.items book.new.journal.items (P.scene post.old) (P.scene post.new) }
+    ensures cause { EndHasCause result (P.link_faults post.old) (P.keeper_faults post.old) (P.link_faults post.new) (P.keeper_faults post.new) }
+{
+    reader.clear();
+    let why = serve_child(
+        book, setup, worker, session, post, &mut conn, &mut child, reader, buffers,
+    );
+    let _end = book.apply(setup, worker, &Ask::End { why });
+    post.finish(child);
+    post.hang_up(conn);
+    why
+}
+
+/// Serves a session that was opened: starts its child, and serves it to its end.
 fn serve_opened<P: Post, K: Sink>(
     book: &mut Book<K>,
     setup: &Setup,
     worker: u32,
     session: u32,
     post: &mut P,
-    conn: &mut P::Conn,
+    conn: P::Conn,
     reader: &mut Reader,
     buffers: &mut Buffers,
 ) -> Why
@@ -166,22 +261,20 @@ fn serve_opened<P: Post, K: Sink>(
     ensures capacity { vec_capacity book.new.journal ≡ vec_capacity book.old.journal }
     ensures logged { Logged setup.now book.old.journal.items book.new.journal.items (K.held book.old.log) (K.held book.new.log) (K.faults book.old.log) (K.faults book.new.log) }
     ensures max { reader.new.max ≡ reader.old.max }
+    ensures rest { HasRest worker session result book.old.journal.items book.new.journal.items (P.scene post.old) (P.scene post.new) }
+    ensures cause { EndHasCause result (P.link_faults post.old) (P.keeper_faults post.old) (P.link_faults post.new) (P.keeper_faults post.new) }
 {
-    let mut child = match post.start(&Role::Pre { session }) {
-        Ok(child) => child,
+    match post.start(&Role::Pre { session }) {
+        Ok(child) => serve_started(
+            book, setup, worker, session, post, conn, child, reader, buffers,
+        ),
         Err(Failed) => {
             let why = Why::KeeperFault;
             let _end = book.apply(setup, worker, &Ask::End { why });
-            return why;
+            post.hang_up(conn);
+            why
         }
-    };
-    reader.clear();
-    let why = serve_child(
-        book, setup, worker, session, post, conn, &mut child, reader, buffers,
-    );
-    let _end = book.apply(setup, worker, &Ask::End { why });
-    post.finish(child);
-    why
+    }
 }
 
 /// Runs one session over a connection that came, and answers why it ended; `LogLost` also where
@@ -191,7 +284,7 @@ pub(crate) fn run_session<P: Post, K: Sink>(
     setup: &Setup,
     worker: u32,
     post: &mut P,
-    mut conn: P::Conn,
+    conn: P::Conn,
     reader: &mut Reader,
     buffers: &mut Buffers,
 ) -> Why
@@ -206,16 +299,22 @@ pub(crate) fn run_session<P: Post, K: Sink>(
     ensures capacity { vec_capacity book.new.journal ≡ vec_capacity book.old.journal }
     ensures logged { Logged setup.now book.old.journal.items book.new.journal.items (K.held book.old.log) (K.held book.new.log) (K.faults book.old.log) (K.faults book.new.log) }
     ensures max { reader.new.max ≡ reader.old.max }
+    ensures sitting { HasSitting worker result book.old.journal.items book.new.journal.items (P.scene post.old) (P.scene post.new) }
+    ensures cause { EndHasCause result (P.link_faults post.old) (P.keeper_faults post.old) (P.link_faults post.new) (P.keeper_faults post.new) }
 {
     let opening = book.apply(setup, worker, &Ask::Begin);
     if opening.decision.is_lost() {
         post.hang_up(conn);
         return Why::LogLost;
     }
-    let session = opening.session;
-    let why = serve_opened(
-        book, setup, worker, session, post, &mut conn, reader, buffers,
-    );
-    post.hang_up(conn);
-    why
+    serve_opened(
+        book,
+        setup,
+        worker,
+        opening.session,
+        post,
+        conn,
+        reader,
+        buffers,
+    )
 }

@@ -2,9 +2,11 @@ ghost use Rattle.std.specs.Prelude.{◌<◌, ◌≤◌, All, IfOk, length};
 ghost use Rattle.outside.specs.MemPost.{accept_faults_of, conn_faults_of, keeper_faults_of, link_faults_of, scene_of};
 ghost use Rattle.outside.specs.Scene.{IsFresh};
 
-use super::{Report, otplogd};
+use super::{Detail, FileKind, Report, otplogd};
+use otp_words::{DictFault, DictRule};
 use outside::{
-    Accepted, Act, Bytes, CallKind, Fail, Failed, MemPost, MemSink, MemSite, Role, Script, Word,
+    Accepted, Act, Bytes, CallKind, Fail, MemFiles, MemPost, MemSink, MemSite, MemStream, Role,
+    Script, Word,
 };
 use std::alloc::{AllocError, Global};
 use std::test::Fail as Fault;
@@ -63,7 +65,10 @@ fn serve(
     let posts = vec![in alloc; post(alloc, pre, cuts, fails)?]?;
     let mut site = MemSite::new(alloc, posts)?;
     let words = [Word::of(alloc, "serve".as_bytes())?];
-    Ok(otplogd(alloc, &words, &mut site, MemSink::new(alloc, log_fails)?))
+    let mut files = MemFiles::new(alloc, &[], &[])?;
+    let mut ends = MemStream::new(alloc, b"", &[100], &[])?;
+    let log = MemSink::new(alloc, log_fails)?;
+    Ok(otplogd(alloc, &words, &mut files, &mut site, log, &mut ends))
 }
 
 /// The text of the log, as bytes.
@@ -198,6 +203,7 @@ fn each_kind_of_bytes_has_its_answer_and_its_lines(rt: HostRuntime) -> Result<()
 struct Failing {
     fail: Fail,
     status: u8,
+    events: usize,
     sent: Option<&'static [u8]>,
     log: &'static str,
 }
@@ -210,6 +216,7 @@ const FAULTS: [Failing; 6] = [
             sent: 0,
         },
         status: 10,
+        events: 0,
         sent: None,
         log: "",
     },
@@ -220,6 +227,7 @@ const FAULTS: [Failing; 6] = [
             sent: 0,
         },
         status: 0,
+        events: 2,
         sent: None,
         log: "1 w0 s1 open permit\n2 w0 s1 end keeper-fault permit\n",
     },
@@ -230,6 +238,7 @@ const FAULTS: [Failing; 6] = [
             sent: 0,
         },
         status: 0,
+        events: 2,
         sent: Some(b""),
         log: "1 w0 s1 open permit\n2 w0 s1 end link-fault permit\n",
     },
@@ -241,6 +250,7 @@ const FAULTS: [Failing; 6] = [
             sent: 3,
         },
         status: 0,
+        events: 3,
         sent: Some(b"\x08\x01\0"),
         log: "1 w0 s1 open permit\n2 w0 s1 write 0 0 2 permit\n3 w0 s1 end link-fault permit\n",
     },
@@ -252,6 +262,7 @@ const FAULTS: [Failing; 6] = [
             sent: 0,
         },
         status: 0,
+        events: 4,
         sent: Some(
             b"\x08\x01\0\0\x12\0\0\0\0\0\0\0\x01\0\0\0\x02\x01\
             \x0d\x01\0\0\x11\0\0\0\0\0\0\0\x01\0\0\0\0",
@@ -266,6 +277,7 @@ const FAULTS: [Failing; 6] = [
             sent: 5,
         },
         status: 7,
+        events: 4,
         sent: Some(WROTE),
         log: "1 w0 s1 open permit\n2 w0 s1 write 0 0 2 permit\n3 w0 ",
     },
@@ -277,24 +289,138 @@ fn each_call_fails_once(rt: HostRuntime) -> Result<(), Fault> {
         let fails = [case.fail];
         let report = serve(rt.alloc(), SMALLEST, &[100], &fails, &fails)?;
         assert_eq!(rt; report.status, case.status);
+        assert_eq!(rt; report.journal.len(), case.events);
         assert_eq!(rt; sent_to_child(&report), case.sent);
         assert_eq!(rt; log_of(&report), case.log.as_bytes(), "{}", case.log);
     }
     Ok(())
 }
 
-#[test]
-fn no_command_and_no_place_use_nothing(rt: HostRuntime) -> Result<(), Fault> {
-    let alloc = rt.alloc();
-    for (text, status) in [("serve", 6), ("fly", 2), ("", 2)] {
-        let mut site: MemSite<MemPost> = MemSite::new(alloc, Vec::new(alloc))?;
-        let words = [Word::of(alloc, text.as_bytes())?];
-        let report = otplogd(alloc, &words, &mut site, MemSink::new(alloc, &[])?);
-        assert_eq!(rt; report.status, status);
-        assert_eq!(rt; report.posts.len(), 0);
+/// The words of a command line.
+fn words_of(alloc: Global, line: &str) -> Result<Vec<Word>, AllocError> {
+    let mut words = Vec::new(alloc);
+    for word in line.split(' ') {
+        words.push(Word::of(alloc, word.as_bytes())?)?;
     }
+    Ok(words)
+}
+
+/// Words that serve nobody, with what the input and one file hold, and what comes of them.
+struct Unserved {
+    line: &'static str,
+    input: &'static [u8],
+    file: (&'static str, &'static [u8]),
+    status: u8,
+    detail: Detail,
+    sent: &'static [u8],
+}
+
+const PHRASE: &[u8] = b"This is a test.\n";
+
+const MISSING: Detail = Detail::Missing {
+    file: FileKind::Words,
+};
+
+const UNSERVED: [Unserved; 8] = [
+    // No post is there for the one worker.
+    Unserved {
+        line: "serve",
+        input: PHRASE,
+        file: ("", b""),
+        status: 6,
+        detail: Detail::Nothing,
+        sent: b"",
+    },
+    Unserved {
+        line: "fly",
+        input: PHRASE,
+        file: ("", b""),
+        status: 2,
+        detail: Detail::Nothing,
+        sent: b"",
+    },
+    Unserved {
+        line: "",
+        input: PHRASE,
+        file: ("", b""),
+        status: 2,
+        detail: Detail::Nothing,
+        sent: b"",
+    },
+    Unserved {
+        line: "otp md5 -x TeSt",
+        input: PHRASE,
+        file: ("", b""),
+        status: 2,
+        detail: Detail::Nothing,
+        sent: b"",
+    },
+    Unserved {
+        line: "otp md5 99 TeSt",
+        input: PHRASE,
+        file: ("", b""),
+        status: 0,
+        detail: Detail::Nothing,
+        sent: b"50FE 1962 C496 5880\n",
+    },
+    Unserved {
+        line: "otp sha1 1 TeSt",
+        input: b"short\n",
+        file: ("", b""),
+        status: 12,
+        detail: Detail::Nothing,
+        sent: b"",
+    },
+    Unserved {
+        line: "otp md5 1 TeSt plain.txt",
+        input: PHRASE,
+        file: ("other.txt", b""),
+        status: 4,
+        detail: MISSING,
+        sent: b"",
+    },
+    Unserved {
+        line: "otp md5 1 TeSt plain.txt",
+        input: PHRASE,
+        file: ("plain.txt", b"QAAA\nQAAB\n"),
+        status: 5,
+        detail: Detail::WordsBad(DictFault {
+            line: 2,
+            rule: DictRule::Count,
+        }),
+        sent: b"",
+    },
+];
+
+/// What came of words that serve nobody: status, detail, the bytes sent to the ends, the posts.
+fn run_unserved(alloc: Global, row: &Unserved) -> Result<(u8, Detail, Bytes, usize), AllocError> {
+    let name = Word::of(alloc, row.file.0.as_bytes())?;
+    let pairs = vec![in alloc; (name, Bytes::of(alloc, row.file.1)?)]?;
+    let mut files = MemFiles::new(alloc, pairs.as_slice(), &[])?;
+    let mut ends = MemStream::new(alloc, row.input, &[100], &[])?;
     let mut site: MemSite<MemPost> = MemSite::new(alloc, Vec::new(alloc))?;
-    let report = otplogd(alloc, &[], &mut site, MemSink::new(alloc, &[])?);
-    assert_eq!(rt; report.status, 2);
+    let words = words_of(alloc, row.line)?;
+    let log = MemSink::new(alloc, &[])?;
+    let report = otplogd(
+        alloc,
+        words.as_slice(),
+        &mut files,
+        &mut site,
+        log,
+        &mut ends,
+    );
+    let sent = Bytes::of(alloc, ends.sent())?;
+    Ok((report.status, report.detail, sent, report.posts.len()))
+}
+
+#[test]
+fn other_words_serve_nobody(rt: HostRuntime) -> Result<(), Fault> {
+    for row in &UNSERVED {
+        let (status, detail, sent, posts) = run_unserved(rt.alloc(), row)?;
+        assert_eq!(rt; status, row.status, "{}", row.line);
+        assert_eq!(rt; detail, row.detail, "{}", row.line);
+        assert_eq!(rt; sent.as_slice(), row.sent, "{}", row.line);
+        assert_eq!(rt; posts, 0);
+    }
     Ok(())
 }

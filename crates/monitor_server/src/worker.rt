@@ -1,10 +1,12 @@
 //! One worker: its connections, one after the other.
 
 ghost use Rattle.std.specs.Prelude.{◌≡◌, ◌<◌, ◌≤◌, ◌+◌, ◌*◌, vec_len, vec_capacity};
-ghost use Rattle.policy_model.specs.Runs.{IsIdle, IsRun, OthersStay};
+ghost use Rattle.policy_model.specs.Narrow.{IsRun};
+ghost use Rattle.policy_model.specs.Runs.{IsIdle, OthersStay};
 ghost use Rattle.policy_model.specs.Settings.{IsInRange, quota_of};
 ghost use Rattle.monitor_server.specs.Book.{Logged};
 ghost use Rattle.monitor_server.specs.Room.{HasRoom};
+ghost use Rattle.monitor_server.specs.Serving.{HasStory, is_accept_fault};
 ghost use Rattle.monitor_server.specs.Session.{Ended};
 
 use crate::book::Book;
@@ -27,6 +29,15 @@ pub(crate) enum WorkerEnd {
     LogLost,
 }
 
+impl WorkerEnd {
+    /// Whether waiting for a connection failed.
+    pub(crate) fn is_accept_fault(&self) -> bool
+        ensures { result ≡ is_accept_fault self.now }
+    {
+        matches!(self, WorkerEnd::AcceptFault)
+    }
+}
+
 /// Serves the connections of a worker, at most as many as the setup says.
 pub(crate) fn serve_worker<P: Post, K: Sink>(
     book: &mut Book<K>,
@@ -47,6 +58,8 @@ pub(crate) fn serve_worker<P: Post, K: Sink>(
     ensures capacity { vec_capacity book.new.journal ≡ vec_capacity book.old.journal }
     ensures logged { Logged setup.now book.old.journal.items book.new.journal.items (K.held book.old.log) (K.held book.new.log) (K.faults book.old.log) (K.faults book.new.log) }
     ensures max { reader.new.max ≡ reader.old.max }
+    ensures story { HasStory worker setup.now.connections result book.old.journal.items book.new.journal.items (P.scene post.old) (P.scene post.new) (P.link_faults post.old) (P.keeper_faults post.old) (P.link_faults post.new) (P.keeper_faults post.new) }
+    ensures accept_fault { result ≡ WorkerEnd.AcceptFault → 0 < P.accept_faults post.new }
 {
     for _ in 0..setup.connections() {
         let conn = match post.accept() {

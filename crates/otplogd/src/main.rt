@@ -1,10 +1,10 @@
-//! The program: it serves with the real outside by the words of its command line, and logs to
-//! standard error.
+//! The program: it runs with the real outside by the words of its command line. It reads a pass
+//! phrase from standard input, prints to standard output and logs to standard error.
 #![tactic(auto)]
 
 use monitor_server::otplogd;
 use outside::Word;
-use outside_real::{RealSink, RealSite};
+use outside_real::{RealEnds, RealFiles, RealSink, RealSite};
 use std::alloc::{AllocError, Global};
 use std::env;
 use std::env::Args;
@@ -35,7 +35,16 @@ fn main(rt: HostRuntime) -> ExitCode {
         return ExitCode::from(NO_MEMORY);
     };
     let log = RealSink::new(rt.stderr());
+    let mut ends = RealEnds::new(rt.stdin(), rt.stdout());
+    let mut files = RealFiles::new(rt, alloc);
     let mut site = RealSite::new(rt, alloc);
-    let report = otplogd(alloc, words.as_slice(), &mut site, log);
+    let report = otplogd(
+        alloc,
+        words.as_slice(),
+        &mut files,
+        &mut site,
+        log,
+        &mut ends,
+    );
     ExitCode::from(report.status)
 }

@@ -1,6 +1,13 @@
 pub mod Lists
+pub mod InRange
 pub mod Journals
+pub mod LoginLemmas
+pub mod HandleLemmas
 pub mod Legal
 pub mod Verdicts
 pub mod Sessions
 pub mod Runs
+pub mod Permits
+pub mod Replies
+pub mod Sequences
+pub mod Exports

@@ -1,5 +1,6 @@
 -- What can be read off one ask, one decision and one event.
-use Rattle.std.specs.Prelude.{ℕ, Bool, true, false, not, ◌&&◌, ◌||◌, nat_le, Option, Some, None}
+use Rattle.std.specs.Prelude.{ℕ, Bool, true, false, not, ◌&&◌, ◌||◌, ◌==◌, nat_le, is_some, Option, Some, None}
+use Rattle.request_catalogue.specs.declared.texts.Name.{Name}
 use Rattle.request_catalogue.specs.declared.kind.Kind.{Kind}
 use Rattle.request_catalogue.specs.declared.kind.Kind.TheVariants as kinds
 use Rattle.request_catalogue.specs.Kinds.{kind_number}
@@ -10,6 +11,7 @@ use Rattle.policy_model.specs.declared.event.Ask.TheVariants as asks
 use Rattle.policy_model.specs.declared.event.Decision.{Decision}
 use Rattle.policy_model.specs.declared.event.Decision.TheVariants as decisions
 use Rattle.policy_model.specs.declared.event.Event.{Event}
+use Rattle.policy_model.specs.Settings.{same_name}
 
 abbrev pub is_begin : Ask → Bool
 is_begin asks.Begin = true
@@ -26,6 +28,47 @@ is_request ask = not (is_begin ask) && not (is_end ask)
 abbrev pub is_finish : Ask → Bool
 is_finish asks.Finish = true
 is_finish _ = false
+
+abbrev pub is_reply : Ask → Bool
+is_reply (asks.Reply words hex) = true
+is_reply _ = false
+
+abbrev pub is_abandon : Ask → Bool
+is_abandon asks.Abandon = true
+is_abandon _ = false
+
+abbrev pub is_export : Ask → Bool
+is_export (asks.Export len) = true
+is_export _ = false
+
+abbrev pub is_open : Ask → Bool
+is_open (asks.OpenFile mode name) = true
+is_open _ = false
+
+-- a CLOSE of this handle
+abbrev pub is_close : ℕ → Ask → Bool
+is_close handle (asks.CloseFile other) = other == handle
+is_close handle _ = false
+
+-- the user that a CHALLENGE names
+abbrev pub challenge_name : Ask → Option Name
+challenge_name (asks.Challenge user now) = Some user
+challenge_name _ = None
+
+-- a CHALLENGE for this user
+abbrev pub is_challenge_for : Name → Ask → Bool
+is_challenge_for user (asks.Challenge name now) = same_name name user
+is_challenge_for user _ = false
+
+-- the moment of a CHALLENGE, in milliseconds
+abbrev pub moment_of : Ask → ℕ
+moment_of (asks.Challenge user now) = now
+moment_of _ = 0
+
+-- the mode of an OPEN: 1 to read, 2 to write, 3 for both
+abbrev pub mode_of : Ask → ℕ
+mode_of (asks.OpenFile mode name) = mode
+mode_of _ = 0
 
 -- the rule that an ask names is in its range
 abbrev pub is_proper_why : Why → Bool
@@ -72,6 +115,16 @@ abbrev pub is_lost : Decision → Bool
 is_lost decisions.Lost = true
 is_lost _ = false
 
+-- the value of a permit
+abbrev pub value_of : Decision → ℕ
+value_of (decisions.Permit value) = value
+value_of _ = 0
+
+-- a denial by one of the rules for replies
+abbrev pub is_login_denial : Decision → Bool
+is_login_denial (decisions.Deny rule detail) = nat_le 13 rule && nat_le rule 16
+is_login_denial _ = false
+
 -- a denial that ends the session: by a rule of 1 to 7
 abbrev pub is_violation : Decision → Bool
 is_violation (decisions.Deny rule detail) = nat_le 1 rule && nat_le rule 7
@@ -84,3 +137,45 @@ opens e = is_begin e.ask && is_permit e.decision
 -- after such an event its session is over: its end, a permitted FINISH, a violation, or a lost decision
 abbrev pub ends_session : Event → Bool
 ends_session e = is_end e.ask || is_finish e.ask && is_permit e.decision || is_violation e.decision || is_lost e.decision
+
+-- a permitted CHALLENGE takes its user
+abbrev pub takes : Event → Bool
+takes e = is_some (challenge_name e.ask) && is_permit e.decision
+
+abbrev pub takes_user : Name → Event → Bool
+takes_user user e = is_challenge_for user e.ask && is_permit e.decision
+
+-- after a REPLY, whatever was decided, and a permitted ABANDON its session holds no user
+abbrev pub gives_up : Event → Bool
+gives_up e = is_reply e.ask || is_abandon e.ask && is_permit e.decision
+
+-- what a session does with a user: it takes one or gives it up
+abbrev pub is_login_step : Event → Bool
+is_login_step e = takes e || gives_up e
+
+-- a permitted REPLY
+abbrev pub accepts : Event → Bool
+accepts e = is_reply e.ask && is_permit e.decision
+
+-- a REPLY that was denied for what it said
+abbrev pub is_denied_reply : Event → Bool
+is_denied_reply e = is_reply e.ask && is_login_denial e.decision
+
+-- a permitted EXPORT
+abbrev pub exports : Event → Bool
+exports e = is_export e.ask && is_permit e.decision
+
+-- a permitted OPEN; its value is the handle
+abbrev pub opens_file : Event → Bool
+opens_file e = is_open e.ask && is_permit e.decision
+
+abbrev pub handle_of : Event → ℕ
+handle_of e = value_of e.decision
+
+-- a permitted CLOSE of a handle
+abbrev pub closes_file : ℕ → Event → Bool
+closes_file handle e = is_close handle e.ask && is_permit e.decision
+
+-- a permitted ask of this kind
+abbrev pub permits_kind : Kind → Event → Bool
+permits_kind kind e = request_number e.ask == kind_number kind && is_permit e.decision

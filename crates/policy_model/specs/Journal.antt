@@ -1,5 +1,5 @@
 -- What can be read off the one list of all events.
-use Rattle.std.specs.Prelude.{ℕ, Bool, ◌&&◌, ◌||◌, ◌==◌, not, List, filter, count_by, Option, Some, None, if◌then◌else◌}
+use Rattle.std.specs.Prelude.{ℕ, Bool, ◌&&◌, ◌||◌, ◌==◌, not, List, [], ◌∷◌, ◌++◌, filter, count_by, Option, Some, None, if◌then◌else◌}
 use Rattle.std.specs.List.{last_or, list_any}
 use Rattle.policy_model.specs.declared.event.Event.{Event}
 use Rattle.policy_model.specs.Asks.{is_begin, is_end, is_permit, is_request, is_lost, opens}
@@ -32,6 +32,36 @@ asks_of journal session = count_by (λ e. is_request e.ask) (events_of journal s
 -- how many sessions were opened
 abbrev pub openings_of : List Event → ℕ
 openings_of journal = count_by opens journal
+
+-- an event of a session that passes a test
+abbrev pub is_own : ℕ → (Event → Bool) → Event → Bool
+is_own session p e = e.session == session && p e
+
+-- some event of the session passes
+abbrev pub has_event : List Event → ℕ → (Event → Bool) → Bool
+has_event journal session p = list_any (is_own session p) journal
+
+-- how many events of the session pass
+abbrev pub count_of : List Event → ℕ → (Event → Bool) → ℕ
+count_of journal session p = count_by (is_own session p) journal
+
+-- the last event of the session that passes
+abbrev pub last_event : List Event → ℕ → (Event → Bool) → Option Event
+last_event journal session p = last_or None (filter (is_own session p) journal)
+
+-- an event with the events before it
+pub record Place : Type 0 where
+  pub before : List Event
+  pub event : Event
+
+-- the places of the second list, where the first one stands before it
+abbrev pub places_after : List Event → List Event → List Place
+places_after before [] = []
+places_after before (e ∷ events) = record { before = before; event = e } ∷ places_after (before ++ e ∷ []) events
+
+-- all places of a journal, in order
+abbrev pub places_of : List Event → List Place
+places_of journal = places_after [] journal
 
 -- some decision was lost
 abbrev pub has_lost : List Event → Bool

@@ -1,8 +1,12 @@
+pub mod Settings
+pub mod Setup
 pub mod Asks
 pub mod Journal
 pub mod Phases
-pub mod Settings
-pub mod Setup
+pub mod Logins
+pub mod Handles
 pub mod Verdict
 pub mod Legal
 pub mod Runs
+pub mod Narrow
+pub mod Consequences

@@ -1,31 +1,77 @@
 -- The phases of a session, and the phase table.
-use Rattle.std.specs.Prelude.{ℕ, Bool, true, false, not, ◌||◌, List, if◌then◌else◌}
+use Rattle.std.specs.Prelude.{ℕ, Bool, true, false, not, ◌||◌, List, Option, Some, None, if◌then◌else◌}
 use Rattle.std.specs.List.{list_any}
 use Rattle.request_catalogue.specs.declared.kind.Kind.{Kind}
 use Rattle.request_catalogue.specs.declared.kind.Kind.TheVariants as kinds
 use Rattle.policy_model.specs.declared.event.Event.{Event}
 use Rattle.policy_model.specs.declared.phase.Phase.{Phase}
-use Rattle.policy_model.specs.declared.phase.Phase.TheVariants.{Pre, Over}
+use Rattle.policy_model.specs.declared.phase.Phase.TheVariants.{Pre, Challenged, Verified, User, Over}
 use Rattle.policy_model.specs.declared.phase.Row.{Row}
-use Rattle.policy_model.specs.Asks.{opens, ends_session}
-use Rattle.policy_model.specs.Journal.{events_of}
+use Rattle.policy_model.specs.declared.table.Table.{Table}
+use Rattle.policy_model.specs.declared.table.Table.TheVariants.{Whole, Narrow}
+use Rattle.policy_model.specs.Asks.{accepts, ends_session, exports, is_login_step, opens, takes}
+use Rattle.policy_model.specs.Journal.{events_of, has_event, last_event}
 
 -- a session was never opened, or one of its events ends it
 abbrev pub is_over : List Event → ℕ → Bool
 is_over journal session = not (list_any opens (events_of journal session)) || list_any ends_session (events_of journal session)
 
--- the phase of a session, by its events
-abbrev pub phase_of : List Event → ℕ → Phase
-phase_of journal session = if is_over journal session then Over else Pre
+-- an event is there, and it takes a user
+abbrev pub is_taking : Option Event → Bool
+is_taking None = false
+is_taking (Some e) = takes e
 
+-- the phase of a session, by its events: the first that applies
+unfoldable pub phase_of : List Event → ℕ → Phase
+phase_of journal session =
+    if is_over journal session then Over
+    else (if has_event journal session exports then User
+    else (if has_event journal session accepts then Verified
+    else (if is_taking (last_event journal session is_login_step) then Challenged
+    else Pre)))
+
+-- an empty cell of the table
 abbrev pub no_row : Row
 no_row = record { permitted = false; once = false; deciding = false }
 
+-- permitted
 abbrev pub free_row : Row
 free_row = record { permitted = true; once = false; deciding = false }
 
--- what each phase says of each kind of request
+-- permitted once per session
+abbrev pub once_row : Row
+once_row = record { permitted = true; once = true; deciding = false }
+
+-- permitted, and it decides whether the user is logged in
+abbrev pub deciding_row : Row
+deciding_row = record { permitted = true; once = false; deciding = true }
+
+-- the phase table: what each phase says of each kind of request
 abbrev pub table_row : Phase → Kind → Row
-table_row Pre kinds.WriteAt = free_row
-table_row Pre kinds.Finish = free_row
+table_row Over kind = no_row
+table_row Pre kinds.Banner = once_row
+table_row Challenged kinds.Banner = once_row
+table_row Pre kinds.Challenge = free_row
+table_row Challenged kinds.Reply = deciding_row
+table_row Challenged kinds.Abandon = free_row
+table_row Verified kinds.Export = once_row
+table_row User kinds.Import = once_row
+table_row phase kinds.ReadAt = free_row
+table_row phase kinds.WriteAt = free_row
+table_row User kinds.OpenFile = free_row
+table_row User kinds.CloseFile = free_row
+table_row User kinds.Info = free_row
+table_row phase kinds.Note = free_row
+table_row phase kinds.Finish = free_row
 table_row _ _ = no_row
+
+-- the table of the narrow service: before the login a child may write and finish
+abbrev pub narrow_row : Phase → Kind → Row
+narrow_row Pre kinds.WriteAt = free_row
+narrow_row Pre kinds.Finish = free_row
+narrow_row _ _ = no_row
+
+-- the rows of either table
+abbrev pub row_in : Table → Phase → Kind → Row
+row_in Whole = table_row
+row_in Narrow = narrow_row

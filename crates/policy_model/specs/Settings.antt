@@ -1,19 +1,18 @@
--- What an operator settles before a run, and the ranges of the numbers.
-use Rattle.std.specs.Prelude.{ℕ, ◌≤◌, ◌*◌, ◌+◌, List, [], codes}
+-- What an operator settles before a run, and the ranges of a setup.
+use Rattle.std.specs.Prelude.{ℕ, ◌≡◌, ◌≤◌, ◌*◌, ◌+◌, Bool, true, not, ◌&&◌, ◌==◌, List, [], ◌∷◌, length, codes, nat_le, Option, position}
+use Rattle.std.specs.List.{list_all, list_any}
+use Rattle.std.specs.Str.{bytes_eq}
+use Rattle.request_catalogue.specs.declared.texts.Label.{Label}
+use Rattle.request_catalogue.specs.declared.texts.Name.{Name}
+use Rattle.request_catalogue.specs.TextBytes.{label_bytes, name_bytes}
+use Rattle.request_catalogue.specs.Texts.{is_printable}
+use Rattle.policy_model.specs.declared.account.Account.{Account}
+use Rattle.policy_model.specs.declared.account.Grant.{Grant}
+use Rattle.policy_model.specs.declared.parts.SetupParts.{SetupParts}
 
--- the texts are lists of their bytes; hold is in milliseconds
-pub record Settings : Type 0 where
-  pub socket : List ℕ
-  pub launcher : List ℕ
-  pub vault : List ℕ
-  pub words : List ℕ
-  pub banner : List ℕ
-  pub workers : ℕ
-  pub connections : ℕ
-  pub requests : ℕ
-  pub tries : ℕ
-  pub hold : ℕ
-  pub info : List ℕ
+-- what an operator settles: the parts of a setup, in any ranges
+abbrev pub Settings : Type 0
+Settings = SetupParts
 
 -- the events that one worker can make: of each connection at most its requests, one more that is refused, its opening and its end
 abbrev pub quota_of : Settings → ℕ
@@ -23,14 +22,69 @@ quota_of s = s.connections * (s.requests + 3)
 abbrev pub events_max : Settings → ℕ
 events_max s = s.workers * quota_of s
 
--- each number is in its range, and a run makes at most 1,048,576 events
+-- two names, and two labels, of the same bytes
+abbrev pub same_name : Name → Name → Bool
+same_name a b = bytes_eq (name_bytes a) (name_bytes b)
+
+abbrev pub same_label : Label → Label → Bool
+same_label a b = bytes_eq (label_bytes a) (label_bytes b)
+
+-- no element is the same as a later one
+abbrev pub are_distinct : {A : Type 0} → (A → A → Bool) → List A → Bool
+are_distinct same [] = true
+are_distinct same (x ∷ xs) = not (list_any (same x) xs) && are_distinct same xs
+
+-- a text of low to high printable bytes
+abbrev pub is_text : ℕ → ℕ → List ℕ → Bool
+is_text low high bytes = nat_le low (length bytes) && nat_le (length bytes) high && list_all is_printable bytes
+
+-- the texts of a setup
+abbrev pub are_texts : Settings → Bool
+are_texts s = is_text 1 100 s.socket && is_text 1 255 s.launcher && is_text 1 255 s.vault && is_text 1 255 s.words && is_text 0 200 s.banner
+
+-- a number of low to high
+abbrev pub is_number : ℕ → ℕ → ℕ → Bool
+is_number low high n = nat_le low n && nat_le n high
+
+-- the counts and the hold
+abbrev pub are_counts : Settings → Bool
+are_counts s = is_number 1 64 s.workers && is_number 1 4096 s.connections && is_number 8 4096 s.requests && is_number 1 10 s.tries && is_number 1 3600000 s.hold
+
+-- the numbers of information: at most 32 different ones of 1 to 1,000
+abbrev pub are_numbers : List ℕ → Bool
+are_numbers info = nat_le (length info) 32 && list_all (is_number 1 1000) info && are_distinct ◌==◌ info
+
+-- at most 64 grants, each with a mode of 1 to 3, of different names
+abbrev pub are_grants : List Grant → Bool
+are_grants grants = nat_le (length grants) 64 && list_all (λ g. is_number 1 3 g.mode) grants && are_distinct (λ a b. same_label a.name b.name) grants
+
+-- an account by itself
+abbrev pub is_account : Account → Bool
+is_account a = is_number 1 4294967294 a.uid && nat_le a.sequence 9999 && are_grants a.grants
+
+-- at most 1,024 accounts, of different names and different user numbers
+abbrev pub are_accounts : List Account → Bool
+are_accounts accounts = nat_le (length accounts) 1024 && list_all is_account accounts && are_distinct (λ a b. same_name a.name b.name) accounts && are_distinct (λ a b. a.uid == b.uid) accounts
+
+-- the ranges of a setup; a run makes at most 1,048,576 events
 pub record IsInRange (s : Settings) : Type 0 where
+  pub texts : are_texts s ≡ true
   pub workers : (1 ≤ s.workers) × (s.workers ≤ 64)
   pub connections : (1 ≤ s.connections) × (s.connections ≤ 4096)
   pub requests : (8 ≤ s.requests) × (s.requests ≤ 4096)
   pub tries : (1 ≤ s.tries) × (s.tries ≤ 10)
   pub hold : (1 ≤ s.hold) × (s.hold ≤ 3600000)
+  pub info : are_numbers s.info ≡ true
   pub product : events_max s ≤ 1048576
+  pub accounts : are_accounts s.accounts ≡ true
+
+-- the tests of all ranges in one
+abbrev pub passes : Settings → Bool
+passes s = are_texts s && are_counts s && are_numbers s.info && nat_le (events_max s) 1048576 && are_accounts s.accounts
+
+-- the number of the account of this name, counted from 0
+abbrev pub account_number : Settings → Name → Option ℕ
+account_number s user = position (λ a. same_name a.name user) s.accounts
 
 -- the setup that `serve` runs where no file is named
 abbrev pub plain_settings : Settings
@@ -46,4 +100,5 @@ plain_settings = record {
   tries = 3;
   hold = 30000;
   info = [];
+  accounts = [];
 }

@@ -1,43 +1,209 @@
 -- The verdict on an ask, by the whole list of events before it: the first rule that applies.
-use Rattle.std.specs.Prelude.{ℕ, ◌≤◌, ◌+◌, ◌==◌, List, Option, Some, None, if◌then◌else◌}
+use Rattle.std.specs.Prelude.{ℕ, ◌≤◌, ◌+◌, ◌-◌, ◌==◌, ◌&&◌, ◌||◌, Bool, false, not, List, [], ◌++◌, length, Option, Some, None, is_none, nat_eq, nat_le, nat_lt, unwrap_or, bit_and, if◌then◌else◌}
+use Rattle.std.specs.List.{find, list_any}
+use Rattle.std.specs.Option.{option_to_list}
 use Rattle.request_catalogue.specs.declared.kind.Kind.{Kind}
+use Rattle.request_catalogue.specs.declared.texts.Label.{Label}
+use Rattle.request_catalogue.specs.declared.texts.Name.{Name}
+use Rattle.otp_hash.specs.Hashing.{hash_of}
+use Rattle.policy_model.specs.declared.account.Account.{Account}
+use Rattle.policy_model.specs.declared.account.Grant.{Grant}
 use Rattle.policy_model.specs.declared.event.Ask.{Ask}
-use Rattle.policy_model.specs.declared.phase.Phase.{Phase}
 use Rattle.policy_model.specs.declared.event.Ask.TheVariants as asks
 use Rattle.policy_model.specs.declared.event.Decision.{Decision}
 use Rattle.policy_model.specs.declared.event.Decision.TheVariants.{Permit, Deny, Lost}
 use Rattle.policy_model.specs.declared.event.Event.{Event}
-use Rattle.policy_model.specs.Asks.{kind_of, request_number}
-use Rattle.policy_model.specs.Journal.{open_session_of, openings_of, asks_of}
+use Rattle.policy_model.specs.declared.phase.Phase.{Phase}
+use Rattle.policy_model.specs.declared.phase.Row.{Row}
+use Rattle.policy_model.specs.Asks.{is_denied_reply, kind_of, mode_of, moment_of, permits_kind, request_number}
+use Rattle.policy_model.specs.Handles.{free_handle_of, live_handles_of, opening_of}
+use Rattle.policy_model.specs.Journal.{asks_of, count_of, has_event, open_session_of, openings_of}
+use Rattle.policy_model.specs.Logins.{account_of, challenged_user, current_password, current_sequence, holder_of, last_taking_of, session_taking, verified_user, was_accepted}
 use Rattle.policy_model.specs.Phases.{is_over, phase_of, table_row}
-use Rattle.policy_model.specs.Settings.{Settings}
+use Rattle.policy_model.specs.Settings.{Settings, account_number, same_label}
 
--- the rules of one kind of request: a handle other than the client's connection isn't there
-abbrev pub kind_verdict : Ask → Decision
-kind_verdict (asks.WriteAt handle offset len) = if handle == 0 then Permit 0 else Deny 17 handle
-kind_verdict _ = Permit 0
+-- 4. CHALLENGE
 
--- what a phase says of a request: rule 6 where its cell of the table is empty
-abbrev pub table_verdict : Phase → Ask → Option Kind → Decision
-table_verdict phase ask None = Permit 0
-table_verdict phase ask (Some kind) = if (table_row phase kind).permitted then kind_verdict ask else Deny 6 (request_number ask)
+-- the moment of a taking
+abbrev pub taking_moment : Option Event → ℕ
+taking_moment None = 0
+taking_moment (Some e) = moment_of e.ask
+
+-- some other session holds
+abbrev pub is_other : ℕ → Option ℕ → Bool
+is_other session None = false
+is_other session (Some holder) = not (holder == session)
+
+-- another session holds the user, and its taking is less than the hold ago
+abbrev pub is_held : Settings → List Event → ℕ → Name → ℕ → Bool
+is_held setup journal session user now =
+    is_other session (holder_of journal user) && nat_lt now (taking_moment (last_taking_of journal user) + setup.hold)
+
+-- rules 10, 11 and 12 of a user that is known
+abbrev pub account_verdict : Settings → List Event → ℕ → Name → ℕ → Option Account → Decision
+account_verdict setup journal session user now None = Deny 9 0
+account_verdict setup journal session user now (Some account) =
+    if not account.enabled then Deny 10 0
+    else (if current_sequence journal account == 0 then Deny 11 0
+    else (if is_held setup journal session user now then Deny 12 (session_taking (last_taking_of journal user))
+    else Permit (current_sequence journal account - 1)))
+
+-- a CHALLENGE for a user at a moment
+unfoldable pub challenge_verdict : Settings → List Event → ℕ → Name → ℕ → Decision
+challenge_verdict setup journal session user now =
+    if nat_le setup.tries (count_of journal session is_denied_reply) then Deny 8 setup.tries
+    else account_verdict setup journal session user now (account_of setup user)
+
+-- 5. REPLY
+
+-- the readings of a reply, words before hexadecimal
+abbrev pub readings : Option ℕ → Option ℕ → List ℕ
+readings words hex = option_to_list words ++ option_to_list hex
+
+-- a password hashes to the current one, and wasn't accepted before
+abbrev pub is_next_password : List Event → Account → ℕ → Bool
+is_next_password journal account password =
+    hash_of account.algo password == current_password journal account && not (was_accepted journal account password)
+
+-- where no reading is the next password: rule 15 where one was accepted before
+abbrev pub refused_verdict : List Event → Account → List ℕ → Decision
+refused_verdict journal account passwords = if list_any (was_accepted journal account) passwords then Deny 15 0 else Deny 16 0
+
+-- the first reading that is the next password
+abbrev pub matching_verdict : List Event → Account → List ℕ → Option ℕ → Decision
+matching_verdict journal account passwords (Some password) = Permit password
+matching_verdict journal account passwords None = refused_verdict journal account passwords
+
+-- the readings against an account
+abbrev pub readings_verdict : List Event → List ℕ → Option Account → Decision
+readings_verdict journal passwords None = Deny 16 0
+readings_verdict journal passwords (Some account) = matching_verdict journal account passwords (find (is_next_password journal account) passwords)
+
+-- the session holds
+abbrev pub is_holder : ℕ → Option ℕ → Bool
+is_holder session None = false
+is_holder session (Some holder) = holder == session
+
+-- a REPLY for a user
+abbrev pub user_verdict : Settings → List Event → ℕ → List ℕ → Name → Decision
+user_verdict setup journal session passwords user =
+    if not (is_holder session (holder_of journal user)) then Deny 13 (session_taking (last_taking_of journal user))
+    else (if length passwords == 0 then Deny 14 0
+    else readings_verdict journal passwords (account_of setup user))
+
+-- a REPLY of a session that challenged a user
+abbrev pub login_verdict : Settings → List Event → ℕ → List ℕ → Option Name → Decision
+login_verdict setup journal session passwords None = Deny 13 0
+login_verdict setup journal session passwords (Some user) = user_verdict setup journal session passwords user
+
+-- a REPLY with its two readings
+unfoldable pub reply_verdict : Settings → List Event → ℕ → Option ℕ → Option ℕ → Decision
+reply_verdict setup journal session words hex = login_verdict setup journal session (readings words hex) (challenged_user journal session)
+
+-- 6. what a session that is logged in asks
+
+-- a mode has all of what is needed: 1 to read, 2 to write, 3 for both
+abbrev pub allows : ℕ → ℕ → Bool
+allows mode needed = bit_and needed mode == needed
+
+-- a use of an open file
+abbrev pub use_verdict : ℕ → ℕ → Option Event → Decision
+use_verdict handle needed None = Deny 17 handle
+use_verdict handle needed (Some e) = if allows (mode_of e.ask) needed then Permit 0 else Deny 18 handle
+
+-- a READ or WRITE of a handle; 0 is the client's connection
+unfoldable pub handle_verdict : List Event → ℕ → ℕ → ℕ → Decision
+handle_verdict journal session handle needed =
+    if handle == 0 then Permit 0 else use_verdict handle needed (opening_of journal session handle)
+
+-- the verified user's account
+abbrev pub account_named : Settings → Option Name → Option Account
+account_named setup None = None
+account_named setup (Some user) = account_of setup user
+
+-- the grants of an account
+abbrev pub grants_of : Option Account → List Grant
+grants_of None = []
+grants_of (Some account) = account.grants
+
+-- what a grant says of a mode
+abbrev pub grant_verdict : ℕ → ℕ → Option Grant → Decision
+grant_verdict free mode None = Deny 20 0
+grant_verdict free mode (Some grant) = if allows grant.mode mode then Permit free else Deny 21 mode
+
+-- an OPEN of a file
+unfoldable pub open_verdict : Settings → List Event → ℕ → ℕ → Label → Decision
+open_verdict setup journal session mode name =
+    if nat_le 8 (length (live_handles_of journal session)) then Deny 19 8
+    else grant_verdict (free_handle_of journal session) mode (find (λ g. same_label g.name name) (grants_of (account_named setup (verified_user journal session))))
+
+-- a CLOSE of a handle
+unfoldable pub close_verdict : List Event → ℕ → ℕ → Decision
+close_verdict journal session handle =
+    if handle == 0 || is_none (opening_of journal session handle) then Deny 17 handle else Permit 0
+
+-- the current sequence of an account that is there
+abbrev pub sequence_of : List Event → Option Account → ℕ
+sequence_of journal None = 0
+sequence_of journal (Some account) = current_sequence journal account
+
+-- an INFO of a number
+unfoldable pub info_verdict : Settings → List Event → ℕ → ℕ → Decision
+info_verdict setup journal session number =
+    if list_any (nat_eq number) setup.info then Permit (sequence_of journal (account_named setup (verified_user journal session))) else Deny 22 number
+
+-- the number of the account of a user that is there
+abbrev pub number_named : Settings → Option Name → ℕ
+number_named setup None = 0
+number_named setup (Some user) = unwrap_or (account_number setup user) 0
+
+-- the rules of one kind of request
+unfoldable pub kind_verdict : Settings → List Event → ℕ → Ask → Decision
+kind_verdict setup journal session (asks.Challenge user now) = challenge_verdict setup journal session user now
+kind_verdict setup journal session (asks.Reply words hex) = reply_verdict setup journal session words hex
+kind_verdict setup journal session (asks.Export len) = Permit (number_named setup (verified_user journal session))
+kind_verdict setup journal session (asks.ReadAt handle offset max) = handle_verdict journal session handle 1
+kind_verdict setup journal session (asks.WriteAt handle offset len) = handle_verdict journal session handle 2
+kind_verdict setup journal session (asks.OpenFile mode name) = open_verdict setup journal session mode name
+kind_verdict setup journal session (asks.CloseFile handle) = close_verdict journal session handle
+kind_verdict setup journal session (asks.Info number) = info_verdict setup journal session number
+kind_verdict setup journal session ask = Permit 0
+
+-- 3. the table
+
+-- a request whose cell of the table this is: rule 6 where it is empty, rule 7 where one was permitted that may be only once
+abbrev pub row_verdict : Settings → List Event → ℕ → Ask → Kind → Row → Decision
+row_verdict setup journal session ask kind row =
+    if not row.permitted then Deny 6 (request_number ask)
+    else (if row.once && has_event journal session (permits_kind kind) then Deny 7 (request_number ask)
+    else kind_verdict setup journal session ask)
+
+-- what a phase says of a request
+abbrev pub table_verdict : (Phase → Kind → Row) → Settings → List Event → ℕ → Ask → Option Kind → Decision
+table_verdict table setup journal session ask None = Permit 0
+table_verdict table setup journal session ask (Some kind) = row_verdict setup journal session ask kind (table (phase_of journal session) kind)
 
 -- an ask in a session that isn't over and has asks left: a frame that is no request breaks its own rule
-abbrev pub own_verdict : Phase → Ask → Decision
-own_verdict phase (asks.Bad rule detail) = Deny rule detail
-own_verdict phase ask = table_verdict phase ask (kind_of ask)
+abbrev pub own_verdict : (Phase → Kind → Row) → Settings → List Event → ℕ → Ask → Decision
+own_verdict table setup journal session (asks.Bad rule detail) = Deny rule detail
+own_verdict table setup journal session ask = table_verdict table setup journal session ask (kind_of ask)
 
--- an ask other than an opening and an end, of the worker's open session
-abbrev pub request_verdict : Settings → List Event → ℕ → Ask → Decision
-request_verdict setup journal session ask =
-    if is_over journal session then Deny 6 (request_number ask)
+-- 2. an ask other than an opening and an end, of the worker's open session: rule 6 where there is none or it is over, rule 1 where it has made all its asks
+abbrev pub request_verdict : (Phase → Kind → Row) → Settings → List Event → ℕ → Ask → Decision
+request_verdict table setup journal session ask =
+    if session == 0 || is_over journal session then Deny 6 (request_number ask)
     else (if asks_of journal session == setup.requests then Deny 1 setup.requests
-    else own_verdict (phase_of journal session) ask)
+    else own_verdict table setup journal session ask)
 
-unfoldable pub verdict_of : Settings → List Event → ℕ → Ask → Decision
-verdict_of setup journal worker asks.Begin = if open_session_of journal worker == 0 then Permit (openings_of journal + 1) else Deny 6 0
-verdict_of setup journal worker (asks.End why) = if open_session_of journal worker == 0 then Deny 6 0 else Permit 0
-verdict_of setup journal worker ask = request_verdict setup journal (open_session_of journal worker) ask
+-- 1. an opening, an end, any other ask
+unfoldable pub verdict_by : (Phase → Kind → Row) → Settings → List Event → ℕ → Ask → Decision
+verdict_by table setup journal worker asks.Begin = if open_session_of journal worker == 0 then Permit (openings_of journal + 1) else Deny 6 0
+verdict_by table setup journal worker (asks.End why) = if open_session_of journal worker == 0 then Deny 6 0 else Permit 0
+verdict_by table setup journal worker ask = request_verdict table setup journal (open_session_of journal worker) ask
+
+-- the verdict of the whole policy
+abbrev pub verdict_of : Settings → List Event → ℕ → Ask → Decision
+verdict_of setup journal worker ask = verdict_by table_row setup journal worker ask
 
 -- a denial names one of the rules
 abbrev pub NamesRule : Decision → Type 0

@@ -4,6 +4,7 @@ ghost use Rattle.std.specs.Prelude.{◌≡◌};
 ghost use Rattle.policy_model.specs.Asks.{is_begin, is_end, is_lost, is_permit, is_proper, is_request, kind_of, request_number};
 
 use request_catalogue::{Kind, Label, Name, Note};
+use std::mem::size_of;
 
 /// Why a session ended.
 #[derive(Clone, Copy, PartialEq, Eq, Debug)]
@@ -103,6 +104,9 @@ pub struct Event {
     pub ask: Ask,
     pub decision: Decision,
 }
+
+/// An event is copied into the journal, which has room for 1,048,576 of them.
+const _: () = prove!(size_of::<Event>() <= 128);
 
 /// An ask of a worker.
 #[derive(Clone, Copy, PartialEq, Eq, Debug)]

@@ -2,14 +2,29 @@
 //! journal of all events. Everything is decided by looking through the one list of events.
 #![tactic(auto)]
 
+mod account;
 mod event;
+mod handles;
+mod journal;
 mod judging;
+mod laws;
+mod logins;
+mod parts;
 mod phase;
+mod ranges;
+mod reading;
 mod setup;
 mod table;
+mod texts;
+mod verdict;
 
+pub use account::{Account, Accounts, Grant, Grants};
 pub use event::{Ask, Decision, Event, Step, Why};
-pub use judging::{event_after, has_lost, judge, open_session};
+pub use journal::{has_lost, open_session};
+pub use judging::{event_after, judge, judge_narrow};
+pub use laws::{no_password_twice, one_taker_at_a_time, sequence_falls, verified_before_export};
+pub use parts::SetupParts;
 pub use phase::{Phase, Row};
 pub use setup::Setup;
-pub use table::row;
+pub use table::{Table, narrow_row, row};
+pub use texts::{Numbers, Text};

@@ -1,25 +1,20 @@
 //! The setup of a run.
 
-ghost use Rattle.std.specs.Prelude.{◌≡◌, ◌≤◌, IfOk};
-ghost use Rattle.policy_model.specs.Settings.{IsInRange, events_max, plain_settings};
+ghost use Rattle.std.specs.Prelude.{◌≡◌, ◌≤◌, ◌↔◌, IfOk, IsOk, MatchResult};
+ghost use Rattle.policy_model.specs.Settings.{IsInRange, account_number, events_max, plain_settings};
 
+use crate::account::Accounts;
+use crate::parts::SetupParts;
+use crate::ranges::{passes, position_of};
+use crate::texts::{Numbers, Text};
+use request_catalogue::Name;
 use std::alloc::{AllocError, Global};
 use std::marker::Model;
 
-/// What an operator settles before a run. Contracts see it as its settings, which are in their ranges.
-#[derive(Drop)]
+/// The setup of a run: parts in their ranges, without a name or a user number twice.
+#[derive(Debug, Drop)]
 pub struct Setup {
-    socket: String,
-    launcher: String,
-    vault: String,
-    words: String,
-    banner: String,
-    workers: u32,
-    connections: u32,
-    requests: u32,
-    tries: u32,
-    hold: u32,
-    info: Vec<u32>,
+    parts: SetupParts,
 }
 
 impl Model for Setup {
@@ -35,44 +30,101 @@ impl Model for Setup {
 }
 
 impl Setup {
-    /// The setup that `serve` runs where no file is named: one worker that serves one connection.
+    /// The setup of these parts. Parts that are not in their ranges are given back.
+    pub fn of(parts: SetupParts) -> Result<Setup, SetupParts>
+        ensures same { MatchResult result (λ setup. setup ≡ parts) (λ back. back ≡ parts) }
+        ensures refused { IsOk result ↔ IsInRange parts }
+    {
+        if passes(&parts) {
+            Ok(Setup { parts })
+        } else {
+            Err(parts)
+        }
+    }
+
+    /// The setup that `serve` runs where no file is named: one worker that serves one connection,
+    /// no accounts and no information.
     pub fn plain(alloc: Global) -> Result<Setup, AllocError>
         ensures { IfOk result (λ setup. setup ≡ plain_settings) }
     {
         Ok(Setup {
-            socket: String::from_str(alloc, "otplogd.sock")?,
-            launcher: String::from_str(alloc, "otplogd")?,
-            vault: String::from_str(alloc, "vault")?,
-            words: String::from_str(alloc, "words")?,
-            banner: String::new(alloc),
-            workers: 1,
-            connections: 1,
-            requests: 64,
-            tries: 3,
-            hold: 30_000,
-            info: Vec::new(alloc),
+            parts: SetupParts {
+                socket: Text::of(String::from_str(alloc, "otplogd.sock")?),
+                launcher: Text::of(String::from_str(alloc, "otplogd")?),
+                vault: Text::of(String::from_str(alloc, "vault")?),
+                words: Text::of(String::from_str(alloc, "words")?),
+                banner: Text::of(String::new(alloc)),
+                workers: 1,
+                connections: 1,
+                requests: 64,
+                tries: 3,
+                hold: 30_000,
+                info: Numbers::of(Vec::new(alloc)),
+                accounts: Accounts::of(Vec::new(alloc)),
+            },
         })
+    }
+
+    /// A second setup of the same parts.
+    pub fn copy(&self, alloc: Global) -> Result<Setup, AllocError>
+        ensures { IfOk result (λ copy. copy ≡ self.now) }
+    {
+        let parts = &self.parts;
+        Ok(Setup {
+            parts: SetupParts {
+                socket: parts.socket.copy(alloc)?,
+                launcher: parts.launcher.copy(alloc)?,
+                vault: parts.vault.copy(alloc)?,
+                words: parts.words.copy(alloc)?,
+                banner: parts.banner.copy(alloc)?,
+                workers: parts.workers,
+                connections: parts.connections,
+                requests: parts.requests,
+                tries: parts.tries,
+                hold: parts.hold,
+                info: parts.info.copy(alloc)?,
+                accounts: parts.accounts.copy(alloc)?,
+            },
+        })
+    }
+
+    /// The parts, which are in their ranges.
+    pub fn parts(&self) -> &SetupParts
+        ensures value { result.now ≡ self.now }
+        ensures in_range { IsInRange self.now }
+    {
+        &self.parts
+    }
+
+    /// The number of the user's account, counted from 0.
+    pub fn find(&self, user: &Name) -> Option<u32>
+        ensures { result ≡ account_number self.now user.now }
+    {
+        match position_of(self.parts.accounts.as_slice(), user) {
+            None => None,
+            Some(number) => Some(number as u32),
+        }
     }
 
     /// The path of the socket that clients connect to.
     pub fn socket(&self) -> &str
         ensures { result.now ≡ self.now.socket }
     {
-        self.socket.as_str()
+        self.parts.socket.as_str()
     }
 
     /// The program that is started for each child.
     pub fn launcher(&self) -> &str
         ensures { result.now ≡ self.now.launcher }
     {
-        self.launcher.as_str()
+        self.parts.launcher.as_str()
     }
 
     /// The folder of the users' files.
     pub fn vault(&self) -> &str
         ensures { result.now ≡ self.now.vault }
     {
-        self.vault.as_str()
+        self.parts.vault.as_str()
     }
 
     /// How many workers serve beside one another, 1 to 64.
@@ -80,7 +132,7 @@ impl Setup {
         ensures value { result ≡ self.now.workers }
         ensures in_range { IsInRange self.now }
     {
-        self.workers
+        self.parts.workers
     }
 
     /// How many connections each worker serves, 1 to 4,096.
@@ -88,7 +140,7 @@ impl Setup {
         ensures value { result ≡ self.now.connections }
         ensures in_range { IsInRange self.now }
     {
-        self.connections
+        self.parts.connections
     }
 
     /// How many asks a session may make, 8 to 4,096.
@@ -96,7 +148,7 @@ impl Setup {
         ensures value { result ≡ self.now.requests }
         ensures in_range { IsInRange self.now }
     {
-        self.requests
+        self.parts.requests
     }
 
     /// How many events a run makes at most, over all workers: at most 1,048,576.
@@ -104,6 +156,7 @@ impl Setup {
         ensures value { result ≡ events_max self.now }
         ensures in_range { IsInRange self.now }
     {
-        self.workers as usize * (self.connections as usize * (self.requests as usize + 3))
+        let s = &self.parts;
+        s.workers as usize * (s.connections as usize * (s.requests as usize + 3))
     }
 }

@@ -4,6 +4,7 @@ pub mod Acts
 pub mod Answers
 pub mod Log
 pub mod Parts
+pub mod Ends
 pub mod Sittings
 pub mod Stories
 pub mod Smallest

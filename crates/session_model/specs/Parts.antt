@@ -1,6 +1,6 @@
 -- What one child had of a session.
-use Rattle.std.specs.Prelude.{◌≡◌, ◌≢◌, ℕ, true, false, List, [], ◌++◌, take, All, Option, Some, None, option_to_list}
-use Rattle.std.specs.List.{flat_map}
+use Rattle.std.specs.Prelude.{◌≡◌, ◌≢◌, ℕ, true, false, List, [], ◌++◌, take, Option, Some, None, option_to_list}
+use Rattle.std.specs.List.{AllByRecursion, flat_map}
 use Rattle.imsg_frame.specs.Message.{Message, spelling_of}
 use Rattle.imsg_frame.specs.Cut.{IsPartialFront, IsBadFront}
 use Rattle.outside.specs.declared.act.Role.{Role}
@@ -77,8 +77,12 @@ pub record LastSent (why : Why) (whole sent : List ℕ) : Type 0 where
 
 -- what one child had of a session that ended so
 pub record IsPart (why : Why) (part : Part) : Type 0 where
-  pub each : All IsRequestStep (requests_of part)
-  pub on : All GoesOn part.served
+  pub each : AllByRecursion IsRequestStep (requests_of part)
+  pub on : AllByRecursion GoesOn part.served
   pub taken : part.taken ≡ step_bytes (requests_of part) ++ part.rest
   pub sent : (last : List ℕ) × (part.sent ≡ answers part.served ++ last) × LastSent why (answers (option_to_list part.final)) last
   pub ended : why ≢ whys.LinkFault → EndsSo why part.final part.rest part.unread
+
+-- a child was sent the answer to each of its requests, whole
+pub record IsAnswered (part : Part) : Type 0 where
+  pub whole : part.sent ≡ answers (requests_of part)

@@ -1,6 +1,6 @@
 -- One session of a worker, and all of them.
-use Rattle.std.specs.Prelude.{◌≡◌, ◌≢◌, ℕ, true, false, List, [], ◌∷◌, ◌++◌, All, Option, Some, None, option_to_list}
-use Rattle.std.specs.List.{flat_map}
+use Rattle.std.specs.Prelude.{◌≡◌, ◌≢◌, ℕ, true, false, List, [], ◌∷◌, ◌++◌, Option, Some, None, option_to_list}
+use Rattle.std.specs.List.{AllByRecursion, flat_map}
 use Rattle.outside.specs.declared.act.Role.TheVariants.{Pre}
 use Rattle.policy_model.specs.declared.event.Ask.TheVariants as asks
 use Rattle.policy_model.specs.declared.event.Why.{Why}
@@ -52,4 +52,4 @@ pub record IsSitting (sitting : Sitting) : Type 0 where
 -- the sessions of a worker, one after the other, are all its events
 pub record AreSittingsOf (journal : List Event) (worker : ℕ) (sittings : List Sitting) : Type 0 where
   pub places : places_of journal worker ≡ step_places (flat_map all_steps sittings)
-  pub each : All IsSitting sittings
+  pub each : AllByRecursion IsSitting sittings

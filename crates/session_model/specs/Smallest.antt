@@ -9,7 +9,7 @@ use Rattle.policy_model.specs.declared.event.Ask.TheVariants as asks
 use Rattle.policy_model.specs.declared.event.Why.TheVariants.{Finished}
 use Rattle.policy_model.specs.declared.event.Decision.TheVariants.{Permit}
 use Rattle.policy_model.specs.declared.event.Event.{Event}
-use Rattle.policy_model.specs.Legal.{next_event}
+use Rattle.policy_model.specs.Narrow.{next_event}
 use Rattle.policy_model.specs.Settings.{plain_settings}
 use Rattle.session_model.specs.Places.{place_of}
 use Rattle.session_model.specs.Requests.{IsAskOf}

@@ -1,5 +1,5 @@
 -- All that a worker did, against what its post tells.
-use Rattle.std.specs.Prelude.{◌≡◌, ℕ, ◌+◌, List, [], ◌∷◌, ◌++◌, map}
+use Rattle.std.specs.Prelude.{◌≡◌, ℕ, ◌+◌, Bool, true, false, List, [], ◌∷◌, ◌++◌, map}
 use Rattle.std.specs.List.{flat_map, AllByRecursion}
 use Rattle.outside.specs.declared.act.Act.{Act}
 use Rattle.outside.specs.declared.act.Act.TheVariants.{Accept}
@@ -20,6 +20,12 @@ abbrev pub last_acts : LastAccept → List Act
 last_acts Unasked = []
 last_acts NoneLeft = Accept accepted.NoneLeft ∷ []
 last_acts AcceptFailed = Accept accepted.Failed ∷ []
+
+-- an accept by which no connection came
+abbrev pub is_stop : Act → Bool
+is_stop (Accept accepted.NoneLeft) = true
+is_stop (Accept accepted.Failed) = true
+is_stop _ = false
 
 abbrev pub parts_of : List Sitting → List Part
 parts_of sittings = flat_map (λ s. s.parts) sittings

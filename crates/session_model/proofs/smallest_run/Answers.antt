@@ -6,14 +6,15 @@ use Rattle.request_catalogue.specs.Kinds.{kind_numbered}
 use Rattle.request_catalogue.specs.Reading.{asked_by, request_of}
 use Rattle.request_catalogue.specs.Replies.{reply_of}
 use Rattle.policy_model.specs.Legal.{session_of}
-use Rattle.policy_model.specs.Verdict.{verdict_of}
+use Rattle.policy_model.specs.Phases.{phase_of}
+use Rattle.policy_model.specs.Verdict.{handle_verdict, kind_verdict, verdict_by}
 use Rattle.session_model.specs.Acts.{operations_of}
 use Rattle.session_model.specs.Answers.{reply_to}
 use Rattle.session_model.specs.Log.{line_of}
 use Rattle.session_model.proofs.smallest_run.Goals as goal
 
 pub returns : goal.returns
-unfolding verdict_of session_of operations_of reply_to spelling_of header_bytes reply_of request_of asked_by kind_numbered number_at line_of digits
+unfolding verdict_by phase_of kind_verdict handle_verdict session_of operations_of reply_to spelling_of header_bytes reply_of request_of asked_by kind_numbered number_at line_of digits
 returns c = record {
   opens = refl;
   writes = refl;

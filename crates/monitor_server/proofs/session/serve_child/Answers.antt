@@ -1,24 +1,49 @@
-use Rattle.std.proofs.Common.{rules}
+use Rattle.std.proofs.Common.{arith, rules, ◌∙◌}
+use Rattle.policy_model.proofs.Runs.{OthersStay-then}
+use Rattle.monitor_server.proofs.Faults.{NoFewer-none, NoFewer-then}
 use Rattle.monitor_server.proofs.Logs.{Logged-then}
+use Rattle.monitor_server.proofs.Turns.{Concludes-after, Proceeds-none, Proceeds-then}
 use Rattle.monitor_server.proofs.session.serve_child.Goals as goal
-use Rattle.monitor_server.proofs.session.serve_child.Goals.{in-Frame, in-NotYet, in-Bad}
 
-pub returns-in-Some-clause-logged : goal.returns-in-Some-clause-logged
-returns-in-Some-clause-logged g c =
-    elim c.match-next.branch [
-      | in-Frame w ↦ rw w.book-is (Logged-then c.loop-message.invariant.logged w.serve_message-end.ensures.logged)
-      | in-NotYet w ↦ rw w.book-is c.loop-message.invariant.logged
-      | in-Bad w ↦ rw w.book-is c.loop-message.invariant.logged
-    ]
-
-pub loop-message-preserved : goal.loop-message-preserved
-loop-message-preserved g c = record {
+pub loop-why-init : goal.loop-why-init
+loop-why-init g c = record {
   underway = search rules;
   capacity = search rules;
   max = search rules;
-  logged = elim c.match-next.branch [
-    | in-Frame w ↦ rw w.book-is (Logged-then c.loop-message.invariant.logged w.serve_message-end.ensures.logged)
-    | in-NotYet w ↦ rw w.book-is c.loop-message.invariant.logged
-    | in-Bad w ↦ rw w.book-is c.loop-message.invariant.logged
-  ];
+  logged = search rules;
+  proceeds = Proceeds-none c.args.worker c.args.book.now.journal.items (g.P.Post.scene c.args.post.now) (g.P.Child.Stream.link c.args.child.now) c.args.reader.now.bytes;
+  role = search rules;
+  kept = NoFewer-none (g.P.Post.link_faults c.args.post.now) (g.P.Post.keeper_faults c.args.post.now);
 }
+
+pub returns-in-Some-clause-logged : goal.returns-in-Some-clause-logged
+returns-in-Some-clause-logged g c = Logged-then c.loop-why.invariant.logged c.serve_turn-end.ensures.logged
+
+pub returns-in-Some-clause-concludes : goal.returns-in-Some-clause-concludes
+returns-in-Some-clause-concludes g c =
+    let turn = c.serve_turn-end in
+    Concludes-after c.args.worker c.in-Some.why c.args.book.now.journal.items c.loop-why.book.journal.items turn.new.book.journal.items (g.P.Post.scene c.args.post.now) (g.P.Post.scene c.loop-why.post) (g.P.Post.scene turn.new.post)
+    (g.P.Child.Stream.link c.args.child.now) (g.P.Child.Stream.link c.loop-why.child) (g.P.Child.Stream.link turn.new.child) c.args.reader.now.bytes c.loop-why.reader.bytes c.loop-why.invariant.proceeds c.in-Some.ensures.turns
+
+pub loop-why-preserved : goal.loop-why-preserved
+loop-why-preserved g c =
+    let turn = c.serve_turn-end in
+    let kept = c.loop-why.invariant in
+    record {
+      underway = record {
+        after = record {
+          run = turn.ensures.after.run;
+          opened = turn.ensures.after.opened;
+          others = OthersStay-then c.args.worker c.args.book.now.journal.items c.loop-why.book.journal.items turn.new.book.journal.items kept.underway.after.others turn.ensures.after.others;
+        };
+        below = c.in_default.ensures.advances.below;
+        len = omega (arith, kept.underway.len, c.in_default.ensures.advances.len);
+      };
+      capacity = turn.ensures.capacity ∙ kept.capacity;
+      max = turn.ensures.max ∙ kept.max;
+      logged = Logged-then kept.logged turn.ensures.logged;
+      proceeds = Proceeds-then c.args.worker c.args.book.now.journal.items c.loop-why.book.journal.items turn.new.book.journal.items (g.P.Post.scene c.args.post.now) (g.P.Post.scene c.loop-why.post) (g.P.Post.scene turn.new.post)
+          (g.P.Child.Stream.link c.args.child.now) (g.P.Child.Stream.link c.loop-why.child) (g.P.Child.Stream.link turn.new.child) c.args.reader.now.bytes c.loop-why.reader.bytes turn.new.reader.bytes kept.proceeds c.in_default.ensures.turns;
+      role = turn.ensures.role ∙ kept.role;
+      kept = NoFewer-then (g.P.Post.link_faults c.args.post.now) (g.P.Post.keeper_faults c.args.post.now) (g.P.Post.link_faults c.loop-why.post) (g.P.Post.keeper_faults c.loop-why.post) (g.P.Post.link_faults turn.new.post) (g.P.Post.keeper_faults turn.new.post) kept.kept turn.ensures.kept;
+    }

@@ -1,17 +1,21 @@
-use Rattle.std.proofs.Common.{◌≡◌, ◌+◌, ◌-◌, ◌*◌, length, vec_len, vec_capacity}
+use Rattle.std.proofs.Common.{◌≡◌, length, vec_len, vec_capacity}
 use Rattle.policy_model.specs.Journal.{asks_of}
 use Rattle.monitor_server.specs.Book.{Logged}
+use Rattle.monitor_server.specs.Serving.{NoFewer, Proceeds, work_left}
 use Rattle.monitor_server.specs.Session.{IsUnderway}
 use Rattle.monitor_server.proofs.session.serve_child.Given as goal
 
-abbrev pub invariant-loop-message : goal.invariant-loop-message
-invariant-loop-message g l = record {
+abbrev pub invariant-loop-why : goal.invariant-loop-why
+invariant-loop-why g l = record {
   underway : IsUnderway l.setup l.worker l.session l.fn.book.journal.items l.book.journal.items (vec_len l.fn.book.journal) (vec_len l.book.journal);
   capacity : vec_capacity l.book.journal ≡ vec_capacity l.fn.book.journal;
   max : l.reader.max ≡ 16384;
   logged : Logged l.setup l.fn.book.journal.items l.book.journal.items (g.K.Sink.held l.fn.book.log) (g.K.Sink.held l.book.log) (g.K.Sink.faults l.fn.book.log) (g.K.Sink.faults l.book.log);
+  proceeds : Proceeds l.worker l.fn.book.journal.items l.book.journal.items (g.P.Post.scene l.fn.post) (g.P.Post.scene l.post) (g.P.Child.Stream.link l.fn.child) (g.P.Child.Stream.link l.child) l.fn.reader.bytes l.reader.bytes;
+  role : g.P.Child.Stream.role l.child ≡ g.P.Child.Stream.role l.fn.child;
+  kept : NoFewer (g.P.Post.link_faults l.fn.post) (g.P.Post.keeper_faults l.fn.post) (g.P.Post.link_faults l.post) (g.P.Post.keeper_faults l.post);
 }
 
 -- the asks that are left, and within one of them the bytes that the reader has room for
-abbrev pub decreases-loop-message : goal.decreases-loop-message
-decreases-loop-message g l = (l.setup.requests + 1 - asks_of l.book.journal.items l.session) * 16385 + (16384 - length l.reader.bytes)
+abbrev pub decreases-loop-why : goal.decreases-loop-why
+decreases-loop-why g l = work_left l.setup.requests (asks_of l.book.journal.items l.session) (length l.reader.bytes)

@@ -1,16 +1,61 @@
-use Rattle.std.proofs.Common.{arith, rules}
+use Rattle.std.proofs.Common.{◌≡◌, ◌+◌, ◌∷◌, ◌++◌, [], length, ap, refl, subst, ◌∙◌, length-append, arith, rules}
 use Rattle.std.proofs.lemmas.Grind.{common_steps}
+use Rattle.policy_model.specs.declared.event.Why.TheVariants.{LogLost}
+use Rattle.monitor_server.specs.Serving.{EndsFor}
 use Rattle.monitor_server.proofs.Logs.{Logged-then}
+use Rattle.monitor_server.proofs.Steps.{Ended-then}
+use Rattle.monitor_server.proofs.Stories.{counted_kept, counted_more, counted_none, lost_more, sittings_more, sittings_none}
 use Rattle.monitor_server.proofs.worker.serve_worker.Goals as goal
+
+pub loop-init : goal.loop-init
+loop-init g c = record {
+  ended = search rules;
+  len = search rules;
+  capacity = search rules;
+  max = search rules;
+  story = ([], sittings_none c.args.worker c.args.book.now.journal.items (g.P.Post.scene c.args.post.now), refl, counted_none (g.P.Post.link_faults c.args.post.now) (g.P.Post.keeper_faults c.args.post.now));
+  logged = search rules;
+}
 
 pub returns-then-eq-clause-logged : goal.returns-then-eq-clause-logged
 returns-then-eq-clause-logged g c = Logged-then c.loop.invariant.logged c.run_session-why.ensures.logged
 
+pub returns-then-eq-clause-story : goal.returns-then-eq-clause-story
+returns-then-eq-clause-story g c =
+    let story = c.loop.invariant.story in
+    let run = c.run_session-why in
+    let one = run.ensures.sitting in
+    let lost : run.result ≡ LogLost = search rules in
+    let came = rw c.in-Ok-Some.field-0-is at c.in-Ok-Some.ensures.act in
+    record {
+      sittings = story.0 ++ one.sitting ∷ [];
+      are = sittings_more c.args.worker story.0 run.result c.args.book.now.journal.items c.loop.book.journal.items run.new.book.journal.items (g.P.Post.scene c.args.post.now) (g.P.Post.scene c.loop.post) (g.P.Post.scene c.accept.new.self) (g.P.Post.scene run.new.post) story.1 came one;
+      all = λ e. absurd cc;
+      lost = λ e. lost_more story.0 one.sitting one.is (subst (λ why. EndsFor why one.sitting.ending) lost one.ended);
+      counted = counted_more story.0 one.sitting run.result (g.P.Post.link_faults c.args.post.now) (g.P.Post.keeper_faults c.args.post.now) (g.P.Post.link_faults c.accept.new.self) (g.P.Post.keeper_faults c.accept.new.self) (g.P.Post.link_faults run.new.post) (g.P.Post.keeper_faults run.new.post)
+          (counted_kept story.0 (g.P.Post.link_faults c.args.post.now) (g.P.Post.keeper_faults c.args.post.now) (g.P.Post.link_faults c.loop.post) (g.P.Post.keeper_faults c.loop.post) (g.P.Post.link_faults c.accept.new.self) (g.P.Post.keeper_faults c.accept.new.self) story.3 c.accept.ensures.link_faults c.accept.ensures.keeper_faults)
+          one.is one.ended run.ensures.cause;
+    }
+
 pub loop-preserved : goal.loop-preserved
-loop-preserved g c = record {
-  ended = search rules;
-  len = grind (arith, common_steps);
-  capacity = search rules;
-  max = search rules;
-  logged = Logged-then c.loop.invariant.logged c.run_session-why.ensures.logged;
-}
+loop-preserved g c =
+    let story = c.loop.invariant.story in
+    let run = c.run_session-why in
+    let one = run.ensures.sitting in
+    let came = rw c.in-Ok-Some.field-0-is at c.in-Ok-Some.ensures.act in
+    let more : length (story.0 ++ one.sitting ∷ []) ≡ c.loop.counter + 1 = length-append story.0 (one.sitting ∷ []) ∙ ap (λ n. n + 1) story.2 in
+    record {
+      ended = Ended-then c.args.setup.now c.args.worker c.args.book.now.journal.items c.loop.book.journal.items run.new.book.journal.items c.loop.invariant.ended.others run.ensures.ended;
+      len = grind (arith, common_steps);
+      capacity = search rules;
+      max = search rules;
+      story = (
+        story.0 ++ one.sitting ∷ [],
+        sittings_more c.args.worker story.0 run.result c.args.book.now.journal.items c.loop.book.journal.items run.new.book.journal.items (g.P.Post.scene c.args.post.now) (g.P.Post.scene c.loop.post) (g.P.Post.scene c.accept.new.self) (g.P.Post.scene run.new.post) story.1 came one,
+        more,
+        counted_more story.0 one.sitting run.result (g.P.Post.link_faults c.args.post.now) (g.P.Post.keeper_faults c.args.post.now) (g.P.Post.link_faults c.accept.new.self) (g.P.Post.keeper_faults c.accept.new.self) (g.P.Post.link_faults run.new.post) (g.P.Post.keeper_faults run.new.post)
+            (counted_kept story.0 (g.P.Post.link_faults c.args.post.now) (g.P.Post.keeper_faults c.args.post.now) (g.P.Post.link_faults c.loop.post) (g.P.Post.keeper_faults c.loop.post) (g.P.Post.link_faults c.accept.new.self) (g.P.Post.keeper_faults c.accept.new.self) story.3 c.accept.ensures.link_faults c.accept.ensures.keeper_faults)
+            one.is one.ended run.ensures.cause,
+      );
+      logged = Logged-then c.loop.invariant.logged c.run_session-why.ensures.logged;
+    }

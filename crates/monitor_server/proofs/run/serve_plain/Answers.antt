@@ -1,0 +1,34 @@
+use Rattle.std.proofs.Common.{ap, refl}
+use Rattle.outside.specs.Told.{Rose}
+use Rattle.policy_model.specs.Settings.{plain_settings}
+use Rattle.monitor_server.proofs.Headline.{run_promises, unlistened, unremembered}
+use Rattle.monitor_server.proofs.Logs.{LogMatches-none}
+use Rattle.monitor_server.proofs.run.serve_plain.Goals as goal
+
+pub returns-in-Ok-listen-clause-promises : goal.returns-in-Ok-listen-clause-promises
+returns-in-Ok-listen-clause-promises g c =
+    let post = g.S.Post.Post in
+    let report = c.serve.result in
+    let first = g.K.Sink.held c.args.log in
+    run_promises report.status report.journal.items report.posts.items post.scene post.accept_faults post.link_faults post.keeper_faults
+    (Rose (g.S.Site.listen_faults c.args.site.now) (g.S.Site.listen_faults c.listen.new.self)) (Rose (g.K.Sink.faults c.args.log) (g.K.Sink.faults report.log)) first (g.K.Sink.held report.log)
+    c.serve.ensures.status c.serve.ensures.lost c.serve.ensures.log_lost (λ lost. c.serve.ensures.logged.fault.rose lost refl) c.serve.ensures.posts c.serve.ensures.ran c.serve.ensures.legal
+    (c.serve.ensures.logged.log.kept first (LogMatches-none plain_settings first))
+
+pub returns-in_default-clause-promises : goal.returns-in_default-clause-promises
+returns-in_default-clause-promises g c =
+    let post = g.S.Post.Post in
+    let report = c.unused.result in
+    let unused = c.unused.ensures.unused in
+    unremembered report.status report.journal.items report.posts.items post.scene post.accept_faults post.link_faults post.keeper_faults
+    (Rose (g.S.Site.listen_faults c.args.site.now) (g.S.Site.listen_faults c.args.site.now)) (Rose (g.K.Sink.faults c.args.log) (g.K.Sink.faults report.log)) (g.K.Sink.held c.args.log) (g.K.Sink.held report.log)
+    c.unused.ensures.status (ap g.K.Sink.held unused.log) unused.events unused.workers
+
+pub returns-in-Err-clause-promises : goal.returns-in-Err-clause-promises
+returns-in-Err-clause-promises g c =
+    let post = g.S.Post.Post in
+    let report = c.unused-in-Err.result in
+    let unused = c.unused-in-Err.ensures.unused in
+    unlistened report.status report.journal.items report.posts.items post.scene post.accept_faults post.link_faults post.keeper_faults
+    (Rose (g.S.Site.listen_faults c.args.site.now) (g.S.Site.listen_faults c.listen.new.self)) (Rose (g.K.Sink.faults c.args.log) (g.K.Sink.faults report.log)) (g.K.Sink.held c.args.log) (g.K.Sink.held report.log)
+    c.unused-in-Err.ensures.status c.in-Err.ensures.failed (ap g.K.Sink.held unused.log) unused.events unused.workers

@@ -1,0 +1,27 @@
+-- The files that a session has open.
+use Rattle.std.specs.Prelude.{ℕ, not, ◌==◌, ◌&&◌, List, [], ◌∷◌, Option, is_none, unwrap_or, if◌then◌else◌}
+use Rattle.std.specs.List.{find, list_any}
+use Rattle.policy_model.specs.declared.event.Event.{Event}
+use Rattle.policy_model.specs.Asks.{closes_file, handle_of, opens_file}
+use Rattle.policy_model.specs.Journal.{events_of}
+
+-- the permitted OPENs whose handle has no permitted CLOSE behind them
+abbrev pub live_opens : List Event → List Event
+live_opens [] = []
+live_opens (e ∷ events) = if opens_file e && not (list_any (closes_file (handle_of e)) events) then e ∷ live_opens events else live_opens events
+
+-- the live handles of a session, as the events that opened them: each has its handle, its name and its mode
+unfoldable pub live_handles_of : List Event → ℕ → List Event
+live_handles_of journal session = live_opens (events_of journal session)
+
+-- the event that opened a live handle
+abbrev pub opening_of : List Event → ℕ → ℕ → Option Event
+opening_of journal session handle = find (λ e. handle_of e == handle) (live_handles_of journal session)
+
+-- the numbers that handles have
+abbrev pub handle_numbers : List ℕ
+handle_numbers = 1 ∷ 2 ∷ 3 ∷ 4 ∷ 5 ∷ 6 ∷ 7 ∷ 8 ∷ []
+
+-- the least handle of 1 to 8 that isn't live, and 0 where there is none
+abbrev pub free_handle_of : List Event → ℕ → ℕ
+free_handle_of journal session = unwrap_or (find (λ n. is_none (opening_of journal session n)) handle_numbers) 0

@@ -1,0 +1,85 @@
+-- Who takes and holds a user, and which passwords were accepted.
+use Rattle.std.specs.Prelude.{ℕ, Bool, false, ◌||◌, ◌&&◌, ◌-◌, List, ◌∷◌, length, filter, Option, Some, None, nat_eq, unwrap_or, if◌then◌else◌}
+use Rattle.std.specs.List.{after_last, filter_map, find, last_or, list_any}
+use Rattle.request_catalogue.specs.declared.texts.Name.{Name}
+use Rattle.policy_model.specs.declared.account.Account.{Account}
+use Rattle.policy_model.specs.declared.event.Event.{Event}
+use Rattle.policy_model.specs.Asks.{accepts, challenge_name, gives_up, takes, takes_user, value_of}
+use Rattle.policy_model.specs.Journal.{Place, is_own, last_event, places_of}
+use Rattle.policy_model.specs.Phases.{is_over}
+use Rattle.policy_model.specs.Settings.{Settings, same_name}
+
+-- the account of this name
+abbrev pub account_of : Settings → Name → Option Account
+account_of setup user = find (λ a. same_name a.name user) setup.accounts
+
+-- the user that an event names
+abbrev pub user_named : Option Event → Option Name
+user_named None = None
+user_named (Some e) = challenge_name e.ask
+
+-- the user of a session's last permitted CHALLENGE
+unfoldable pub challenged_user : List Event → ℕ → Option Name
+challenged_user journal session = user_named (last_event journal session takes)
+
+-- the user of the session's last permitted CHALLENGE before a place
+abbrev pub user_before : ℕ → Option Place → Option Name
+user_before session None = None
+user_before session (Some place) = challenged_user place.before session
+
+-- the user that a session is logged in as: that of its last permitted CHALLENGE before its permitted REPLY
+unfoldable pub verified_user : List Event → ℕ → Option Name
+verified_user journal session = user_before session (last_or None (filter (λ place. is_own session accepts place.event) (places_of journal)))
+
+-- the last taking of a user: its last permitted CHALLENGE, of any session
+unfoldable pub last_taking_of : List Event → Name → Option Event
+last_taking_of journal user = last_or None (filter (takes_user user) journal)
+
+-- the session of a taking, and 0 where there is none
+abbrev pub session_taking : Option Event → ℕ
+session_taking None = 0
+session_taking (Some e) = e.session
+
+-- the session of a user's last taking has a REPLY or a permitted ABANDON behind it
+unfoldable pub was_given_up : List Event → Name → Bool
+was_given_up journal user = list_any (is_own (session_taking (last_taking_of journal user)) gives_up) (after_last (takes_user user) journal)
+
+-- the session of a taking that holds: it gave up nothing, and isn't over
+abbrev pub holder_by : List Event → Bool → Option Event → Option ℕ
+holder_by journal given_up None = None
+holder_by journal given_up (Some e) = if given_up || is_over journal e.session then None else Some e.session
+
+-- the holder of a user: the session of its last taking, unless that session has a REPLY or a permitted ABANDON behind it or is over
+unfoldable pub holder_of : List Event → Name → Option ℕ
+holder_of journal user = holder_by journal (was_given_up journal user) (last_taking_of journal user)
+
+-- two users are there, and they are the same
+abbrev pub is_user : Name → Option Name → Bool
+is_user user None = false
+is_user user (Some name) = same_name name user
+
+-- the password of a permitted REPLY for the user; a REPLY is for the user of its session's last permitted CHALLENGE before it
+abbrev pub reply_for : Name → Place → Option ℕ
+reply_for user place =
+    if accepts place.event && is_user user (challenged_user place.before place.event.session)
+    then Some (value_of place.event.decision) else None
+
+-- the passwords of a user's permitted replies, in order
+unfoldable pub replies_of : List Event → Name → List ℕ
+replies_of journal user = filter_map (reply_for user) (places_of journal)
+
+-- the accepted passwords of an account: the setup's, then those of its permitted replies
+abbrev pub accepted_of : List Event → Account → List ℕ
+accepted_of journal account = account.password ∷ replies_of journal account.name
+
+-- the current password of an account: the one that was accepted last
+abbrev pub current_password : List Event → Account → ℕ
+current_password journal account = unwrap_or (last_or None (accepted_of journal account)) 0
+
+-- the current sequence of an account: the setup's less the number of its permitted replies
+abbrev pub current_sequence : List Event → Account → ℕ
+current_sequence journal account = account.sequence - length (replies_of journal account.name)
+
+-- a password was accepted before
+abbrev pub was_accepted : List Event → Account → ℕ → Bool
+was_accepted journal account password = list_any (nat_eq password) (accepted_of journal account)

@@ -1,0 +1,28 @@
+//! What follows of every legal journal, whatever the setup: each function does nothing, and its
+//! contract is the law.
+
+ghost use Rattle.std.specs.Prelude.{List};
+ghost use Rattle.policy_model.specs.declared.event.Event.{Event};
+ghost use Rattle.policy_model.specs.Consequences.{NoPasswordTwice, OneTakerAtATime, SequenceFalls, VerifiedBeforeExport};
+ghost use Rattle.policy_model.specs.Legal.{IsLegal};
+ghost use Rattle.policy_model.specs.Settings.{Settings};
+
+/// No password of a user is accepted twice.
+pub fn no_password_twice()
+    ensures { (setup : Settings) (journal : List Event) → IsLegal setup journal → NoPasswordTwice setup journal }
+{}
+
+/// A user's sequence falls with each accepted password.
+pub fn sequence_falls()
+    ensures { (setup : Settings) (journal : List Event) → IsLegal setup journal → SequenceFalls setup journal }
+{}
+
+/// Between a session's challenge for a user and its accepted reply no other session takes the user.
+pub fn one_taker_at_a_time()
+    ensures { (setup : Settings) (journal : List Event) → IsLegal setup journal → OneTakerAtATime setup journal }
+{}
+
+/// A session exports a user's state only behind its own accepted reply for that user.
+pub fn verified_before_export()
+    ensures { (setup : Settings) (journal : List Event) → IsLegal setup journal → VerifiedBeforeExport setup journal }
+{}

@@ -1,0 +1,476 @@
+use otp_hash::{Algo, Seed};
+use policy_model::*;
+use request_catalogue::{Kind, Label, Name, Note};
+use std::alloc::{AllocError, Global};
+use std::process::Abort;
+use std::str::SplitWhitespace;
+use std::test::Fail;
+
+/// The password 0 of `This is a test.` with the seed `test` by MD5, and the one before it (RFC
+/// 2289, appendix C).
+const LAST: u64 = 0x9E87_6134_D904_99DD;
+
+const STORED: u64 = 0x7965_E054_36F5_029F;
+
+/// Each line is a worker, an ask, and what has to be decided on it.
+const TAKEOVER: &str = "
+    0 open permit 1
+    1 open permit 2
+    0 challenge alice 1000 permit 0
+    1 challenge alice 30999 deny 12 1
+    1 challenge alice 31000 permit 0
+    0 reply last deny 13 2
+    1 reply last permit last";
+
+const TAKEOVER_LATE: &str = "
+    0 open permit 1
+    1 open permit 2
+    0 challenge alice 1000 permit 0
+    1 challenge alice 30999 deny 12 1
+    1 challenge alice 31000 permit 0
+    1 reply last permit last
+    0 reply last deny 13 2";
+
+const LAST_PASSWORD: &str = "
+    0 open permit 1
+    0 challenge bob 1000 deny 9 0
+    0 challenge alice 1000 permit 0
+    0 reply last permit last
+    0 finish permit 0
+    0 end permit 0
+    0 open permit 2
+    0 challenge alice 90000 deny 11 0";
+
+const EARLY_REPLY: &str = "
+    0 open permit 1
+    0 reply last deny 6 3
+    0 write 0 deny 6 8
+    0 violation 6 permit 0";
+
+const EARLY_EXPORT: &str = "
+    0 open permit 1
+    0 export deny 6 5";
+
+const TWO_BANNERS: &str = "
+    0 open permit 1
+    0 banner permit 0
+    0 banner deny 7 1
+    0 end permit 0
+    0 open permit 2
+    0 banner permit 0";
+
+const TWO_IMPORTS: &str = "
+    0 open permit 1
+    0 challenge alice 1000 permit 0
+    0 abandon permit 0
+    0 challenge alice 1000 permit 0
+    0 reply last permit last
+    0 export permit 0
+    0 import permit 0
+    0 import deny 7 6";
+
+const TWO_EXPORTS: &str = "
+    0 open permit 1
+    0 challenge alice 1000 permit 0
+    0 reply last permit last
+    0 export permit 0
+    0 export deny 6 5";
+
+const DENIED_REPLIES: &str = "
+    0 open permit 1
+    0 challenge alice 1000 permit 0
+    0 unread deny 14 0
+    0 challenge alice 1000 permit 0
+    0 reply stored deny 15 0
+    0 challenge alice 1000 permit 0
+    0 reply 0 deny 16 0
+    0 challenge alice 1000 deny 8 3";
+
+const WORDS_FIRST: &str = "
+    0 open permit 1
+    0 challenge alice 1000 permit 0
+    0 both last stored permit last";
+
+const DIGITS_SECOND: &str = "
+    0 open permit 1
+    0 challenge alice 1000 permit 0
+    0 both stored last permit last";
+
+const HANDLES: &str = "
+    0 open permit 1
+    0 challenge alice 1000 permit 0
+    0 reply last permit last
+    0 export permit 0
+    0 grant 1 f1 permit 1
+    0 grant 1 f2 permit 2
+    0 grant 1 f3 permit 3
+    0 grant 1 f4 permit 4
+    0 grant 1 f5 permit 5
+    0 grant 1 f6 permit 6
+    0 grant 1 f7 permit 7
+    0 grant 1 f8 permit 8
+    0 grant 1 f9 deny 19 8
+    0 close 3 permit 0
+    0 grant 1 f9 permit 3
+    0 read 9 deny 17 9
+    0 read 1 permit 0
+    0 write 1 deny 18 1
+    0 write 0 permit 0
+    0 close 0 deny 17 0
+    0 close 8 permit 0
+    0 grant 1 g deny 20 0
+    0 grant 2 f1 deny 21 2";
+
+const BUDGET: &str = "
+    0 open permit 1
+    0 note permit 0
+    0 note permit 0
+    0 note permit 0
+    0 note permit 0
+    0 note permit 0
+    0 note permit 0
+    0 note permit 0
+    0 note permit 0
+    0 note deny 1 8
+    0 violation 1 permit 0
+    0 open permit 2
+    0 note permit 0";
+
+const INFORMATION: &str = "
+    0 open permit 1
+    0 challenge alice 1000 permit 0
+    0 reply last permit last
+    0 export permit 0
+    0 info 1 permit 0
+    0 info 2 deny 22 2";
+
+const OPENINGS_AND_ENDS: &str = "
+    0 end deny 6 0
+    0 finish deny 6 13
+    0 open permit 1
+    1 open permit 2
+    1 bad 2 1 deny 2 1
+    1 bad 2 1 deny 6 0
+    0 open deny 6 0
+    0 note deny 6 12
+    0 violation 6 permit 0
+    0 end deny 6 0";
+
+fn name(text: &str) -> Result<Name, Fail> {
+    Ok(Name::of(text.as_bytes()).ok_or("a name")?)
+}
+
+fn label(text: &str) -> Result<Label, Fail> {
+    Ok(Label::of(text.as_bytes()).ok_or("a label")?)
+}
+
+/// The next word of a line.
+fn word<'a>(words: &mut SplitWhitespace<'a>) -> Result<&'a str, Fail> {
+    Ok(words.next().ok_or("a word")?)
+}
+
+/// The next word as a number, or a password by its name.
+fn number(words: &mut SplitWhitespace<'_>) -> Result<u64, Fail> {
+    match word(words)? {
+        "last" => Ok(LAST),
+        "stored" => Ok(STORED),
+        text => Ok(text.parse::<u64>()?),
+    }
+}
+
+/// The next word as a number of 32 bits.
+fn small(words: &mut SplitWhitespace<'_>) -> Result<u32, Fail> {
+    Ok(u32::try_from(number(words)?)?)
+}
+
+/// The next word as a number of 8 bits.
+fn tiny(words: &mut SplitWhitespace<'_>) -> Result<u8, Fail> {
+    Ok(u8::try_from(number(words)?)?)
+}
+
+/// A REPLY with two readings, one or none.
+fn reply(words: Option<u64>, hex: Option<u64>) -> Ask {
+    Ask::Reply { words, hex }
+}
+
+/// An ask before the login.
+fn early_ask(kind: &str, words: &mut SplitWhitespace<'_>) -> Result<Ask, Fail> {
+    Ok(match kind {
+        "open" => Ask::Begin,
+        "banner" => Ask::Banner,
+        "challenge" => Ask::Challenge {
+            user: name(word(words)?)?,
+            now: number(words)?,
+        },
+        "reply" => reply(None, Some(number(words)?)),
+        "both" => reply(Some(number(words)?), Some(number(words)?)),
+        "unread" => reply(None, None),
+        "abandon" => Ask::Abandon,
+        "export" => Ask::Export { len: 21 },
+        _ => late_ask(kind, words)?,
+    })
+}
+
+/// An ask of a user's child, a bad frame or an end.
+fn late_ask(kind: &str, words: &mut SplitWhitespace<'_>) -> Result<Ask, Fail> {
+    Ok(match kind {
+        "import" => Ask::Import,
+        "grant" => Ask::OpenFile {
+            mode: tiny(words)?,
+            name: label(word(words)?)?,
+        },
+        "close" => Ask::CloseFile {
+            handle: small(words)?,
+        },
+        "info" => Ask::Info {
+            number: small(words)?,
+        },
+        "bad" => Ask::Bad {
+            rule: tiny(words)?,
+            detail: small(words)?,
+        },
+        "violation" => Ask::End {
+            why: Why::Violation { rule: tiny(words)? },
+        },
+        "end" => Ask::End { why: Why::Finished },
+        _ => any_ask(kind, words)?,
+    })
+}
+
+/// An ask that each phase permits.
+fn any_ask(kind: &str, words: &mut SplitWhitespace<'_>) -> Result<Ask, Fail> {
+    Ok(match kind {
+        "read" => Ask::ReadAt {
+            handle: small(words)?,
+            offset: 0,
+            max: 1,
+        },
+        "write" => Ask::WriteAt {
+            handle: small(words)?,
+            offset: 0,
+            len: 1,
+        },
+        "note" => Ask::Note {
+            text: Note::of(b"a").ok_or("a note")?,
+        },
+        "finish" => Ask::Finish,
+        _ => return Err(Fail::from("an ask")),
+    })
+}
+
+/// The decision at the end of a line.
+fn decision(words: &mut SplitWhitespace<'_>) -> Result<Decision, Fail> {
+    match word(words)? {
+        "permit" => Ok(Decision::Permit {
+            value: number(words)?,
+        }),
+        "deny" => Ok(Decision::Deny {
+            rule: tiny(words)?,
+            detail: small(words)?,
+        }),
+        _ => Err(Fail::from("a decision")),
+    }
+}
+
+/// Makes the ask of one line after the events so far.
+fn ask(rt: &impl Abort, setup: &Setup, journal: &mut Vec<Event>, line: &str) -> Result<(), Fail> {
+    let mut words = line.split_whitespace();
+    let worker = small(&mut words)?;
+    let kind = word(&mut words)?;
+    let ask = early_ask(kind, &mut words)?;
+    let want = decision(&mut words)?;
+    let given = judge(setup, journal.as_slice(), worker, &ask);
+    assert_eq!(rt; given, want, "of {line}");
+    assert!(rt; journal.len() < 1000);
+    let event = event_after(journal.as_slice(), worker, &ask, &given);
+    journal.push(event)?;
+    Ok(())
+}
+
+/// Makes the asks of all lines in order.
+fn play(rt: &impl Abort, alloc: Global, setup: &Setup, text: &str) -> Result<(), Fail> {
+    let mut journal: Vec<Event> = Vec::new(alloc);
+    for line in text.lines() {
+        if !line.is_empty() {
+            ask(rt, setup, &mut journal, line)?;
+        }
+    }
+    Ok(())
+}
+
+/// An account with the seed `test`.
+fn account(user: Name, uid: u32, sequence: u16, grants: Grants) -> Result<Account, Fail> {
+    let seed = Seed::of(b"test").ok_or("a seed")?;
+    Ok(Account {
+        name: user,
+        uid,
+        algo: Algo::Md5,
+        seed,
+        sequence,
+        password: STORED,
+        enabled: true,
+        grants,
+    })
+}
+
+/// Socket, launcher, vault, words and banner of the plain setup.
+const PLAIN_TEXTS: [&str; 5] = ["otplogd.sock", "otplogd", "vault", "words", ""];
+
+/// Workers, connections, requests, tries and hold of the plain setup, but for a second worker.
+const PLAIN_COUNTS: [u32; 5] = [2, 1, 64, 3, 30_000];
+
+/// The parts of a setup.
+fn parts(
+    alloc: Global,
+    texts: [&str; 5],
+    counts: [u32; 5],
+    info: Vec<u32>,
+    accounts: Vec<Account>,
+) -> Result<SetupParts, AllocError> {
+    Ok(SetupParts {
+        socket: Text::of(String::from_str(alloc, texts[0])?),
+        launcher: Text::of(String::from_str(alloc, texts[1])?),
+        vault: Text::of(String::from_str(alloc, texts[2])?),
+        words: Text::of(String::from_str(alloc, texts[3])?),
+        banner: Text::of(String::from_str(alloc, texts[4])?),
+        workers: counts[0],
+        connections: counts[1],
+        requests: counts[2],
+        tries: counts[3],
+        hold: counts[4],
+        info: Numbers::of(info),
+        accounts: Accounts::of(accounts),
+    })
+}
+
+fn setup_of(parts: SetupParts) -> Result<Setup, Fail> {
+    match Setup::of(parts) {
+        Ok(setup) => Ok(setup),
+        Err(_) => Err(Fail::from("in range")),
+    }
+}
+
+/// Grants of mode 1 for `f1` to `f9`.
+fn nine_grants(alloc: Global) -> Result<Vec<Grant>, Fail> {
+    let mut grants = Vec::new(alloc);
+    for text in ["f1", "f2", "f3", "f4", "f5", "f6", "f7", "f8", "f9"] {
+        grants.push(Grant {
+            name: label(text)?,
+            mode: 1,
+        })?;
+    }
+    Ok(grants)
+}
+
+/// The setup with the one account `alice`, her grants, and the information number 1.
+fn one_account(alloc: Global) -> Result<Setup, Fail> {
+    let grants = Grants::of(nine_grants(alloc)?);
+    let mut accounts = Vec::new(alloc);
+    accounts.push(account(name("alice")?, 1000, 1, grants)?)?;
+    let mut info = Vec::new(alloc);
+    info.push(1)?;
+    setup_of(parts(alloc, PLAIN_TEXTS, PLAIN_COUNTS, info, accounts)?)
+}
+
+#[test]
+fn decisions_by_the_whole_list(rt: HostRuntime) -> Result<(), Fail> {
+    let alloc = rt.alloc();
+    let setup = one_account(alloc)?;
+    for text in [
+        TAKEOVER,
+        TAKEOVER_LATE,
+        LAST_PASSWORD,
+        EARLY_REPLY,
+        EARLY_EXPORT,
+        TWO_BANNERS,
+        TWO_IMPORTS,
+        TWO_EXPORTS,
+        DENIED_REPLIES,
+        WORDS_FIRST,
+        DIGITS_SECOND,
+        HANDLES,
+        INFORMATION,
+        OPENINGS_AND_ENDS,
+    ] {
+        play(&rt, alloc, &setup, text)?;
+    }
+    Ok(())
+}
+
+#[test]
+fn the_budget_of_a_session(rt: HostRuntime) -> Result<(), Fail> {
+    let alloc = rt.alloc();
+    let counts = [1, 2, 8, 3, 1];
+    let none = Vec::new(alloc);
+    let setup = setup_of(parts(alloc, PLAIN_TEXTS, counts, none, Vec::new(alloc))?)?;
+    play(&rt, alloc, &setup, BUDGET)
+}
+
+#[test]
+fn the_narrow_service(rt: HostRuntime) -> Result<(), Fail> {
+    let setup = Setup::plain(rt.alloc())?;
+    let journal: [Event; 1] = [Event {
+        worker: 0,
+        session: 1,
+        ask: Ask::Begin,
+        decision: Decision::Permit { value: 1 },
+    }];
+    for line in [
+        "write 0 permit 0",
+        "finish permit 0",
+        "write 1 deny 17 1",
+        "banner deny 6 1",
+    ] {
+        let mut words = line.split_whitespace();
+        let kind = word(&mut words)?;
+        let ask = early_ask(kind, &mut words)?;
+        let want = decision(&mut words)?;
+        assert_eq!(rt; judge_narrow(&setup, &journal, 0, &ask), want, "of {line}");
+    }
+    assert!(rt; !has_lost(&journal));
+    assert_eq!(rt; open_session(&journal, 0), 1);
+    Ok(())
+}
+
+/// What the table says of a cell: `-` nothing, `y` permitted, `o` once, `d` deciding.
+fn cell(phase: Phase, kind: Kind) -> &'static str {
+    let row = row(phase, kind);
+    if !row.permitted {
+        "-"
+    } else if row.once {
+        "o"
+    } else if row.deciding {
+        "d"
+    } else {
+        "y"
+    }
+}
+
+/// The cells of the requests 1 to 13: before the login, challenged, verified, of the user, over.
+#[test]
+fn the_phase_table(rt: HostRuntime) -> Result<(), Fail> {
+    let alloc = rt.alloc();
+    let mut number: u32 = 0;
+    for want in [
+        "oo---", "y----", "-d---", "-y---", "--o--", "---o-", "yyyy-", "yyyy-", "---y-", "---y-",
+        "---y-", "yyyy-", "yyyy-",
+    ] {
+        number = number.saturating_add(1);
+        let kind = Kind::of(number).ok_or("a kind")?;
+        let mut cells = String::new(alloc);
+        for phase in [
+            Phase::Pre,
+            Phase::Challenged,
+            Phase::Verified,
+            Phase::User,
+            Phase::Over,
+        ] {
+            cells.push_str(cell(phase, kind))?;
+        }
+        assert_eq!(rt; cells.as_str(), want);
+    }
+    assert!(rt; !narrow_row(Phase::Pre, Kind::Note).permitted);
+    Ok(())
+}
+
+mod ranges;

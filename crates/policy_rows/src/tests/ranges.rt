@@ -1,0 +1,152 @@
+//! The ranges of a setup, at both ends of each.
+
+use super::*;
+
+/// Workers, connections, requests, tries, hold, and whether a setup may have them.
+const COUNTS: &str = "
+    1 1 8 1 1 yes
+    0 1 8 1 1 no
+    1 0 8 1 1 no
+    1 1 7 1 1 no
+    1 1 8 0 1 no
+    1 1 8 1 0 no
+    64 1 8 10 3600000 yes
+    65 1 8 1 1 no
+    1 4096 8 1 1 yes
+    1 4097 8 1 1 no
+    1 1 4096 1 1 yes
+    1 1 4097 1 1 no
+    1 1 8 11 1 no
+    1 1 8 1 3600001 no
+    64 64 253 1 1 yes
+    64 64 254 1 1 no";
+
+/// The place of a text (socket, launcher, vault, words, banner), and its length.
+const TEXTS: &str = "
+    0 1 yes
+    0 100 yes
+    0 0 no
+    0 101 no
+    1 255 yes
+    1 0 no
+    1 256 no
+    2 255 yes
+    2 0 no
+    2 256 no
+    3 255 yes
+    3 0 no
+    3 256 no
+    4 0 yes
+    4 200 yes
+    4 201 no";
+
+/// The first number of information, how many follow it in order, and one more behind them.
+const NUMBERS: &str = "
+    1 0 1000 yes
+    0 0 5 no
+    1 0 0 no
+    1 0 1001 no
+    7 1 7 no
+    1 30 1000 yes
+    1 31 1000 no";
+
+/// Whether a line ends with `yes`.
+fn wanted(words: &mut SplitWhitespace<'_>) -> Result<bool, Fail> {
+    Ok(word(words)? == "yes")
+}
+
+/// Whether a setup may have these counts.
+fn may_count(alloc: Global, counts: [u32; 5]) -> Result<bool, Fail> {
+    let none = Vec::new(alloc);
+    let parts = parts(alloc, PLAIN_TEXTS, counts, none, Vec::new(alloc))?;
+    Ok(Setup::of(parts).is_ok())
+}
+
+/// Whether a setup may have these texts.
+fn may_say(alloc: Global, texts: [&str; 5]) -> Result<bool, Fail> {
+    let none = Vec::new(alloc);
+    let parts = parts(alloc, texts, PLAIN_COUNTS, none, Vec::new(alloc))?;
+    Ok(Setup::of(parts).is_ok())
+}
+
+/// Whether a setup may have these numbers of information.
+fn may_inform(alloc: Global, info: Vec<u32>) -> Result<bool, Fail> {
+    let parts = parts(alloc, PLAIN_TEXTS, PLAIN_COUNTS, info, Vec::new(alloc))?;
+    Ok(Setup::of(parts).is_ok())
+}
+
+#[test]
+fn counts(rt: HostRuntime) -> Result<(), Fail> {
+    for line in COUNTS.lines() {
+        let mut words = line.split_whitespace();
+        if line.is_empty() {
+            continue;
+        }
+        let workers = small(&mut words)?;
+        let connections = small(&mut words)?;
+        let requests = small(&mut words)?;
+        let tries = small(&mut words)?;
+        let hold = small(&mut words)?;
+        let may = may_count(rt.alloc(), [workers, connections, requests, tries, hold])?;
+        assert_eq!(rt; may, wanted(&mut words)?, "{line}");
+    }
+    Ok(())
+}
+
+/// So many letters.
+fn letters(alloc: Global, count: u32) -> Result<String, AllocError> {
+    let mut text = String::new(alloc);
+    for _ in 0..count {
+        text.push_str("a")?;
+    }
+    Ok(text)
+}
+
+#[test]
+fn texts(rt: HostRuntime) -> Result<(), Fail> {
+    let alloc = rt.alloc();
+    for line in TEXTS.lines() {
+        let mut words = line.split_whitespace();
+        if line.is_empty() {
+            continue;
+        }
+        let place = small(&mut words)? as usize;
+        let text = letters(alloc, small(&mut words)?)?;
+        let mut texts = PLAIN_TEXTS;
+        if place < 5 {
+            texts[place] = text.as_str();
+        }
+        assert_eq!(rt; may_say(alloc, texts)?, wanted(&mut words)?, "{line}");
+    }
+    assert!(rt; !may_say(alloc, ["a", "a", "a", "a", "OTP\tlogin"])?);
+    Ok(())
+}
+
+/// A number, so many that follow it, and one more.
+fn row_of_numbers(alloc: Global, first: u32, more: u32, last: u32) -> Result<Vec<u32>, AllocError> {
+    let mut numbers = Vec::new(alloc);
+    numbers.push(first)?;
+    for n in 0..more {
+        numbers.push(first.saturating_add(n).saturating_add(1))?;
+    }
+    numbers.push(last)?;
+    Ok(numbers)
+}
+
+#[test]
+fn numbers(rt: HostRuntime) -> Result<(), Fail> {
+    let alloc = rt.alloc();
+    for line in NUMBERS.lines() {
+        let mut words = line.split_whitespace();
+        if line.is_empty() {
+            continue;
+        }
+        let first = small(&mut words)?;
+        let more = small(&mut words)?;
+        let last = small(&mut words)?;
+        let may = may_inform(alloc, row_of_numbers(alloc, first, more, last)?)?;
+        assert_eq!(rt; may, wanted(&mut words)?, "{line}");
+    }
+    assert!(rt; may_inform(alloc, Vec::new(alloc))?);
+    Ok(())
+}
