@@ -1,0 +1,18 @@
+-- What a setup file says of its texts and its counts.
+use Rattle.std.specs.Prelude.{Bool, ◌&&◌}
+use Rattle.policy_model.specs.Settings.{is_text}
+use Rattle.account_file.specs.declared.settings.Texts.{Texts}
+use Rattle.account_file.specs.declared.settings.Counts.{Counts}
+use Rattle.account_file.specs.Entries.{TextEntries, CountEntries}
+
+-- what a file says of these texts
+abbrev pub text_entries : Texts → TextEntries
+text_entries t = record { socket = t.socket.now; launcher = t.launcher.now; vault = t.vault.now; words = t.words.now; banner = t.banner.now }
+
+-- what a file says of these counts
+abbrev pub count_entries : Counts → CountEntries
+count_entries c = record { workers = c.workers; connections = c.connections; requests = c.requests; tries = c.tries; hold = c.hold }
+
+-- texts of a setup
+abbrev pub are_legal : Texts → Bool
+are_legal t = is_text 1 100 t.socket.now && is_text 1 255 t.launcher.now && is_text 1 255 t.vault.now && is_text 1 255 t.words.now && is_text 0 200 t.banner.now

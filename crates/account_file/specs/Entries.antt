@@ -1,0 +1,73 @@
+-- What a setup file says, and what it says of a setup.
+use Rattle.std.specs.Prelude.{ℕ, Bool, List, map}
+use Rattle.otp_hash.specs.declared.chain.Algo.{Algo}
+use Rattle.otp_hash.specs.SeedBytes.{seed_bytes}
+use Rattle.request_catalogue.specs.TextBytes.{name_bytes, label_bytes}
+use Rattle.policy_model.specs.declared.account.Grant.{Grant}
+use Rattle.policy_model.specs.declared.account.Account.{Account}
+use Rattle.policy_model.specs.Settings.{Settings}
+
+-- a grant: the bytes of its name, and its mode
+pub record GrantEntry : Type 0 where
+  pub name : List ℕ
+  pub mode : ℕ
+
+-- an account: the bytes of its name and its seed, and the rest
+pub record AccountEntry : Type 0 where
+  pub name : List ℕ
+  pub uid : ℕ
+  pub algo : Algo
+  pub seed : List ℕ
+  pub sequence : ℕ
+  pub password : ℕ
+  pub enabled : Bool
+  pub grants : List GrantEntry
+
+-- the texts of a setup
+pub record TextEntries : Type 0 where
+  pub socket : List ℕ
+  pub launcher : List ℕ
+  pub vault : List ℕ
+  pub words : List ℕ
+  pub banner : List ℕ
+
+-- the numbers of a setup
+pub record CountEntries : Type 0 where
+  pub workers : ℕ
+  pub connections : ℕ
+  pub requests : ℕ
+  pub tries : ℕ
+  pub hold : ℕ
+
+-- a setup
+pub record SetupEntries : Type 0 where
+  pub texts : TextEntries
+  pub counts : CountEntries
+  pub info : List ℕ
+  pub accounts : List AccountEntry
+
+-- what a file says of a grant
+abbrev pub grant_entry : Grant → GrantEntry
+grant_entry g = record { name = label_bytes g.name; mode = g.mode }
+
+-- what a file says of an account
+abbrev pub account_entry : Account → AccountEntry
+account_entry a = record {
+  name = name_bytes a.name;
+  uid = a.uid;
+  algo = a.algo;
+  seed = seed_bytes a.seed;
+  sequence = a.sequence;
+  password = a.password;
+  enabled = a.enabled;
+  grants = map grant_entry a.grants;
+}
+
+-- what a file says of a setup
+abbrev pub entries_of : Settings → SetupEntries
+entries_of s = record {
+  texts = record { socket = s.socket; launcher = s.launcher; vault = s.vault; words = s.words; banner = s.banner };
+  counts = record { workers = s.workers; connections = s.connections; requests = s.requests; tries = s.tries; hold = s.hold };
+  info = s.info;
+  accounts = map account_entry s.accounts;
+}

@@ -1,0 +1,33 @@
+-- Values that are read, or the first fault.
+use Rattle.std.specs.Prelude.{◌≡◌, Option, Some, None, Result, Ok, Err}
+use Rattle.account_file.specs.declared.fault.SetupRule.{SetupRule}
+use Rattle.account_file.specs.declared.fault.SetupFault.{SetupFault}
+use Rattle.account_file.specs.declared.fault.SetupError.{SetupError}
+use Rattle.account_file.specs.declared.fault.SetupError.TheVariants.{Refused, OutOfMemory}
+use Rattle.account_file.specs.declared.fault.Spot.{Spot}
+
+-- the fault of a rule that the value at a spot breaks
+abbrev pub fault_of : Spot → SetupRule → SetupFault
+fault_of spot rule = record { key = spot.key; rule = rule; account = spot.account }
+
+-- what is there, or else the fault of a rule
+abbrev pub demand : {A : Type 0} → Spot → SetupRule → Option A → Result A SetupFault
+demand spot rule (Some a) = Ok a
+demand spot rule None = Err (fault_of spot rule)
+
+-- the left fault first, then what follows from the value
+infixl 10 ◌>>=◌
+abbrev pub ◌>>=◌ : {A B : Type 0} → Result A SetupFault → (A → Result B SetupFault) → Result B SetupFault
+Ok a >>= next = next a
+Err fault >>= next = Err fault
+
+-- a result is the value that a definition gives, seen by a view, or its fault
+abbrev pub Reads : {A B : Type 0} → (A → B) → Result A SetupFault → Result B SetupFault → Type 0
+Reads view (Ok a) expected = expected ≡ Ok (view a)
+Reads view (Err fault) expected = expected ≡ Err fault
+
+-- the same of a result that may be want of memory, of which nothing is said
+abbrev pub Answers : {A B : Type 0} → (A → B) → Result A SetupError → Result B SetupFault → Type 0
+Answers view (Ok a) expected = expected ≡ Ok (view a)
+Answers view (Err (Refused fault)) expected = expected ≡ Err fault
+Answers view (Err OutOfMemory) expected = Unit {0}

@@ -1,0 +1,9 @@
+pub mod Accounts
+pub mod Counts
+pub mod Entries
+pub mod Faults
+pub mod Keys
+pub mod Levels
+pub mod Setups
+pub mod Spellings
+pub mod Trees

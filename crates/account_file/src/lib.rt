@@ -1,0 +1,18 @@
+//! The setup file: the setup that its bytes spell, or its first fault.
+#![tactic(auto)]
+
+mod accounts;
+mod fault;
+mod grants;
+mod info;
+mod keys;
+mod known;
+mod reading;
+mod settings;
+mod words;
+
+pub use fault::{SetupError, SetupFault, SetupKey, SetupRule};
+pub use reading::read_setup;
+
+#[cfg(test)]
+mod tests;

@@ -1,0 +1,107 @@
+//! The texts and the counts of a setup file.
+
+ghost use Rattle.std.specs.Prelude.{◌≡◌, ◌≤◌, ◌+◌, ◌*◌, IfOk, true, codes};
+ghost use Rattle.policy_model.specs.Settings.{is_text};
+ghost use Rattle.toml.specs.Data.{get_member};
+ghost use Rattle.toml.specs.View.{table_view};
+ghost use Rattle.account_file.specs.Counts.{are_legal, text_entries, count_entries};
+ghost use Rattle.account_file.specs.Faults.{Reads};
+ghost use Rattle.account_file.specs.Setups.{banner_of, texts_of, counts_of, product_of};
+
+use crate::fault::{SetupFault, SetupKey, SetupRule, Spot};
+use crate::keys::{entry, number_of, text_of};
+use toml::Table;
+
+/// The most events that a run may make.
+const EVENTS_MAX: u64 = 1_048_576;
+
+/// The texts of a setup.
+#[derive(Clone, Copy)]
+pub struct Texts<'a> {
+    pub socket: &'a str,
+    pub launcher: &'a str,
+    pub vault: &'a str,
+    pub words: &'a str,
+    pub banner: &'a str,
+}
+
+/// The counts of a setup, and its hold.
+#[derive(Clone, Copy, PartialEq, Eq, Debug)]
+pub struct Counts {
+    pub workers: u32,
+    pub connections: u32,
+    pub requests: u32,
+    pub tries: u32,
+    pub hold: u32,
+}
+
+/// The texts at their keys.
+pub fn texts_of(table: &Table) -> Result<Texts<'_>, SetupFault>
+    ensures read { Reads text_entries result (texts_of (table_view table.now)) }
+    ensures legal { IfOk result (λ t. are_legal t ≡ true) }
+{
+    let socket = text_of(table, "socket", top(SetupKey::Socket), 1, 100)?;
+    let launcher = text_of(table, "launcher", top(SetupKey::Launcher), 1, 255)?;
+    let vault = text_of(table, "vault", top(SetupKey::Vault), 1, 255)?;
+    let words = text_of(table, "words", top(SetupKey::Words), 1, 255)?;
+    let banner = banner_of(table)?;
+    Ok(Texts {
+        socket,
+        launcher,
+        vault,
+        words,
+        banner,
+    })
+}
+
+/// The banner, empty where the key isn't there.
+fn banner_of(table: &Table) -> Result<&str, SetupFault>
+    ensures read { Reads (λ s. s.now) result (banner_of (get_member (codes "banner") (table_view table.now))) }
+    ensures legal { IfOk result (λ s. is_text 0 200 s.now ≡ true) }
+{
+    match entry(table, "banner") {
+        None => Ok(""),
+        Some(_) => text_of(table, "banner", top(SetupKey::Banner), 0, 200),
+    }
+}
+
+/// The counts at their keys.
+pub fn counts_of(table: &Table) -> Result<Counts, SetupFault>
+    ensures read { Reads count_entries result (counts_of (table_view table.now)) }
+    ensures workers { IfOk result (λ c. (1 ≤ c.workers) × (c.workers ≤ 64)) }
+    ensures connections { IfOk result (λ c. (1 ≤ c.connections) × (c.connections ≤ 4096)) }
+    ensures requests { IfOk result (λ c. (8 ≤ c.requests) × (c.requests ≤ 4096)) }
+    ensures tries { IfOk result (λ c. (1 ≤ c.tries) × (c.tries ≤ 10)) }
+    ensures hold { IfOk result (λ c. (1 ≤ c.hold) × (c.hold ≤ 3600000)) }
+{
+    Ok(Counts {
+        workers: number_of(table, "workers", top(SetupKey::Workers), 1, 64)?,
+        connections: number_of(table, "connections", top(SetupKey::Connections), 1, 4_096)?,
+        requests: number_of(table, "requests", top(SetupKey::Requests), 8, 4_096)?,
+        tries: number_of(table, "tries", top(SetupKey::Tries), 1, 10)?,
+        hold: number_of(table, "hold", top(SetupKey::Hold), 1, 3_600_000)?,
+    })
+}
+
+/// The counts again, where a run makes at most 1,048,576 events by them.
+pub fn bounded(counts: Counts) -> Result<Counts, SetupFault>
+    requires workers { counts.workers ≤ 64 }
+    requires connections { counts.connections ≤ 4096 }
+    requires requests { counts.requests ≤ 4096 }
+    ensures read { Reads count_entries result (product_of (count_entries counts)) }
+    ensures same { IfOk result (λ c. c ≡ counts) }
+    ensures few { IfOk result (λ c. c.workers * (c.connections * (c.requests + 3)) ≤ 1048576) }
+{
+    let quota = u64::from(counts.connections) * (u64::from(counts.requests) + 3);
+    if u64::from(counts.workers) * quota > EVENTS_MAX {
+        return Err(top(SetupKey::Requests).breaks(SetupRule::Product));
+    }
+    Ok(counts)
+}
+
+/// A key outside the accounts.
+fn top(key: SetupKey) -> Spot
+    ensures { result ≡ record { key = key; account = 0 } }
+{
+    Spot::new(key, 0)
+}
