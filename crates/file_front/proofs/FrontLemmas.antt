@@ -36,8 +36,8 @@ IsFront-more (Some bytes) front piece room is read =
     let own : take (length piece) (drop (length front) bytes) ≡ piece = rw found (take-own_length room (drop (length front) bytes)) in
     sym (ap (λ n. take n bytes) (length-append front piece) ∙ take-add (length front) (length piece) bytes ∙ ap (λ w. w ++ take (length piece) (drop (length front) bytes)) (sym is) ∙ ap (λ w. front ++ w) own)
 
-pub HasFront-more : (before after : Option Contents) (name front buffer rest : List ℕ) (found : Option ℕ) (n offset room : ℕ) → Goes SameFiles before after → HasFront before name front → found ≡ Some n → offset ≡ length front → n ≤ length buffer → IfSome after (λ files. bytes_read found buffer ≡ piece_of (files name) offset room) → HasFront after name (front ++ take n (buffer ++ rest))
-HasFront-more before None name front buffer rest found n offset room goes has is at within read = tt
-HasFront-more None (Some files) name front buffer rest found n offset room goes has is at within read = absurd goes
-HasFront-more (Some before) (Some files) name front buffer rest found n offset room goes has is at within read =
-    rw (take-append-le n buffer rest within) (IsFront-more (files name) front (take n buffer) room (rw (goes.same name) has) (ap (λ f. bytes_read f buffer) (sym is) ∙ read ∙ ap (λ k. piece_of (files name) k room) at))
+pub HasFront-more : (before after : Option Contents) (word name : List ℕ) → word ≡ name → (front buffer rest : List ℕ) (found : Option ℕ) (n offset room : ℕ) → Goes SameFiles before after → HasFront before name front → found ≡ Some n → offset ≡ length front → n ≤ length buffer → IfSome after (λ files. bytes_read found buffer ≡ piece_of (files word) offset room) → HasFront after name (front ++ take n (buffer ++ rest))
+HasFront-more before None word name same front buffer rest found n offset room goes has is at within read = tt
+HasFront-more None (Some files) word name same front buffer rest found n offset room goes has is at within read = absurd goes
+HasFront-more (Some before) (Some files) word name same front buffer rest found n offset room goes has is at within read =
+    rw (take-append-le n buffer rest within) (IsFront-more (files name) front (take n buffer) room (rw (goes.same name) has) (ap (λ f. bytes_read f buffer) (sym is) ∙ read ∙ ap (λ w. piece_of (files w) offset room) same ∙ ap (λ k. piece_of (files name) k room) at))

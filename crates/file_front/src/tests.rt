@@ -1,5 +1,6 @@
 use super::*;
-use outside::{Bytes, CallKind, Fail, MemFiles};
+use outside::{Bytes, CallKind, Fail, MemFiles, Word};
+use std::alloc::{AllocError, Global};
 use std::test::Fail as Fault;
 
 /// A file of 10,000 bytes, `a` to `z` over and over.
@@ -14,8 +15,6 @@ fn letters(alloc: Global) -> Result<Vec<u8>, AllocError> {
 #[test]
 fn a_file_is_read_up_to_a_limit(rt: HostRuntime) -> Result<(), Fault> {
     let alloc = rt.alloc();
-    let long = Word::of(alloc, b"long")?;
-    let none = Word::of(alloc, b"none")?;
     let bytes = letters(alloc)?;
     let pairs = vec![in alloc;
         (
@@ -33,9 +32,9 @@ fn a_file_is_read_up_to_a_limit(rt: HostRuntime) -> Result<(), Fault> {
     for (below, want) in rows {
         let limit = usize::from(below) + 1;
         let mut files = MemFiles::new(alloc, pairs.as_slice(), &[])?;
-        let front = read_front(alloc, &mut files, &long, limit)?.ok_or("there is a file")?;
+        let front = read_front(alloc, &mut files, "long", limit)?.ok_or("there is a file")?;
         assert_eq!(rt; Some(front.as_slice()), bytes.get(..want));
-        assert_eq!(rt; read_front(alloc, &mut files, &none, limit)?, None);
+        assert_eq!(rt; read_front(alloc, &mut files, "none", limit)?, None);
     }
     for number in 1..4 {
         let fail = Fail {
@@ -44,7 +43,7 @@ fn a_file_is_read_up_to_a_limit(rt: HostRuntime) -> Result<(), Fault> {
             sent: 0,
         };
         let mut files = MemFiles::new(alloc, pairs.as_slice(), &[fail])?;
-        let front = read_front(alloc, &mut files, &long, 10_000);
+        let front = read_front(alloc, &mut files, "long", 10_000);
         assert_eq!(rt; front, Err(FrontError::Failed));
     }
     Ok(())

@@ -4,10 +4,11 @@ use Rattle.outside.specs.Link.{Link}
 use Rattle.outside.specs.Told.{Goes}
 use Rattle.otp_words.specs.declared.fault.DictFault.{DictFault}
 use Rattle.otp_words.specs.Lists.{dictionary_of}
+use Rattle.file_front.specs.Lists.{IsTextOf, list_text}
 use Rattle.otp_mode.specs.declared.fault.OtpFault.{OtpFault}
 use Rattle.otp_mode.specs.declared.fault.OtpFault.TheVariants as faults
 use Rattle.otp_mode.specs.Exact.{HasPhrase, IsExact, IsJudged, ListIsGood}
-use Rattle.otp_mode.specs.Outcome.{HasWords, IsListMissing, IsListRefused, IsOutcome, IsTextOf, Printed, RefusedPhrase, ends_at_list, list_text}
+use Rattle.otp_mode.specs.Outcome.{HasWords, IsListMissing, IsListRefused, IsOutcome, Printed, RefusedPhrase, ends_at_list}
 use Rattle.otp_mode.specs.Phrase.{phrase_of}
 use Rattle.otp_mode.specs.Words.{OtpParts}
 

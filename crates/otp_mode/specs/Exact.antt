@@ -4,9 +4,10 @@ use Rattle.outside.specs.Files.{Contents}
 use Rattle.outside.specs.Link.{Link}
 use Rattle.otp_words.specs.declared.fault.DictFault.{DictFault}
 use Rattle.otp_words.specs.Lists.{dictionary_of}
+use Rattle.file_front.specs.Lists.{list_text}
 use Rattle.otp_mode.specs.declared.fault.OtpFault.{OtpFault}
 use Rattle.otp_mode.specs.declared.fault.OtpFault.TheVariants as faults
-use Rattle.otp_mode.specs.Outcome.{ends_at_list, list_text}
+use Rattle.otp_mode.specs.Outcome.{ends_at_list}
 use Rattle.otp_mode.specs.Phrase.{phrase_of}
 use Rattle.otp_mode.specs.Words.{OtpParts}
 

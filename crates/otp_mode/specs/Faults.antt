@@ -1,21 +1,16 @@
 -- The faults, and those that are handed on.
 use Rattle.std.specs.Prelude.{ℕ, Result, Ok, Err}
-use Rattle.file_front.specs.declared.FrontError.{FrontError}
-use Rattle.file_front.specs.declared.FrontError.TheVariants as front_errors
-use Rattle.otp_words.specs.declared.fault.DictError.{DictError}
-use Rattle.otp_words.specs.declared.fault.DictError.TheVariants as list_errors
+use Rattle.file_front.specs.declared.list.ListError.{ListError}
+use Rattle.file_front.specs.declared.list.ListError.TheVariants as list_errors
 use Rattle.otp_mode.specs.declared.fault.OtpFault.{OtpFault}
 use Rattle.otp_mode.specs.declared.fault.OtpFault.TheVariants as faults
 
--- why a word list's file was not read
-abbrev pub fault_of_front : FrontError → OtpFault
-fault_of_front front_errors.Failed = faults.ReadFailed
-fault_of_front front_errors.OutOfMemory = faults.OutOfMemory
-
 -- why a word list was not taken
-abbrev pub fault_of_list : DictError → OtpFault
-fault_of_list (list_errors.Refused fault) = faults.ListRefused fault
+abbrev pub fault_of_list : ListError → OtpFault
+fault_of_list list_errors.Failed = faults.ReadFailed
 fault_of_list list_errors.OutOfMemory = faults.OutOfMemory
+fault_of_list list_errors.Missing = faults.ListMissing
+fault_of_list (list_errors.Refused fault) = faults.ListRefused fault
 
 -- the exit status of a program that ends by a fault
 abbrev pub fault_status : OtpFault → ℕ

@@ -1,42 +1,31 @@
 -- What the mode `otp` came to, and why.
-use Rattle.std.specs.Prelude.{◌≡◌, ◌⊎◌, ℕ, Bool, true, false, List, [], take, Option, Some, None, option_map, Result, Ok, Err, IfSome, IsSome}
+use Rattle.std.specs.Prelude.{◌≡◌, ◌⊎◌, ℕ, Bool, true, false, List, [], take, Option, Some, None, Result, Ok, Err, IsSome}
 use Rattle.outside.specs.Files.{Contents}
 use Rattle.outside.specs.Link.{Exchanged, Link}
 use Rattle.outside.specs.Told.{Goes}
 use Rattle.otp_words.specs.declared.fault.DictFault.{DictFault}
-use Rattle.otp_words.specs.Lists.{dictionary_of}
+use Rattle.file_front.specs.Lists.{IsJudgedSo, IsMissing}
 use Rattle.otp_mode.specs.declared.fault.OtpFault.{OtpFault}
 use Rattle.otp_mode.specs.declared.fault.OtpFault.TheVariants as faults
 use Rattle.otp_mode.specs.Output.{otp_text}
 use Rattle.otp_mode.specs.Phrase.{phrase_of}
 use Rattle.otp_mode.specs.Words.{OtpParts}
 
--- the text of a word list: the first 16,385 bytes of its file, of which no list that is accepted
--- has so many
-abbrev pub list_text : Option (List ℕ) → Option (List ℕ)
-list_text file = option_map (take 16385) file
-
--- a text was read from the file of this name, where the files tell what stands in them
-abbrev pub IsTextOf : Option Contents → List ℕ → List ℕ → Type 0
-IsTextOf contents name text = IfSome contents (λ files. list_text (files name) ≡ Some text)
-
 -- these are the words of the list that the parts name, if they name one
 abbrev pub HasWords : Option Contents → Option (List ℕ) → Option (List (List ℕ)) → Type 0
 HasWords contents None None = Unit {0}
-HasWords contents (Some name) (Some words) =
-    (text : List ℕ) × IsTextOf contents name text × (dictionary_of text ≡ Ok words)
+HasWords contents (Some name) (Some words) = IsJudgedSo contents name (Ok words)
 HasWords contents _ _ = ⊥
 
 -- the file of the list that the parts name is not there
 abbrev pub IsListMissing : Option Contents → Option (List ℕ) → Type 0
 IsListMissing contents None = ⊥
-IsListMissing contents (Some name) = IfSome contents (λ files. files name ≡ None)
+IsListMissing contents (Some name) = IsMissing contents name
 
 -- the list that the parts name is refused by its first fault
 abbrev pub IsListRefused : Option Contents → Option (List ℕ) → DictFault → Type 0
 IsListRefused contents None fault = ⊥
-IsListRefused contents (Some name) fault =
-    (text : List ℕ) × IsTextOf contents name text × (dictionary_of text ≡ Err fault)
+IsListRefused contents (Some name) fault = IsJudgedSo contents name (Err fault)
 
 -- a phrase was received, and its password sent
 pub record Printed (parts : OtpParts) (words : Option (List (List ℕ))) (before after : Link) : Type 0 where
@@ -63,14 +52,6 @@ pub record PrintedPart (parts : OtpParts) (words : Option (List (List ℕ))) (be
   pub received : List ℕ
   pub count : ℕ
   pub passed : Exchanged received (take count (otp_text parts words phrase)) before after
-
--- why the word list of this name was not taken
-abbrev pub IsListFault : Option Contents → List ℕ → Type 0 → OtpFault → Type 0
-IsListFault contents name ReadFailed faults.ReadFailed = ReadFailed
-IsListFault contents name ReadFailed faults.ListMissing = IsListMissing contents (Some name)
-IsListFault contents name ReadFailed (faults.ListRefused fault) = IsListRefused contents (Some name) fault
-IsListFault contents name ReadFailed faults.OutOfMemory = Unit {0}
-IsListFault contents name ReadFailed _ = ⊥
 
 -- what came of a phrase and its password, with these words of a list
 abbrev pub IsPrinting : OtpParts → Option (List (List ℕ)) → Option Link → Option Link → Type 0 → Result (Unit {0}) OtpFault → Type 0

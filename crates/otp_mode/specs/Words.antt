@@ -1,5 +1,5 @@
 -- The words of the mode `otp`.
-use Rattle.std.specs.Prelude.{ℕ, ◌+◌, ◌-◌, ◌*◌, Bool, true, not, nat_le, ◌==◌, ◌&&◌, if◌then◌else◌, List, [], ◌∷◌, length, map, fold, codes, Option, Some, None, option_map}
+use Rattle.std.specs.Prelude.{ℕ, ◌+◌, ◌-◌, ◌*◌, Bool, nat_le, ◌&&◌, if◌then◌else◌, List, [], ◌∷◌, length, map, fold, codes, Option, Some, None, option_map}
 use Rattle.std.specs.Char.{is_ascii_digit, to_ascii_lowercase}
 use Rattle.std.specs.List.{list_all}
 use Rattle.std.specs.Str.{bytes_eq}
@@ -30,20 +30,10 @@ is_number_word word = nat_le 1 (length word) && nat_le (length word) 4 && list_a
 abbrev pub number_of_digits : List ℕ → ℕ
 number_of_digits digits = fold (λ number digit. number * 10 + (digit - 48)) 0 digits
 
--- a word that may name a word list: any that doesn't begin with `-`
-unfoldable pub is_list_name : List ℕ → Bool
-is_list_name [] = true
-is_list_name (c ∷ _) = not (c == 45)
-
--- whether the word list, if one is named, has such a name
-abbrev pub is_list_word : Option (List ℕ) → Bool
-is_list_word None = true
-is_list_word (Some name) = is_list_name name
-
 -- what four words, and perhaps a fifth, ask for
 abbrev pub parts_of : List ℕ → List ℕ → List ℕ → List ℕ → Option (List ℕ) → Option OtpParts
 parts_of mode algo number seed list =
-    if bytes_eq mode (codes "otp") && is_number_word number && is_seed_text seed && is_list_word list
+    if bytes_eq mode (codes "otp") && is_number_word number && is_seed_text seed
     then option_map (λ a. record { algo = a; number = number_of_digits number; seed = map to_ascii_lowercase seed; list = list }) (algo_named algo)
     else None
 

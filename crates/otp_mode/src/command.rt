@@ -1,15 +1,14 @@
 //! The words of the mode.
 
-ghost use Rattle.std.specs.Prelude.{◌≡◌, ◌≤◌, IfSome, length, option_map};
+ghost use Rattle.std.specs.Prelude.{◌≡◌, ◌≤◌, ◌∷◌, IfSome, length, map, option_map};
 ghost use Rattle.std.specs.Bool.{then_some};
 ghost use Rattle.std.specs.Char.{is_ascii_digit};
 ghost use Rattle.std.specs.List.{list_all};
 ghost use Rattle.std.specs.Option.{option_copied};
 ghost use Rattle.otp_mode.specs.Command.{command_parts};
-ghost use Rattle.otp_mode.specs.Words.{algo_named, is_list_name, is_list_word, is_number_word, number_of_digits, otp_command, parts_of};
+ghost use Rattle.otp_mode.specs.Words.{algo_named, is_number_word, number_of_digits, otp_command, parts_of};
 
 use otp_hash::{Algo, Seed};
-use outside::Word;
 
 /// The most digits of a number.
 const NUMBER_MAX: usize = 4;
@@ -24,39 +23,40 @@ pub struct OtpCommand<'a> {
     /// The seed of the chain.
     pub seed: Seed,
     /// The name of the word list's file, if one is named.
-    pub list: Option<&'a Word>,
+    pub list: Option<&'a str>,
 }
 
-/// Reads the words of a command line without the program's name. `None` exactly where they are not
-/// `otp ALGO N SEED` or `otp ALGO N SEED WORDS`: `ALGO` is `md5` or `sha1`, `N` one to four decimal
-/// digits, `SEED` 1 to 16 ASCII letters and digits, and `WORDS` doesn't begin with `-`.
-pub fn read_otp_command(words: &[Word]) -> Option<OtpCommand<'_>>
-    ensures { option_map command_parts result ≡ otp_command words.now }
+/// Reads the words of a command line: the mode's word, and those behind it. `None` exactly where they
+/// are not `otp ALGO N SEED` or `otp ALGO N SEED WORDS`: `ALGO` is `md5` or `sha1`, `N` one to four
+/// decimal digits, and `SEED` 1 to 16 ASCII letters and digits.
+pub fn read_otp_command<'a>(mode: &str, further: &[&'a str]) -> Option<OtpCommand<'a>>
+    ensures { option_map command_parts result
+        ≡ otp_command (mode.now ∷ map (λ word. word.now) further.now) }
 {
-    match words {
-        [mode, algo, number, seed] => command_of(mode, algo, number, seed, None),
-        [mode, algo, number, seed, list] => command_of(mode, algo, number, seed, Some(list)),
+    match further {
+        [algo, number, seed] => command_of(mode, algo, number, seed, None),
+        [algo, number, seed, list] => command_of(mode, algo, number, seed, Some(list)),
         _ => None,
     }
 }
 
 /// The command of these words.
 fn command_of<'a>(
-    mode: &Word,
-    algo: &Word,
-    number: &Word,
-    seed: &Word,
-    list: Option<&'a Word>,
+    mode: &str,
+    algo: &str,
+    number: &str,
+    seed: &str,
+    list: Option<&'a str>,
 ) -> Option<OtpCommand<'a>>
     ensures { option_map command_parts result
         ≡ parts_of mode.now algo.now number.now seed.now (option_copied list.entry) }
 {
-    if mode.as_str() != "otp" || !is_list_word(list) {
+    if mode != "otp" {
         return None;
     }
-    let number = read_number(number.as_slice())?;
-    let seed = Seed::of(seed.as_slice())?;
-    let algo = algo_named(algo.as_str())?;
+    let number = read_number(number.as_bytes())?;
+    let seed = Seed::of(seed.as_bytes())?;
+    let algo = algo_named(algo)?;
     Some(OtpCommand {
         algo,
         number,
@@ -74,17 +74,6 @@ fn algo_named(word: &str) -> Option<Algo>
         "md5" => Some(Algo::Md5),
         "sha1" => Some(Algo::Sha1),
         _ => None,
-    }
-}
-
-/// Whether a word list, if one is named, has a name that doesn't begin with `-`.
-#[tactic(auto, unfolding(crate::specs::Words::is_list_name))]
-fn is_list_word(list: Option<&Word>) -> bool
-    ensures { result ≡ is_list_word (option_copied list.entry) }
-{
-    match list {
-        None => true,
-        Some(name) => !name.as_str().starts_with('-'),
     }
 }
 

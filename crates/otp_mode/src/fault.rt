@@ -1,10 +1,10 @@
 //! Why no password was printed.
 
 ghost use Rattle.std.specs.Prelude.{◌≡◌};
-ghost use Rattle.otp_mode.specs.Faults.{fault_of_front, fault_of_list};
+ghost use Rattle.otp_mode.specs.Faults.{fault_of_list};
 
-use file_front::FrontError;
-use otp_words::{DictError, DictFault};
+use file_front::ListError;
+use otp_words::DictFault;
 use outside::Failed;
 
 /// Why the mode `otp` printed no password, or not the whole of it.
@@ -42,24 +42,15 @@ impl OtpFault {
     }
 }
 
-impl From<FrontError> for OtpFault {
-    ghost from_gives = { λ error fault. fault ≡ fault_of_front error };
-
-    fn from(error: FrontError) -> Self {
-        match error {
-            FrontError::Failed => OtpFault::ReadFailed,
-            FrontError::OutOfMemory => OtpFault::OutOfMemory,
-        }
-    }
-}
-
-impl From<DictError> for OtpFault {
+impl From<ListError> for OtpFault {
     ghost from_gives = { λ error fault. fault ≡ fault_of_list error };
 
-    fn from(error: DictError) -> Self {
+    fn from(error: ListError) -> Self {
         match error {
-            DictError::Refused(fault) => OtpFault::ListRefused(fault),
-            DictError::OutOfMemory => OtpFault::OutOfMemory,
+            ListError::Failed => OtpFault::ReadFailed,
+            ListError::OutOfMemory => OtpFault::OutOfMemory,
+            ListError::Missing => OtpFault::ListMissing,
+            ListError::Refused(fault) => OtpFault::ListRefused(fault),
         }
     }
 }

@@ -3,7 +3,6 @@
 
 mod command;
 mod fault;
-mod list;
 mod phrase;
 mod printing;
 mod run;

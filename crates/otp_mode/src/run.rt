@@ -10,9 +10,9 @@ ghost use Rattle.otp_mode.specs.Outcome.{IsOutcome, IsPrinting, ends_at_list};
 
 use crate::command::OtpCommand;
 use crate::fault::OtpFault;
-use crate::list::read_list;
 use crate::phrase::read_phrase;
 use crate::printing::{TEXT_MAX, put_password};
+use file_front::read_list;
 use otp_hash::at;
 use otp_words::Dictionary;
 use outside::{Files, Stream};

@@ -9,12 +9,14 @@ use std::test::Fail as Fault;
 const PHRASE: &[u8] = b"This is a test.\n";
 
 /// The words of a command line.
-fn words_of(alloc: Global, line: &str) -> Result<Vec<Word>, AllocError> {
-    let mut words = Vec::new(alloc);
-    for word in line.split(' ') {
-        words.push(Word::of(alloc, word.as_bytes())?)?;
-    }
-    Ok(words)
+fn words_of(alloc: Global, line: &str) -> Result<Vec<&str>, AllocError> {
+    line.split(' ').collect(alloc)
+}
+
+/// The command of these words.
+fn command_of<'a>(words: &[&'a str]) -> Option<OtpCommand<'a>> {
+    let (mode, further) = words.split_first()?;
+    read_otp_command(mode, further)
 }
 
 /// The first lines of the plain word list.
@@ -39,7 +41,7 @@ fn run(
     ends: &mut MemStream,
 ) -> Result<Option<Result<(), OtpFault>>, AllocError> {
     let words = words_of(alloc, line)?;
-    match read_otp_command(words.as_slice()) {
+    match command_of(words.as_slice()) {
         None => Ok(None),
         Some(command) => Ok(Some(run_otp(alloc, &command, files, ends))),
     }
@@ -62,7 +64,6 @@ fn words_that_are_commands(rt: HostRuntime) -> Result<(), Fault> {
         ("otp MD5 1 TeSt", None),
         ("otp md5 1 Te-St", None),
         ("otp md5 1 abcdefghijklmnopq", None),
-        ("otp md5 1 TeSt -w", None),
         ("otp md5 1 TeSt plain.txt more", None),
         ("otp md5 1", None),
         ("serve", None),
@@ -70,7 +71,7 @@ fn words_that_are_commands(rt: HostRuntime) -> Result<(), Fault> {
     ];
     for (line, want) in rows {
         let words = words_of(alloc, line)?;
-        let command = read_otp_command(words.as_slice());
+        let command = command_of(words.as_slice());
         let got = command.map(|c| (c.algo, c.number, c.list.is_some()));
         assert_eq!(rt; got, want, "{line}");
     }

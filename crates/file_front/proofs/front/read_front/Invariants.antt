@@ -2,7 +2,7 @@ use Rattle.std.proofs.Common.{◌-◌, ◌≤◌, vec_len}
 use Rattle.outside.specs.Files.{SameFiles}
 use Rattle.outside.specs.Told.{Goes}
 use Rattle.file_front.proofs.FrontLemmas.{HasFront}
-use Rattle.file_front.proofs.read_front.Given as goal
+use Rattle.file_front.proofs.front.read_front.Given as goal
 
 abbrev pub invariant-loop-piece : goal.invariant-loop-piece
 invariant-loop-piece g l =

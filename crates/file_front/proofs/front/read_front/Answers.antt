@@ -1,6 +1,6 @@
 use Rattle.std.proofs.Common.{◌≡◌, ◌-◌, ◌≤◌, ◌++◌, Some, arith, drop, length, length-take, vec_len}
 use Rattle.file_front.proofs.FrontLemmas.{HasFront-more, SameFiles-then}
-use Rattle.file_front.proofs.read_front.Goals as goal
+use Rattle.file_front.proofs.front.read_front.Goals as goal
 
 -- a piece more was read, of files that stayed as they were
 pub loop-piece-preserved : goal.loop-piece-preserved
@@ -10,6 +10,7 @@ loop-piece-preserved g c =
     let after = contents c.read.new.self in
     let read = c.in_ok-read.ensures in
     let n = c.in-Some.n in
+    let same : c.in_ok-word.word ≡ c.args.name.now = grind arith in
     let found : c.in_ok-read.field-0 ≡ Some n = grind arith in
     let within : n ≤ length c.read.new.buf = grind arith in
     let held = c.loop-piece.invariant in
@@ -18,7 +19,7 @@ loop-piece-preserved g c =
     let added = c.in_ok-extend_from_slice-in-Some.ensures.len in
     let short = length-take n (c.read.new.buf ++ drop c.min-room.result c.loop-piece.piece) in (
       omega (arith, added, short, in_room, room_left, held.0),
-      rw c.in_ok-extend_from_slice-in-Some.ensures.items (HasFront-more before after c.args.name.now c.loop-piece.bytes.items c.read.new.buf _ c.in_ok-read.field-0 n _ _ read.kept held.1 found (grind arith) within read.found),
+      rw c.in_ok-extend_from_slice-in-Some.ensures.items (HasFront-more before after c.in_ok-word.word c.args.name.now same c.loop-piece.bytes.items c.read.new.buf _ c.in_ok-read.field-0 n _ _ read.kept held.1 found (grind arith) within read.found),
       SameFiles-then (contents c.args.files.now) before after held.2 read.kept,
       omega (arith, held.3, read.read_faults),
       omega (arith, held.4, read.replace_faults),
