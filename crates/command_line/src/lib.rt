@@ -1,0 +1,12 @@
+//! The words of a command line, read by `clap`.
+//!
+//! A command line is a mode and any number of words behind it. A word that begins with `-` is
+//! refused before `clap` sees it, so there are no options, and no help.
+#![tactic(auto)]
+
+mod command;
+
+pub use command::{CommandLine, read_command_line};
+
+#[cfg(test)]
+mod tests;
