@@ -1,0 +1,4 @@
+pub mod Words
+pub mod Findings
+pub mod Lines
+pub mod Outcome

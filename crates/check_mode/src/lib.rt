@@ -1,0 +1,17 @@
+//! The mode `check`: an operator asks whether a setup file and its word list are right.
+#![tactic(auto)]
+
+mod command;
+mod fault;
+mod finding;
+mod line;
+mod run;
+
+pub use command::read_check_command;
+pub use fault::CheckFault;
+pub use finding::Finding;
+pub use run::run_check;
+
+
+#[cfg(test)]
+mod tests;

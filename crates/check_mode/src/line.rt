@@ -1,0 +1,79 @@
+//! The line that tells what was found.
+
+ghost use Rattle.std.specs.Prelude.{◌≡◌, ◌++◌, IfOk, codes};
+ghost use Rattle.std.specs.Fmt.{decimal};
+ghost use Rattle.std.specs.String.{string_bytes};
+ghost use Rattle.check_mode.specs.declared.finding.Finding.TheVariants.{SetupRefused, WordsRefused};
+ghost use Rattle.check_mode.specs.Lines.{line_of, list_rule_word};
+
+use crate::finding::Finding;
+use account_file::SetupFault;
+use otp_words::{DictFault, DictRule};
+use std::alloc::{AllocError, Global};
+
+/// The line of what was found, with the newline at its end.
+pub fn line_of(alloc: Global, finding: Finding) -> Result<String, AllocError>
+    ensures { IfOk result (λ line. string_bytes line ≡ line_of finding) }
+{
+    match finding {
+        Finding::Right { accounts, workers } => right_line(alloc, accounts, workers),
+        Finding::SetupMissing => String::from_str(alloc, "missing setup\n"),
+        Finding::SetupRefused(fault) => refused_setup_line(alloc, fault),
+        Finding::WordsMissing => String::from_str(alloc, "missing words\n"),
+        Finding::WordsRefused(fault) => refused_words_line(alloc, fault),
+    }
+}
+
+/// The line of a setup that is right.
+fn right_line(alloc: Global, accounts: usize, workers: u32) -> Result<String, AllocError>
+    ensures { IfOk result (λ line. string_bytes line ≡ codes "ok accounts " ++ decimal accounts
+        ++ codes " workers " ++ decimal workers ++ codes "\n") }
+{
+    let mut line = String::from_str(alloc, "ok accounts ")?;
+    line.push_str(digits_of(alloc, accounts as u64)?.as_str())?;
+    line.push_str(" workers ")?;
+    line.push_str(digits_of(alloc, u64::from(workers))?.as_str())?;
+    line.push_str("\n")?;
+    Ok(line)
+}
+
+/// The line of a setup that is refused.
+fn refused_setup_line(alloc: Global, fault: SetupFault) -> Result<String, AllocError>
+    ensures { IfOk result (λ line. string_bytes line ≡ line_of (SetupRefused fault)) }
+{
+    let key = fault.key.word();
+    let rule = fault.rule.word();
+    let account = fault.account;
+    format!(in alloc; "refused setup {key} {rule} {account}\n")
+}
+
+/// The line of a word list that is refused.
+fn refused_words_line(alloc: Global, fault: DictFault) -> Result<String, AllocError>
+    ensures { IfOk result (λ line. string_bytes line ≡ line_of (WordsRefused fault)) }
+{
+    let mut line = String::from_str(alloc, "refused words ")?;
+    line.push_str(digits_of(alloc, u64::from(fault.line))?.as_str())?;
+    line.push_str(" ")?;
+    line.push_str(list_rule_word(fault.rule))?;
+    line.push_str("\n")?;
+    Ok(line)
+}
+
+/// The decimal digits of a number.
+fn digits_of(alloc: Global, number: u64) -> Result<String, AllocError>
+    ensures { IfOk result (λ text. string_bytes text ≡ decimal number) }
+{
+    number.to_string(alloc)
+}
+
+/// A word list's rule as it is spelled.
+fn list_rule_word(rule: DictRule) -> &'static str
+    ensures { result.now ≡ list_rule_word rule }
+{
+    match rule {
+        DictRule::Count => "count",
+        DictRule::Length => "length",
+        DictRule::Letter => "letter",
+        DictRule::Twice => "twice",
+    }
+}
