@@ -50,6 +50,38 @@ const NUMBERS: &str = "
     1 30 1000 yes
     1 31 1000 no";
 
+/// How many accounts stand before the last (`a1`, `a2` and on, with the user numbers 1, 2 and on);
+/// the last one's name, user number and sequence.
+const ACCOUNTS: &str = "
+    0 a 1 0 yes
+    0 a 0 0 no
+    0 a 4294967294 9999 yes
+    0 a 4294967295 0 no
+    0 a 1 10000 no
+    1 a 2 0 yes
+    1 a1 2 0 no
+    1 a 1 0 no
+    2 a1 3 0 no
+    2 a 1 0 no
+    2 a2 3 0 no
+    2 a 2 0 no
+    1023 a 1024 0 yes
+    1024 a 1025 0 no";
+
+/// How many grants stand before the last (`f1`, `f2` and on, of mode 1); the last one's name and
+/// mode.
+const GRANTS: &str = "
+    0 f 0 no
+    0 f 1 yes
+    0 f 2 yes
+    0 f 3 yes
+    0 f 4 no
+    1 f1 2 no
+    2 f1 1 no
+    2 f2 1 no
+    63 f 1 yes
+    64 f 1 no";
+
 /// Whether a line ends with `yes`.
 fn wanted(words: &mut SplitWhitespace<'_>) -> Result<bool, Fail> {
     Ok(word(words)? == "yes")
@@ -72,6 +104,13 @@ fn may_say(alloc: Global, texts: [&str; 5]) -> Result<bool, Fail> {
 /// Whether a setup may have these numbers of information.
 fn may_inform(alloc: Global, info: Vec<u32>) -> Result<bool, Fail> {
     let parts = parts(alloc, PLAIN_TEXTS, PLAIN_COUNTS, info, Vec::new(alloc))?;
+    Ok(Setup::of(parts).is_ok())
+}
+
+/// Whether a setup may have these accounts.
+fn may_admit(alloc: Global, accounts: Vec<Account>) -> Result<bool, Fail> {
+    let none = Vec::new(alloc);
+    let parts = parts(alloc, PLAIN_TEXTS, PLAIN_COUNTS, none, accounts)?;
     Ok(Setup::of(parts).is_ok())
 }
 
@@ -148,5 +187,75 @@ fn numbers(rt: HostRuntime) -> Result<(), Fail> {
         assert_eq!(rt; may, wanted(&mut words)?, "{line}");
     }
     assert!(rt; may_inform(alloc, Vec::new(alloc))?);
+    Ok(())
+}
+
+/// So many accounts without grants, and one more.
+fn row_of_accounts(alloc: Global, before: u32, last: Account) -> Result<Vec<Account>, Fail> {
+    let mut accounts = Vec::new(alloc);
+    for n in 0..before {
+        let uid = n.saturating_add(1);
+        let text = format!(in alloc; "a{uid}")?;
+        let none = Grants::of(Vec::new(alloc));
+        accounts.push(account(name(text.as_str())?, uid, 0, none)?)?;
+    }
+    accounts.push(last)?;
+    Ok(accounts)
+}
+
+#[test]
+fn accounts(rt: HostRuntime) -> Result<(), Fail> {
+    let alloc = rt.alloc();
+    for line in ACCOUNTS.lines() {
+        let mut words = line.split_whitespace();
+        if line.is_empty() {
+            continue;
+        }
+        let before = small(&mut words)?;
+        let user = name(word(&mut words)?)?;
+        let uid = small(&mut words)?;
+        let sequence = u16::try_from(number(&mut words)?)?;
+        let last = account(user, uid, sequence, Grants::of(Vec::new(alloc)))?;
+        let may = may_admit(alloc, row_of_accounts(alloc, before, last)?)?;
+        assert_eq!(rt; may, wanted(&mut words)?, "{line}");
+    }
+    assert!(rt; may_admit(alloc, Vec::new(alloc))?);
+    Ok(())
+}
+
+/// So many grants of mode 1, and one more.
+fn row_of_grants(alloc: Global, before: u32, last: Grant) -> Result<Vec<Grant>, Fail> {
+    let mut grants = Vec::new(alloc);
+    for n in 0..before {
+        let text = format!(in alloc; "f{}", n.saturating_add(1))?;
+        let name = label(text.as_str())?;
+        grants.push(Grant { name, mode: 1 })?;
+    }
+    grants.push(last)?;
+    Ok(grants)
+}
+
+/// Whether an account may have these grants.
+fn may_grant(alloc: Global, grants: Vec<Grant>) -> Result<bool, Fail> {
+    let mut accounts = Vec::new(alloc);
+    accounts.push(account(name("a")?, 1, 0, Grants::of(grants))?)?;
+    may_admit(alloc, accounts)
+}
+
+#[test]
+fn grants(rt: HostRuntime) -> Result<(), Fail> {
+    let alloc = rt.alloc();
+    for line in GRANTS.lines() {
+        let mut words = line.split_whitespace();
+        if line.is_empty() {
+            continue;
+        }
+        let before = small(&mut words)?;
+        let name = label(word(&mut words)?)?;
+        let mode = tiny(&mut words)?;
+        let may = may_grant(alloc, row_of_grants(alloc, before, Grant { name, mode })?)?;
+        assert_eq!(rt; may, wanted(&mut words)?, "{line}");
+    }
+    assert!(rt; may_grant(alloc, Vec::new(alloc))?);
     Ok(())
 }
