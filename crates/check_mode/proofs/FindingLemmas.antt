@@ -1,14 +1,11 @@
-use Rattle.std.proofs.Common.{◌≡◌, ℕ, suc, ◌+◌, ◌≤◌, Bool, true, false, List, length, map, take, Option, Some, None, Result, Ok, Err, IfOk, IfSome, refl, sym, ap, subst, ◌∙◌, arith}
+use Rattle.std.proofs.Common.{◌≡◌, ℕ, ◌+◌, ◌≤◌, List, length, take, Option, Some, None, Result, Ok, Err, IfOk, IfSome, refl, sym, ap, subst, ◌∙◌, arith}
 use Rattle.std.specs.Prelude.{nat_le, option_map}
 use Rattle.std.specs.Bool.{then_some}
 use Rattle.std.proofs.lemmas.Grind.{common_steps}
 use Rattle.outside.specs.Files.{Contents, SameFiles}
 use Rattle.outside.specs.Link.{Link}
 use Rattle.outside.specs.Told.{Goes, Rose}
-use Rattle.outside.proofs.Told.{Goes-then}
 use Rattle.policy_model.specs.Settings.{Settings}
-use Rattle.otp_words.specs.declared.fault.DictFault.{DictFault}
-use Rattle.otp_words.specs.Lists.{dictionary_of}
 use Rattle.file_front.specs.declared.list.ListError.{ListError}
 use Rattle.file_front.specs.declared.list.ListError.TheVariants as errors
 use Rattle.file_front.specs.Lists.{IsJudgedSo, IsListFault, list_text}
@@ -23,8 +20,8 @@ use Rattle.account_file.specs.Setups.{setup_of, top}
 use Rattle.check_mode.specs.declared.fault.CheckFault.{CheckFault}
 use Rattle.check_mode.specs.declared.fault.CheckFault.TheVariants as faults
 use Rattle.check_mode.specs.declared.finding.Finding.{Finding}
-use Rattle.check_mode.specs.declared.finding.Finding.TheVariants.{Right, SetupMissing, SetupRefused, WordsMissing, WordsRefused}
-use Rattle.check_mode.specs.Findings.{finding_of, found_file, found_setup, found_text, found_words, hooked, judged_setup}
+use Rattle.check_mode.specs.declared.finding.Finding.TheVariants.{SetupMissing}
+use Rattle.check_mode.specs.Findings.{found_file, found_setup, found_text, found_words, hooked, judged_setup}
 use Rattle.check_mode.specs.Outcome.{IsFileFault, IsFinding, IsOutcome, told_by, told_by_error}
 
 -- ---- the setup's file
@@ -106,11 +103,6 @@ pub IsFileFault-earlier : (before between after : ℕ) (fault : CheckFault) → 
 IsFileFault-earlier before between after faults.ReadFailed le h = Rose-earlier before between after le h
 IsFileFault-earlier before between after faults.OutOfMemory le h = tt
 IsFileFault-earlier before between after faults.EndsFailed le h = absurd h
-
--- files that stayed as they were, twice
-pub SameFiles-then : (a b c : Option Contents) → Goes SameFiles a b → Goes SameFiles b c → Goes SameFiles a c
-SameFiles-then =
-    Goes-then SameFiles SameFiles SameFiles (λ a b c first second. record { same = λ name. second.same name ∙ first.same name })
 
 -- a fault of a file is what came of the mode; the ends are as they were
 pub IsOutcome-file : (name : List ℕ) (contents : Option Contents) (link : Option Link) (ReadFailed EndsFailed : Type 0) (fault : CheckFault) → IsFileFault ReadFailed fault → IsOutcome name contents link link ReadFailed EndsFailed (Err fault)

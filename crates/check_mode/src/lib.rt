@@ -12,6 +12,5 @@ pub use fault::CheckFault;
 pub use finding::Finding;
 pub use run::run_check;
 
-
 #[cfg(test)]
 mod tests;

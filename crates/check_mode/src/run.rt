@@ -103,11 +103,7 @@ fn refused(key: SetupKey, rule: SetupRule) -> Result<Setup, SetupError>
 }
 
 /// What the files say of the word list of a setup.
-fn find_words<F: Files>(
-    alloc: Global,
-    setup: &Setup,
-    files: &mut F,
-) -> Result<Finding, CheckFault>
+fn find_words<F: Files>(alloc: Global, setup: &Setup, files: &mut F) -> Result<Finding, CheckFault>
     ensures finding { IfOk result (λ finding. IfSome (F.contents files.new) (λ there.
         found_setup there (Ok (entries_of setup.now)) ≡ finding)) }
     ensures fault { (fault : CheckFault) → result ≡ Err fault

@@ -88,9 +88,23 @@ fn checked(
 /// many lines of the plain list follow; the status, and the line that is sent.
 const ROWS: [(usize, &str, &str, u16, u8, &str); 14] = [
     (20, "", "", 2_048, 0, "ok accounts 1 workers 1\n"),
-    (5, "workers = 64", "", 2_048, 0, "ok accounts 1 workers 64\n"),
+    (
+        5,
+        "workers = 64",
+        "",
+        2_048,
+        0,
+        "ok accounts 1 workers 64\n",
+    ),
     (16, "", "", 2_048, 5, "refused setup password missing 1\n"),
-    (5, "workers = 0", "", 2_048, 5, "refused setup workers range 0\n"),
+    (
+        5,
+        "workers = 0",
+        "",
+        2_048,
+        5,
+        "refused setup workers range 0\n",
+    ),
     (
         9,
         "hold = 30000\ninfo = [1]",
@@ -114,7 +128,14 @@ const ROWS: [(usize, &str, &str, u16, u8, &str); 14] = [
     (20, "", "Q1\n", 2_048, 5, "refused words 1 letter\n"),
     (20, "", "qaaa\n", 2_048, 5, "refused words 2 twice\n"),
     (3, "words = \"none\"", "", 2_048, 4, "missing words\n"),
-    (5, "workers = 65", "", 0, 5, "refused setup workers range 0\n"),
+    (
+        5,
+        "workers = 65",
+        "",
+        0,
+        5,
+        "refused setup workers range 0\n",
+    ),
 ];
 
 #[test]

@@ -1,1 +1,1 @@
-mod FrontLemmas
+pub mod FrontLemmas

@@ -1,6 +1,6 @@
 -- The parts of the headline, from what the workers of a run did.
-use Rattle.std.proofs.Common.{◌≡◌, ◌≢◌, ◌⊎◌, ℕ, zero, suc, ◌+◌, ◌<◌, ◌≤◌, Bool, true, false, ◌||◌, ◌&&◌, cond, eqb, List, [], ◌∷◌, ◌++◌, length, Option, Some, None, Result, Ok, Err, refl, sym, ap, subst, ◌∙◌, append-nil, count_by, eq-eqb, arith, inl, inr}
-use Rattle.std.specs.Prelude.{IfSome, slice_get}
+use Rattle.std.proofs.Common.{◌≡◌, ◌≢◌, ◌⊎◌, ℕ, zero, suc, ◌+◌, ◌<◌, ◌≤◌, Bool, true, false, ◌||◌, ◌&&◌, cond, eqb, List, [], ◌∷◌, ◌++◌, length, Option, Some, None, refl, sym, ap, subst, ◌∙◌, append-nil, count_by, eq-eqb, arith, inl, inr}
+use Rattle.std.specs.Prelude.{IfSome, slice_get, not, ◌==◌}
 use Rattle.std.specs.List.{AllByRecursion, flat_map, last_or, list_any}
 use Rattle.std.proofs.lemmas.List.Folds.{list_any-append}
 use Rattle.std.proofs.lemmas.List.Sums.{count_by-le-length}
@@ -9,10 +9,7 @@ use Rattle.outside.specs.declared.act.Act.{Act}
 use Rattle.outside.specs.declared.act.Act.TheVariants as acts
 use Rattle.outside.specs.declared.act.Accepted.TheVariants as accepted
 use Rattle.outside.specs.Scene.{Scene}
-use Rattle.otp_mode.specs.declared.fault.OtpFault.{OtpFault}
-use Rattle.otp_mode.specs.declared.fault.OtpFault.TheVariants as faults
-use Rattle.otp_mode.specs.Faults.{status_of}
-use Rattle.otp_mode.specs.Words.{OtpParts, otp_command}
+use Rattle.command_line.specs.Words.{plain_words}
 use Rattle.policy_model.specs.declared.event.Ask.{Ask}
 use Rattle.policy_model.specs.declared.event.Event.{Event}
 use Rattle.policy_model.specs.Asks.{is_lost, opens}
@@ -31,7 +28,8 @@ use Rattle.session_model.proofs.Ends.{lost_places}
 use Rattle.session_model.proofs.Lists.{any-none, count-any, count-cons, count-none}
 use Rattle.session_model.proofs.Places.{count_of-places}
 use Rattle.session_model.proofs.Stories.{all_lost_ends, all_opened, never_stopped}
-use Rattle.monitor_server.specs.Headline.{ConversationsMatch, EachScene, FaultEndsAreCounted, IsCommand, IsComplete, IsFaultless, IsStatus, JournalIsLegal, LogMatches, NoFault, OperationsMatch, RunsToQuota, SessionsInOrder, StatusHasCause, ends_by, ends_by_accept_fault, is_failed_accept, is_fault, lost_by, openings_by, serve_words}
+use Rattle.monitor_server.specs.Commands.{IsCommand, serve_words}
+use Rattle.monitor_server.specs.Headline.{ConversationsMatch, EachScene, FaultEndsAreCounted, IsComplete, IsFaultless, IsStatus, JournalIsLegal, LogMatches, NoFault, OperationsMatch, RunsToQuota, SessionsInOrder, StatusHasCause, ends_by, ends_by_accept_fault, is_failed_accept, is_fault, lost_by, openings_by, serve_statuses, statuses}
 use Rattle.monitor_server.proofs.Logs.{LogMatches-none}
 use Rattle.monitor_server.specs.Ran.{Promises, RunEnded, WorkerRan}
 use Rattle.monitor_server.specs.Serving.{RoseBy, asks_among}
@@ -149,13 +147,19 @@ success_cause status journal posts scene accept_faults link_faults keeper_faults
     let did = run.ran.each worker post (slice_get_within posts worker post is) is in
     IfSome-weaker (scene post) (IsStory did.2.sittings did.0) (λ s. ends_by_accept_fault s ≡ false) (λ s story. no_failed_accept did.2.sittings did.0 s did.2.each (did.1 (run.success zero_is)) story.acts) did.2.story
 
+-- the words of `serve` are words
+serve_spoken : (words : List (List ℕ)) → words ≡ serve_words → plain_words words ≢ None
+serve_spoken words serve none = absurd (let e : None ≡ Some serve_words = sym none ∙ ap plain_words serve in cc)
+
 -- the causes of the statuses of a run
 pub run_causes : {P : Type 0} (words : List (List ℕ)) (status : ℕ) (journal : List Event) (posts : List P) (scene : P → Option Scene) (accept_faults link_faults keeper_faults : P → ℕ) (ListenRose LogRose : Type 0)
     → words ≡ serve_words → (status ≡ 0) ⊎ (status ≡ 7) ⊎ (status ≡ 10) → (has_lost journal ≡ true → status ≡ 7) → (status ≡ 7 → has_lost journal ≡ true) → (has_lost journal ≡ true → LogRose) → length posts ≡ 1
     → RunEnded status journal posts scene accept_faults link_faults keeper_faults → StatusHasCause words status plain_settings journal posts scene accept_faults ListenRose LogRose
 run_causes words status journal posts scene accept_faults link_faults keeper_faults ListenRose LogRose serve one_of lost log_lost rose len run = record {
   listed = by_status one_of;
+  no_words = λ none. absurd (serve_spoken words serve none);
   no_command = λ ne. absurd (ne (inl serve));
+  serving = λ _. serving one_of;
   command = λ two. not_of 2 one_of two (λ e. absurd cc) (λ e. absurd cc) (λ e. absurd cc);
   listen_fault = λ six. absurd (not_of 6 one_of six (λ e. absurd cc) (λ e. absurd cc) (λ e. absurd cc));
   lost = lost;
@@ -168,6 +172,11 @@ run_causes words status journal posts scene accept_faults link_faults keeper_fau
   by_status (inl e) = subst IsStatus (sym e) refl
   by_status (inr (inl e)) = subst IsStatus (sym e) refl
   by_status (inr (inr e)) = subst IsStatus (sym e) refl
+
+  serving : (status ≡ 0) ⊎ (status ≡ 7) ⊎ (status ≡ 10) → list_any (λ s. s == status) serve_statuses ≡ true
+  serving (inl e) = subst (λ n. list_any (λ s. s == n) serve_statuses ≡ true) (sym e) refl
+  serving (inr (inl e)) = subst (λ n. list_any (λ s. s == n) serve_statuses ≡ true) (sym e) refl
+  serving (inr (inr e)) = subst (λ n. list_any (λ s. s == n) serve_statuses ≡ true) (sym e) refl
 
   not_of : {X : Type 0} (n : ℕ) → (status ≡ 0) ⊎ (status ≡ 7) ⊎ (status ≡ 10) → status ≡ n → (n ≡ 0 → X) → (n ≡ 7 → X) → (n ≡ 10 → X) → X
   not_of n (inl e) is a b c = a (sym is ∙ e)
@@ -281,27 +290,44 @@ unused_legal journal events = subst (JournalIsLegal plain_settings) (sym events)
 unused_conversations : {P : Type 0} (scene : P → Option Scene) (journal : List Event) (posts : List P) → posts ≡ [] → ConversationsMatch scene journal posts
 unused_conversations scene journal posts none = record { held = λ worker post is. no_post posts worker post none is }
 
--- the causes of a status with which nobody was served
-pub unused_causes : {P : Type 0} (words : List (List ℕ)) (status : ℕ) (journal : List Event) (posts : List P) (scene : P → Option Scene) (accept_faults : P → ℕ) (ListenRose LogRose : Type 0)
-    → IsStatus status → (¬ (IsCommand words) → status ≡ 2) → (status ≡ 2 → ¬ (IsCommand words)) → (status ≡ 6 → (words ≡ serve_words) × ListenRose) → status ≢ 7 → status ≢ 10 → (words ≡ serve_words → status ≢ 0) → journal ≡ [] → posts ≡ []
-    → StatusHasCause words status plain_settings journal posts scene accept_faults ListenRose LogRose
-unused_causes words status journal posts scene accept_faults ListenRose LogRose listed no_command command listen no_lost no_accept unserved events none = record {
-  listed = listed;
-  no_command = no_command;
-  command = command;
-  listen_fault = listen;
-  lost = λ h. absurd (let e : false ≡ true = sym (ap has_lost events) ∙ h in cc);
-  log_lost = λ h. absurd (no_lost h);
-  accept_fault = λ h. absurd (no_accept h);
-  success = λ h. (ap has_lost events, (λ worker post is. no_post posts worker post none is), record { quota = λ worker post is. no_post posts worker post none is });
-  one_each = λ serve h. absurd (by_status serve h);
-} where
-  by_status : words ≡ serve_words → (status ≡ 0) ⊎ (status ≡ 7) ⊎ (status ≡ 10) → ⊥
-  by_status serve (inl e) = unserved serve e
-  by_status serve (inr (inl e)) = no_lost e
-  by_status serve (inr (inr e)) = no_accept e
+-- what is known of a status with which nobody was served
+pub record Unserved (words : List (List ℕ)) (status : ℕ) (ListenRose : Type 0) : Type 0 where
+  pub listed : IsStatus status
+  pub no_words : plain_words words ≡ None → status ≡ 2
+  pub no_command : ¬ (IsCommand words) → (status ≡ 2) ⊎ (status ≡ 9)
+  pub command : status ≡ 2 → ¬ (IsCommand words)
+  pub listen : status ≡ 6 → (words ≡ serve_words) × ListenRose
+  pub no_loss : status ≢ 7
+  pub no_accept : status ≢ 10
+  pub serving : words ≡ serve_words → (status ≡ 6) ⊎ (status ≡ 9)
 
-pub unused_complete : {P : Type 0} (words : List (List ℕ)) (status : ℕ) (journal : List Event) (posts : List P) (scene : P → Option Scene) (NoFaultRose : Type 0)
+-- its causes
+unused_causes : {P : Type 0} (words : List (List ℕ)) (status : ℕ) (journal : List Event) (posts : List P) (scene : P → Option Scene) (accept_faults : P → ℕ) (ListenRose LogRose : Type 0)
+    → Unserved words status ListenRose → journal ≡ [] → posts ≡ [] → StatusHasCause words status plain_settings journal posts scene accept_faults ListenRose LogRose
+unused_causes words status journal posts scene accept_faults ListenRose LogRose known events none = record {
+  listed = known.listed;
+  no_words = known.no_words;
+  no_command = known.no_command;
+  command = known.command;
+  serving = λ serve. serving (known.serving serve);
+  listen_fault = known.listen;
+  lost = λ h. absurd (let e : false ≡ true = sym (ap has_lost events) ∙ h in cc);
+  log_lost = λ h. absurd (known.no_loss h);
+  accept_fault = λ h. absurd (known.no_accept h);
+  success = λ h. (ap has_lost events, (λ worker post is. no_post posts worker post none is), record { quota = λ worker post is. no_post posts worker post none is });
+  one_each = λ serve h. absurd (by_status (known.serving serve) h);
+} where
+  serving : (status ≡ 6) ⊎ (status ≡ 9) → list_any (λ s. s == status) serve_statuses ≡ true
+  serving (inl e) = subst (λ n. list_any (λ s. s == n) serve_statuses ≡ true) (sym e) refl
+  serving (inr e) = subst (λ n. list_any (λ s. s == n) serve_statuses ≡ true) (sym e) refl
+
+  by_status : (status ≡ 6) ⊎ (status ≡ 9) → (status ≡ 0) ⊎ (status ≡ 7) ⊎ (status ≡ 10) → ⊥
+  by_status (inl six) (inl e) = omega (arith, six, e)
+  by_status (inr nine) (inl e) = omega (arith, nine, e)
+  by_status _ (inr (inl e)) = known.no_loss e
+  by_status _ (inr (inr e)) = known.no_accept e
+
+unused_complete : {P : Type 0} (words : List (List ℕ)) (status : ℕ) (journal : List Event) (posts : List P) (scene : P → Option Scene) (NoFaultRose : Type 0)
     → (words ≡ serve_words → NoFaultRose → (status ≡ 0) ⊎ (status ≡ 9)) → journal ≡ [] → posts ≡ [] → IsComplete words status scene journal posts NoFaultRose
 unused_complete words status journal posts scene NoFaultRose succeeds events none = record {
   succeeds = succeeds;
@@ -310,68 +336,98 @@ unused_complete words status journal posts scene NoFaultRose succeeds events non
   answered = λ no_fault h worker post is. no_post posts worker post none is;
 }
 
--- the statuses of the mode `otp`
-pub password_status : (outcome : Result (Unit {0}) OtpFault) → IsStatus (status_of outcome) × (status_of outcome ≢ 2) × (status_of outcome ≢ 6) × (status_of outcome ≢ 7) × (status_of outcome ≢ 10)
-password_status (Ok done) = (refl, (λ e. absurd cc), (λ e. absurd cc), (λ e. absurd cc), (λ e. absurd cc))
-password_status (Err faults.ReadFailed) = (refl, (λ e. absurd cc), (λ e. absurd cc), (λ e. absurd cc), (λ e. absurd cc))
-password_status (Err faults.ListMissing) = (refl, (λ e. absurd cc), (λ e. absurd cc), (λ e. absurd cc), (λ e. absurd cc))
-password_status (Err (faults.ListRefused fault)) = (refl, (λ e. absurd cc), (λ e. absurd cc), (λ e. absurd cc), (λ e. absurd cc))
-password_status (Err faults.OutOfMemory) = (refl, (λ e. absurd cc), (λ e. absurd cc), (λ e. absurd cc), (λ e. absurd cc))
-password_status (Err faults.EndsFailed) = (refl, (λ e. absurd cc), (λ e. absurd cc), (λ e. absurd cc), (λ e. absurd cc))
-password_status (Err faults.PhraseRefused) = (refl, (λ e. absurd cc), (λ e. absurd cc), (λ e. absurd cc), (λ e. absurd cc))
-
 -- all promises, where nobody was served
-pub unused_promises : {P : Type 0} (words : List (List ℕ)) (status : ℕ) (journal : List Event) (posts : List P) (scene : P → Option Scene) (accept_faults link_faults keeper_faults : P → ℕ) (ListenRose LogRose : Type 0) (held : Option (List ℕ))
-    → IsStatus status → (¬ (IsCommand words) → status ≡ 2) → (status ≡ 2 → ¬ (IsCommand words)) → (status ≡ 6 → (words ≡ serve_words) × ListenRose) → status ≢ 7 → status ≢ 10 → (words ≡ serve_words → (status ≡ 6) ⊎ (status ≡ 9)) → journal ≡ [] → posts ≡ []
-    → Promises words status journal posts scene accept_faults link_faults keeper_faults ListenRose LogRose held held
-unused_promises words status journal posts scene accept_faults link_faults keeper_faults ListenRose LogRose held listed no_command command listen no_lost no_accept unserved events none =
+pub unused_promises : {P : Type 0} (words : List (List ℕ)) (status : ℕ) (journal : List Event) (posts : List P) (scene : P → Option Scene) (accept_faults link_faults keeper_faults : P → ℕ) (ListenRose LogRose : Type 0) (before after : Option (List ℕ))
+    → Unserved words status ListenRose → after ≡ before → journal ≡ [] → posts ≡ [] → Promises words status journal posts scene accept_faults link_faults keeper_faults ListenRose LogRose before after
+unused_promises words status journal posts scene accept_faults link_faults keeper_faults ListenRose LogRose before after known same events none =
     let conversations = unused_conversations scene journal posts none in
     record {
       legal = unused_legal journal events;
       sessions = unused_sessions journal events;
       operations = operations_match scene journal posts conversations;
       conversations = conversations;
-      log = subst (λ j. LogMatches plain_settings j held held) (sym events) (LogMatches-none plain_settings held);
+      log = rw same (subst (λ j. LogMatches plain_settings j before before) (sym events) (LogMatches-none plain_settings before));
       quota = record { quota = λ worker post is. no_post posts worker post none is };
-      causes = unused_causes words status journal posts scene accept_faults ListenRose LogRose listed no_command command listen no_lost no_accept (λ serve zero_is. not_zero zero_is (unserved serve)) events none;
+      causes = unused_causes words status journal posts scene accept_faults ListenRose LogRose known events none;
       fault_ends = record { link = λ worker post is. no_post posts worker post none is; keeper = λ worker post is. no_post posts worker post none is };
-      complete = unused_complete words status journal posts scene (NoFault ListenRose LogRose accept_faults keeper_faults link_faults posts) (λ serve no_fault. succeeds serve no_fault (unserved serve)) events none;
+      complete = unused_complete words status journal posts scene (NoFault ListenRose LogRose accept_faults keeper_faults link_faults posts) (λ serve no_fault. succeeds no_fault (known.serving serve)) events none;
     } where
-      not_zero : status ≡ 0 → (status ≡ 6) ⊎ (status ≡ 9) → ⊥
-      not_zero zero_is (inl six) = absurd (omega (arith, zero_is, six))
-      not_zero zero_is (inr nine) = absurd (omega (arith, zero_is, nine))
+      succeeds : NoFault ListenRose LogRose accept_faults keeper_faults link_faults posts → (status ≡ 6) ⊎ (status ≡ 9) → (status ≡ 0) ⊎ (status ≡ 9)
+      succeeds no_fault (inl six) = absurd (no_fault.listen (known.listen six).1)
+      succeeds no_fault (inr nine) = inr nine
 
-      succeeds : words ≡ serve_words → NoFault ListenRose LogRose accept_faults keeper_faults link_faults posts → (status ≡ 6) ⊎ (status ≡ 9) → (status ≡ 0) ⊎ (status ≡ 9)
-      succeeds serve no_fault (inl six) = absurd (no_fault.listen (listen six).1)
-      succeeds serve no_fault (inr nine) = inr nine
+-- ---- why nobody was served
 
--- the same for each reason why nobody was served: memory was wanted, the site could not listen, the words are no command,
--- or those of the mode `otp`
-pub unremembered : {P : Type 0} (status : ℕ) (journal : List Event) (posts : List P) (scene : P → Option Scene) (accept_faults link_faults keeper_faults : P → ℕ) (ListenRose LogRose : Type 0) (before after : Option (List ℕ))
-    → status ≡ 9 → after ≡ before → journal ≡ [] → posts ≡ [] → Promises serve_words status journal posts scene accept_faults link_faults keeper_faults ListenRose LogRose before after
-unremembered status journal posts scene accept_faults link_faults keeper_faults ListenRose LogRose before after is same events none =
-    subst (λ held. Promises serve_words status journal posts scene accept_faults link_faults keeper_faults ListenRose LogRose before held) (sym same)
-    (unused_promises serve_words status journal posts scene accept_faults link_faults keeper_faults ListenRose LogRose before (subst IsStatus (sym is) refl) (λ h. absurd (h (inl refl))) (λ e. absurd (omega (arith, is, e))) (λ e. absurd (omega (arith, is, e))) (λ e. omega (arith, is, e)) (λ e. omega (arith, is, e)) (λ _. inr is) events none)
+-- memory was wanted for what the words ask for, of which none begins with a hyphen
+pub unremembered : (words : List (List ℕ)) (status : ℕ) (ListenRose : Type 0) → plain_words words ≢ None → status ≡ 9 → Unserved words status ListenRose
+unremembered words status ListenRose spoken is = record {
+  listed = subst IsStatus (sym is) refl;
+  no_words = λ none. absurd (spoken none);
+  no_command = λ _. inr is;
+  command = λ e. absurd (omega (arith, is, e));
+  listen = λ e. absurd (omega (arith, is, e));
+  no_loss = λ e. omega (arith, is, e);
+  no_accept = λ e. omega (arith, is, e);
+  serving = λ _. inr is;
+}
 
-pub unlistened : {P : Type 0} (status : ℕ) (journal : List Event) (posts : List P) (scene : P → Option Scene) (accept_faults link_faults keeper_faults : P → ℕ) (ListenRose LogRose : Type 0) (before after : Option (List ℕ))
-    → status ≡ 6 → ListenRose → after ≡ before → journal ≡ [] → posts ≡ [] → Promises serve_words status journal posts scene accept_faults link_faults keeper_faults ListenRose LogRose before after
-unlistened status journal posts scene accept_faults link_faults keeper_faults ListenRose LogRose before after is rose same events none =
-    subst (λ held. Promises serve_words status journal posts scene accept_faults link_faults keeper_faults ListenRose LogRose before held) (sym same)
-    (unused_promises serve_words status journal posts scene accept_faults link_faults keeper_faults ListenRose LogRose before (subst IsStatus (sym is) refl) (λ h. absurd (h (inl refl))) (λ e. absurd (omega (arith, is, e))) (λ _. (refl, rose)) (λ e. omega (arith, is, e)) (λ e. omega (arith, is, e)) (λ _. inl is) events none)
+pub serve_unremembered : (status : ℕ) (ListenRose : Type 0) → status ≡ 9 → Unserved serve_words status ListenRose
+serve_unremembered status ListenRose is = unremembered serve_words status ListenRose (serve_spoken serve_words refl) is
 
-pub uncommanded : {P : Type 0} (words : List (List ℕ)) (status : ℕ) (journal : List Event) (posts : List P) (scene : P → Option Scene) (accept_faults link_faults keeper_faults : P → ℕ) (ListenRose LogRose : Type 0) (before after : Option (List ℕ))
-    → ¬ (IsCommand words) → status ≡ 2 → after ≡ before → journal ≡ [] → posts ≡ [] → Promises words status journal posts scene accept_faults link_faults keeper_faults ListenRose LogRose before after
-uncommanded words status journal posts scene accept_faults link_faults keeper_faults ListenRose LogRose before after no_command is same events none =
-    subst (λ held. Promises words status journal posts scene accept_faults link_faults keeper_faults ListenRose LogRose before held) (sym same)
-    (unused_promises words status journal posts scene accept_faults link_faults keeper_faults ListenRose LogRose before (subst IsStatus (sym is) refl) (λ _. is) (λ _. no_command) (λ e. absurd (omega (arith, is, e))) (λ e. omega (arith, is, e)) (λ e. omega (arith, is, e)) (λ serve. absurd (no_command (inl serve))) events none)
+-- the site could not listen
+pub unlistened : (status : ℕ) (ListenRose : Type 0) → status ≡ 6 → ListenRose → Unserved serve_words status ListenRose
+unlistened status ListenRose is rose = record {
+  listed = subst IsStatus (sym is) refl;
+  no_words = λ none. absurd (serve_spoken serve_words refl none);
+  no_command = λ ne. absurd (ne (inl refl));
+  command = λ e. absurd (omega (arith, is, e));
+  listen = λ _. (refl, rose);
+  no_loss = λ e. omega (arith, is, e);
+  no_accept = λ e. omega (arith, is, e);
+  serving = λ _. inl is;
+}
 
-pub passworded : {P : Type 0} (words : List (List ℕ)) (parts : OtpParts) (outcome : Result (Unit {0}) OtpFault) (status : ℕ) (journal : List Event) (posts : List P) (scene : P → Option Scene) (accept_faults link_faults keeper_faults : P → ℕ) (ListenRose LogRose : Type 0) (before after : Option (List ℕ))
-    → otp_command words ≡ Some parts → words ≢ serve_words → status ≡ status_of outcome → after ≡ before → journal ≡ [] → posts ≡ [] → Promises words status journal posts scene accept_faults link_faults keeper_faults ListenRose LogRose before after
-passworded words parts outcome status journal posts scene accept_faults link_faults keeper_faults ListenRose LogRose before after command unserved is same events none =
-    let of = password_status outcome in
-    let not : (n : ℕ) → status_of outcome ≢ n → status ≢ n = λ n ne e. ne (sym is ∙ e) in
-    subst (λ held. Promises words status journal posts scene accept_faults link_faults keeper_faults ListenRose LogRose before held) (sym same)
-    (unused_promises words status journal posts scene accept_faults link_faults keeper_faults ListenRose LogRose before (subst IsStatus (sym is) of.0) (λ h. absurd (h (inr (parts, command)))) (λ e. absurd (not 2 of.1 e)) (λ e. absurd (not 6 of.2 e)) (not 7 of.3) (not 10 of.4) (λ serve. absurd (unserved serve)) events none)
+-- the words are no command
+pub uncommanded : (words : List (List ℕ)) (status : ℕ) (ListenRose : Type 0) → ¬ (IsCommand words) → status ≡ 2 → Unserved words status ListenRose
+uncommanded words status ListenRose no_command is = record {
+  listed = subst IsStatus (sym is) refl;
+  no_words = λ _. is;
+  no_command = λ _. inl is;
+  command = λ _. no_command;
+  listen = λ e. absurd (omega (arith, is, e));
+  no_loss = λ e. omega (arith, is, e);
+  no_accept = λ e. omega (arith, is, e);
+  serving = λ serve. absurd (no_command (inl serve));
+}
+
+-- a status of a mode that serves nobody
+abbrev pub is_mode_status : ℕ → Bool
+is_mode_status status = list_any (λ s. s == status) statuses && not (list_any (λ s. s == status) (2 ∷ 6 ∷ 7 ∷ 10 ∷ []))
+
+abbrev pub IsModeStatus : ℕ → Type 0
+IsModeStatus status = is_mode_status status ≡ true
+
+-- the words are those of another command
+pub moded : (words : List (List ℕ)) (status : ℕ) (ListenRose : Type 0) → IsCommand words → words ≢ serve_words → plain_words words ≢ None → IsModeStatus status → Unserved words status ListenRose
+moded words status ListenRose command unserved spoken of = record {
+  listed = listed;
+  no_words = λ none. absurd (spoken none);
+  no_command = λ ne. absurd (ne command);
+  command = λ e. absurd (not_of 2 refl e);
+  listen = λ e. absurd (not_of 6 refl e);
+  no_loss = λ e. not_of 7 refl e;
+  no_accept = λ e. not_of 10 refl e;
+  serving = λ serve. absurd (unserved serve);
+} where
+  not_of : (n : ℕ) → is_mode_status n ≡ false → status ≡ n → ⊥
+  not_of n none is = let e : true ≡ false = sym of ∙ ap is_mode_status is ∙ none in absurd cc
+
+  left : (a b : Bool) → (a && b) ≡ true → a ≡ true
+  left true b h = refl
+  left false b h = absurd cc
+
+  listed : IsStatus status
+  listed = left (list_any (λ s. s == status) statuses) (not (list_any (λ s. s == status) (2 ∷ 6 ∷ 7 ∷ 10 ∷ []))) of
 
 -- all promises of a run that began
 pub run_promises : {P : Type 0} (status : ℕ) (journal : List Event) (posts : List P) (scene : P → Option Scene) (accept_faults link_faults keeper_faults : P → ℕ) (ListenRose LogRose : Type 0) (before after : Option (List ℕ))

@@ -9,4 +9,4 @@ pub mod Stories
 pub mod Ran
 pub mod Logs
 pub mod Headline
-pub mod Modes
+pub mod Whole

@@ -1,7 +1,7 @@
 -- What the top call promises of a whole run, in its parts.
-use Rattle.std.specs.Prelude.{◌≡◌, ◌≢◌, ◌⊎◌, ℕ, ◌+◌, ◌<◌, ◌≤◌, Bool, true, false, ◌&&◌, ◌==◌, List, [], ◌∷◌, ◌++◌, length, take, find, count_by, codes, slice_get, Option, Some, None, IfSome}
+use Rattle.std.specs.Prelude.{◌≡◌, ◌⊎◌, ℕ, ◌+◌, ◌<◌, ◌≤◌, Bool, true, false, ◌&&◌, ◌==◌, List, [], ◌∷◌, ◌++◌, length, take, find, count_by, slice_get, Option, Some, None, IfSome}
 use Rattle.std.specs.List.{AllByRecursion, last_or, list_any}
-use Rattle.otp_mode.specs.Words.{OtpParts, otp_command}
+use Rattle.command_line.specs.Words.{plain_words}
 use Rattle.outside.specs.Told.{Goes}
 use Rattle.outside.specs.Scene.{Scene}
 use Rattle.outside.specs.declared.act.Act.{Act}
@@ -19,10 +19,7 @@ use Rattle.session_model.specs.Log.{line_of, log_text}
 use Rattle.session_model.specs.Parts.{IsAnswered}
 use Rattle.session_model.specs.Sittings.{AreSittingsOf, Sitting}
 use Rattle.session_model.specs.Stories.{IsStory, LastAccept, is_stop, parts_of, story_acts}
-
--- the words of the command that serves the plain setup
-abbrev pub serve_words : List (List ℕ)
-serve_words = codes "serve" ∷ []
+use Rattle.monitor_server.specs.Commands.{IsCommand, serve_words}
 
 -- ---- the journal is legal
 
@@ -107,15 +104,17 @@ statuses = 0 ∷ 2 ∷ 3 ∷ 4 ∷ 5 ∷ 6 ∷ 7 ∷ 9 ∷ 10 ∷ 11 ∷ 12 ∷ 
 abbrev pub IsStatus : ℕ → Type 0
 IsStatus status = list_any (λ s. s == status) statuses ≡ true
 
--- the words of a command: `serve`, or those of the mode `otp`
-abbrev pub IsCommand : List (List ℕ) → Type 0
-IsCommand words = (words ≡ serve_words) ⊎ ((parts : OtpParts) × (otp_command words ≡ Some parts))
+-- those of `serve`
+abbrev pub serve_statuses : List ℕ
+serve_statuses = 0 ∷ 6 ∷ 7 ∷ 9 ∷ 10 ∷ []
 
 -- what comes only for its cause, and what comes exactly for it; rose says that a count rose in this call
 pub record StatusHasCause {P : Type 0} (words : List (List ℕ)) (status : ℕ) (setup : Settings) (journal : List Event) (posts : List P) (scene : P → Option Scene) (accept_faults : P → ℕ) (ListenRose LogRose : Type 0) : Type 0 where
   pub listed : IsStatus status
-  pub no_command : ¬ (IsCommand words) → status ≡ 2
+  pub no_words : plain_words words ≡ None → status ≡ 2
+  pub no_command : ¬ (IsCommand words) → (status ≡ 2) ⊎ (status ≡ 9)
   pub command : status ≡ 2 → ¬ (IsCommand words)
+  pub serving : words ≡ serve_words → list_any (λ s. s == status) serve_statuses ≡ true
   pub listen_fault : status ≡ 6 → (words ≡ serve_words) × ListenRose
   pub lost : has_lost journal ≡ true → status ≡ 7
   pub log_lost : status ≡ 7 → (has_lost journal ≡ true) × LogRose

@@ -2,6 +2,8 @@
 use Rattle.std.specs.Prelude.{◌≡◌, ◌≢◌, ℕ, ◌<◌, ◌≤◌, Bool, true, false, List, [], count_by, length, slice_get, Option, Some, IfSome}
 use Rattle.std.specs.List.{AllByRecursion, flat_map}
 use Rattle.outside.specs.Scene.{IsFresh, Scene}
+use Rattle.outside.specs.Files.{Contents}
+use Rattle.outside.specs.Link.{Link}
 use Rattle.policy_model.specs.declared.event.Event.{Event}
 use Rattle.policy_model.specs.Asks.{is_lost}
 use Rattle.policy_model.specs.Settings.{plain_settings}
@@ -9,7 +11,9 @@ use Rattle.session_model.specs.Ends.{is_keeper_end, is_link_end}
 use Rattle.session_model.specs.Places.{Place, places_of, step_places}
 use Rattle.session_model.specs.Sittings.{IsSitting, Sitting, all_steps}
 use Rattle.session_model.specs.Stories.{AcceptFailed, IsStory, LastAccept, Unasked}
+use Rattle.monitor_server.specs.declared.report.Detail.{Detail}
 use Rattle.monitor_server.specs.Headline.{ConversationsMatch, FaultEndsAreCounted, IsComplete, JournalIsLegal, LogMatches, NoFault, OperationsMatch, RunsToQuota, SessionsInOrder, StatusHasCause}
+use Rattle.monitor_server.specs.Modes.{CheckMode, LeavesRest, PasswordMode}
 use Rattle.monitor_server.specs.Serving.{RoseBy, asks_among}
 
 -- what one worker did, whose events stand at these places
@@ -61,3 +65,10 @@ pub record Promises {P : Type 0} (words : List (List ℕ)) (status : ℕ) (journ
   pub causes : StatusHasCause words status plain_settings journal posts scene accept_faults ListenRose LogRose
   pub fault_ends : FaultEndsAreCounted link_faults keeper_faults journal posts
   pub complete : IsComplete words status scene journal posts (NoFault ListenRose LogRose accept_faults keeper_faults link_faults posts)
+
+-- all that the top call says of a command
+pub record Whole {F S E K P : Type 0} (words : List (List ℕ)) (status : ℕ) (detail : Detail) (journal : List Event) (posts : List P) (scene : P → Option Scene) (accept_faults link_faults keeper_faults : P → ℕ) (files_old files_new : F) (site_old site_new : S) (ends_old ends_new : E) (log_old log_new : K) (contents : Option Contents) (before after : Option Link) (held_old held_new : Option (List ℕ)) (ListenRose LogRose ReadFailed EndsFailed : Type 0) : Type 0 where
+  pub promises : Promises words status journal posts scene accept_faults link_faults keeper_faults ListenRose LogRose held_old held_new
+  pub password : PasswordMode words status detail contents before after ReadFailed EndsFailed
+  pub check : CheckMode words status detail contents before after ReadFailed EndsFailed
+  pub leaves : LeavesRest words status detail files_old files_new site_old site_new ends_old ends_new log_old log_new journal posts

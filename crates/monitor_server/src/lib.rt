@@ -4,7 +4,9 @@
 mod asking;
 mod book;
 mod buffers;
+mod command;
 mod line;
+mod modes;
 mod report;
 mod run;
 mod session;

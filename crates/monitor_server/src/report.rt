@@ -3,13 +3,19 @@
 ghost use Rattle.std.specs.Prelude.{◌≡◌};
 ghost use Rattle.monitor_server.specs.Headline.{IsUnused};
 
+use account_file::SetupFault;
 use otp_words::DictFault;
 use policy_model::Event;
 use std::alloc::Global;
 
-/// A file that the words of the command line name.
+/// The status where memory was wanted.
+pub(crate) const NO_MEMORY: u8 = 9;
+
+/// A file that the words of the command line, or the setup, name.
 #[derive(Clone, Copy, PartialEq, Eq, Debug)]
 pub enum FileKind {
+    /// The setup.
+    Setup,
     /// The word list.
     Words,
 }
@@ -21,6 +27,8 @@ pub enum Detail {
     Nothing,
     /// A file is not there, with status 4.
     Missing { file: FileKind },
+    /// The setup is refused by this fault, with status 5.
+    SetupBad(SetupFault),
     /// The word list is refused by this fault, with status 5.
     WordsBad(DictFault),
 }
@@ -29,10 +37,10 @@ pub enum Detail {
 #[derive(Drop)]
 pub struct Report<P, K> {
     /// The program's exit status: 0 where nothing below applies, 2 where the words are no command,
-    /// 3 where a file could not be read, 4 where one isn't there, 5 where a word list is refused,
-    /// 6 where the site could not listen, 7 where the log could not be written, 9 where memory was
-    /// wanted, 10 where a worker could not wait for a connection, 11 where the ends failed, 12 where
-    /// the pass phrase is refused.
+    /// 3 where a file could not be read, 4 where one isn't there, 5 where a setup or a word list is
+    /// refused, 6 where the site could not listen, 7 where the log could not be written, 9 where
+    /// memory was wanted, 10 where a worker could not wait for a connection, 11 where the ends
+    /// failed, 12 where the pass phrase is refused.
     pub status: u8,
     /// Which file is missing, or what is wrong with it.
     pub detail: Detail,

@@ -7,11 +7,12 @@ ghost use Rattle.outside.specs.Told.{Rose};
 ghost use Rattle.policy_model.specs.Journal.{has_lost};
 ghost use Rattle.monitor_server.specs.Book.{Logged};
 ghost use Rattle.monitor_server.specs.Ran.{Promises, RunEnded, status_by};
-ghost use Rattle.monitor_server.specs.Headline.{IsUnused, JournalIsLegal, serve_words};
+ghost use Rattle.monitor_server.specs.Commands.{serve_words};
+ghost use Rattle.monitor_server.specs.Headline.{IsUnused, JournalIsLegal};
 
 use crate::book::Book;
 use crate::buffers::Buffers;
-use crate::report::{Detail, Report, unused};
+use crate::report::{Detail, NO_MEMORY, Report, unused};
 use crate::worker::serve_worker;
 use imsg_frame::{MAX_LEN, Reader};
 use outside::{Failed, Place, Post, Sink, Site, Word};
@@ -23,9 +24,6 @@ const LISTEN_FAULT: u8 = 6;
 
 /// The log could not be written.
 const LOG_LOST: u8 = 7;
-
-/// Memory was wanted before the run began.
-const NO_MEMORY: u8 = 9;
 
 /// A worker could not wait for a connection.
 const ACCEPT_FAULT: u8 = 10;

@@ -3,6 +3,7 @@ ghost use Rattle.outside.specs.MemPost.{accept_faults_of, conn_faults_of, keeper
 ghost use Rattle.outside.specs.Scene.{IsFresh};
 
 use super::{Detail, FileKind, Report, otplogd};
+use account_file::{SetupFault, SetupKey, SetupRule};
 use otp_words::{DictFault, DictRule};
 use outside::{
     Accepted, Act, Bytes, CallKind, Fail, MemFiles, MemPost, MemSink, MemSite, MemStream, Role,
@@ -321,6 +322,18 @@ const MISSING: Detail = Detail::Missing {
     file: FileKind::Words,
 };
 
+/// A setup that names itself as its word list.
+const ITS_OWN_LIST: &[u8] = b"socket = \"s\"
+launcher = \"l\"
+vault = \"v\"
+words = \"setup\"
+workers = 1
+connections = 1
+requests = 8
+tries = 1
+hold = 1
+";
+
 const UNSERVED: [Unserved; 8] = [
     // No post is there for the one worker.
     Unserved {
@@ -332,28 +345,37 @@ const UNSERVED: [Unserved; 8] = [
         sent: b"",
     },
     Unserved {
-        line: "fly",
-        input: PHRASE,
-        file: ("", b""),
-        status: 2,
-        detail: Detail::Nothing,
-        sent: b"",
+        line: "check setup",
+        input: b"",
+        file: ("other", b""),
+        status: 4,
+        detail: Detail::Missing {
+            file: FileKind::Setup,
+        },
+        sent: b"missing setup\n",
     },
     Unserved {
-        line: "",
-        input: PHRASE,
-        file: ("", b""),
-        status: 2,
-        detail: Detail::Nothing,
-        sent: b"",
+        line: "check setup",
+        input: b"",
+        file: ("setup", b"launcher = \"l\"\n"),
+        status: 5,
+        detail: Detail::SetupBad(SetupFault {
+            key: SetupKey::Socket,
+            rule: SetupRule::Missing,
+            account: 0,
+        }),
+        sent: b"refused setup socket missing 0\n",
     },
     Unserved {
-        line: "otp md5 -x TeSt",
-        input: PHRASE,
-        file: ("", b""),
-        status: 2,
-        detail: Detail::Nothing,
-        sent: b"",
+        line: "check setup",
+        input: b"",
+        file: ("setup", ITS_OWN_LIST),
+        status: 5,
+        detail: Detail::WordsBad(DictFault {
+            line: 1,
+            rule: DictRule::Length,
+        }),
+        sent: b"refused words 1 length\n",
     },
     Unserved {
         line: "otp md5 99 TeSt",
@@ -422,5 +444,50 @@ fn other_words_serve_nobody(rt: HostRuntime) -> Result<(), Fault> {
         assert_eq!(rt; sent.as_slice(), row.sent, "{}", row.line);
         assert_eq!(rt; posts, 0);
     }
+    Ok(())
+}
+
+/// Lines that are no commands; the empty one is one empty word.
+const NO_COMMANDS: &str = "
+fly
+-x
+help
+--help
+serve -x
+serve setup
+Serve
+check
+check -x
+check a b
+otp md5 -x TeSt
+otp md5 1 TeSt -x
+drill 7
+child-pre 1";
+
+#[test]
+fn words_that_are_no_command(rt: HostRuntime) -> Result<(), Fault> {
+    let alloc = rt.alloc();
+    let mut files = MemFiles::new(alloc, &[], &[])?;
+    let mut ends = MemStream::new(alloc, PHRASE, &[100], &[])?;
+    let mut site: MemSite<MemPost> = MemSite::new(alloc, Vec::new(alloc))?;
+    for line in NO_COMMANDS.split('\n') {
+        let words = words_of(alloc, line)?;
+        let log = MemSink::new(alloc, &[])?;
+        let report = otplogd(
+            alloc,
+            words.as_slice(),
+            &mut files,
+            &mut site,
+            log,
+            &mut ends,
+        );
+        assert_eq!(rt; report.status, 2, "{line}");
+        assert_eq!(rt; report.detail, Detail::Nothing);
+        assert_eq!(rt; report.posts.len(), 0);
+    }
+    let log = MemSink::new(alloc, &[])?;
+    let report = otplogd(alloc, &[], &mut files, &mut site, log, &mut ends);
+    assert_eq!(rt; report.status, 2);
+    assert_eq!(rt; ends.sent(), b"".as_slice());
     Ok(())
 }

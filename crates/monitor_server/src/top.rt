@@ -1,73 +1,54 @@
 //! The top call.
 
-ghost use Rattle.std.specs.Prelude.{◌≡◌, ◌≢◌, ◌⊎◌, true, false};
+ghost use Rattle.std.specs.Prelude.{◌≡◌};
 ghost use Rattle.outside.specs.Files.{SameFiles};
 ghost use Rattle.outside.specs.Told.{Goes, Rose};
-ghost use Rattle.otp_mode.specs.Command.{command_parts};
 ghost use Rattle.policy_model.specs.Settings.{plain_settings};
-ghost use Rattle.monitor_server.specs.Headline.{ConversationsMatch, FaultEndsAreCounted, IsComplete, IsUnused, JournalIsLegal, LogMatches, NoFault, OperationsMatch, RunsToQuota, SessionsInOrder, StatusHasCause, serve_words};
-ghost use Rattle.monitor_server.specs.Modes.{LeavesRest, PasswordMode, PasswordRan, fault_detail};
+ghost use Rattle.monitor_server.specs.Headline.{ConversationsMatch, FaultEndsAreCounted, IsComplete, JournalIsLegal, LogMatches, NoFault, OperationsMatch, RunsToQuota, SessionsInOrder, StatusHasCause};
+ghost use Rattle.monitor_server.specs.Modes.{CheckMode, LeavesRest, PasswordMode};
+ghost use Rattle.monitor_server.specs.Ran.{Whole};
 
-use crate::report::{Detail, FileKind, Report, unused};
+use crate::command::{Command, Unread, read_command};
+use crate::modes::{check_setup, print_password};
+use crate::report::{Detail, NO_MEMORY, Report, unused};
 use crate::run::serve_plain;
-use otp_mode::{OtpCommand, OtpFault, read_otp_command, run_otp};
 use outside::{Files, Sink, Site, Stream, Word};
 use std::alloc::Global;
 
 /// The words are no command.
 const NO_COMMAND: u8 = 2;
 
-/// Whether the words are the one word `serve`.
-fn is_serve(words: &[Word]) -> bool
-    ensures yes { result ≡ true → words.now ≡ serve_words }
-    ensures no { result ≡ false → words.now ≢ serve_words }
-{
-    match words {
-        [word] => word.as_str() == "serve",
-        _ => false,
-    }
-}
-
-/// Prints a one-time password: the pass phrase is read from the ends, and a word list from its file.
-fn print_password<F: Files, P, K, E: Stream>(
+/// Does what the words ask for.
+fn run_command<F: Files, S: Site, K: Sink, E: Stream>(
     alloc: Global,
-    command: &OtpCommand<'_>,
+    words: &[Word],
     files: &mut F,
+    site: &mut S,
     log: K,
     ends: &mut E,
-) -> Report<P, K>
-    ensures password { PasswordRan (command_parts command.now) result.status result.detail (F.contents files.new) (E.link ends.old) (E.link ends.new) (Rose (F.read_faults files.old) (F.read_faults files.new)) (Rose (E.faults ends.old) (E.faults ends.new)) }
-    ensures unused { IsUnused log result.log result.journal.items result.posts.items }
+) -> Report<S::Post, K>
+    ensures whole { Whole words.now result.status result.detail result.journal.items result.posts.items S.Post.scene S.Post.accept_faults S.Post.link_faults S.Post.keeper_faults files.old files.new site.old site.new ends.old ends.new log result.log (F.contents files.new) (E.link ends.old) (E.link ends.new) (K.held log) (K.held result.log) (Rose (S.listen_faults site.old) (S.listen_faults site.new)) (Rose (K.faults log) (K.faults result.log)) (Rose (F.read_faults files.old) (F.read_faults files.new)) (Rose (E.faults ends.old) (E.faults ends.new)) }
     ensures files { Goes SameFiles (F.contents files.old) (F.contents files.new) }
 {
-    match run_otp(alloc, command, files, ends) {
-        Ok(()) => unused(alloc, 0, Detail::Nothing, log),
-        Err(fault) => unused(alloc, fault.status(), detail_of(fault), log),
-    }
-}
-
-/// Where a fault of the mode `otp` lies.
-fn detail_of(fault: OtpFault) -> Detail
-    ensures { result ≡ fault_detail fault }
-{
-    match fault {
-        OtpFault::ListMissing => Detail::Missing {
-            file: FileKind::Words,
-        },
-        OtpFault::ListRefused(fault) => Detail::WordsBad(fault),
-        OtpFault::ReadFailed
-        | OtpFault::OutOfMemory
-        | OtpFault::EndsFailed
-        | OtpFault::PhraseRefused => Detail::Nothing,
+    match read_command(alloc, words) {
+        Ok(Command::Serve) => serve_plain(alloc, site, log),
+        Ok(Command::Password(command)) => print_password(alloc, &command, files, log, ends),
+        Ok(Command::Check(setup)) => check_setup(alloc, setup, files, log, ends),
+        Err(Unread::NoCommand) => unused(alloc, NO_COMMAND, Detail::Nothing, log),
+        Err(Unread::OutOfMemory) => unused(alloc, NO_MEMORY, Detail::Nothing, log),
     }
 }
 
 /// Runs the program by the words of its command line, without the program's name:
 ///
 /// - `serve` serves the connections of the plain setup;
+/// - `check SETUP` sends to `ends` one line that says whether the setup in that file and its word
+///   list are right;
 /// - `otp ALGO N SEED` and `otp ALGO N SEED WORDS` print a one-time password of RFC 2289: the pass
 ///   phrase is the first line that `ends` gives, and the password is sent to `ends` in hexadecimal,
 ///   and in six words where a file of a word list is named.
+///
+/// Other words are no command, and neither are those of which one begins with `-`.
 pub fn otplogd<F: Files, S: Site, K: Sink, E: Stream>(
     alloc: Global,
     words: &[Word],
@@ -91,6 +72,8 @@ pub fn otplogd<F: Files, S: Site, K: Sink, E: Stream>(
     ensures causes { StatusHasCause words.now result.status plain_settings result.journal.items result.posts.items S.Post.scene S.Post.accept_faults (Rose (S.listen_faults site.old) (S.listen_faults site.new)) (Rose (K.faults log) (K.faults result.log)) }
     // The mode `otp` prints the password that its words, files and input spell, or says why not.
     ensures password { PasswordMode words.now result.status result.detail (F.contents files.new) (E.link ends.old) (E.link ends.new) (Rose (F.read_faults files.old) (F.read_faults files.new)) (Rose (E.faults ends.old) (E.faults ends.new)) }
+    // The mode `check` says what its files hold of a setup, or why it says nothing.
+    ensures check { CheckMode words.now result.status result.detail (F.contents files.new) (E.link ends.old) (E.link ends.new) (Rose (F.read_faults files.old) (F.read_faults files.new)) (Rose (E.faults ends.old) (E.faults ends.new)) }
     // What a mode doesn't use it leaves as it was.
     ensures leaves { LeavesRest words.now result.status result.detail files.old files.new site.old site.new ends.old ends.new log result.log result.journal.items result.posts.items }
     ensures files { Goes SameFiles (F.contents files.old) (F.contents files.new) }
@@ -99,11 +82,5 @@ pub fn otplogd<F: Files, S: Site, K: Sink, E: Stream>(
     // Without a fault the run succeeds, or memory is wanted.
     ensures complete { IsComplete words.now result.status S.Post.scene result.journal.items result.posts.items (NoFault (Rose (S.listen_faults site.old) (S.listen_faults site.new)) (Rose (K.faults log) (K.faults result.log)) S.Post.accept_faults S.Post.keeper_faults S.Post.link_faults result.posts.items) }
 {
-    if is_serve(words) {
-        return serve_plain(alloc, site, log);
-    }
-    match read_otp_command(words) {
-        Some(command) => print_password(alloc, &command, files, log, ends),
-        None => unused(alloc, NO_COMMAND, Detail::Nothing, log),
-    }
+    run_command(alloc, words, files, site, log, ends)
 }

@@ -4,7 +4,8 @@ use Rattle.check_mode.specs.declared.fault.CheckFault.{CheckFault}
 use Rattle.check_mode.specs.declared.finding.Finding.{Finding}
 use Rattle.check_mode.specs.Findings.{found_setup}
 use Rattle.check_mode.specs.Outcome.{IsFinding}
-use Rattle.check_mode.proofs.FindingLemmas.{IsFileFault-earlier, SameFiles-then, missing-setup, right-setup, unread-setup}
+use Rattle.file_front.proofs.FrontLemmas.{SameFiles-then}
+use Rattle.check_mode.proofs.FindingLemmas.{IsFileFault-earlier, missing-setup, right-setup, unread-setup}
 use Rattle.check_mode.proofs.run.find.Goals as goal
 
 pub returns-in_default-clause-finding : goal.returns-in_default-clause-finding

@@ -1,7 +1,7 @@
 use Rattle.std.proofs.Common.{ap, refl}
 use Rattle.outside.specs.Told.{Rose}
 use Rattle.policy_model.specs.Settings.{plain_settings}
-use Rattle.monitor_server.proofs.Headline.{run_promises, unlistened, unremembered}
+use Rattle.monitor_server.proofs.Headline.{run_promises, serve_unremembered, unlistened, unused_promises}
 use Rattle.monitor_server.proofs.Logs.{LogMatches-none}
 use Rattle.monitor_server.proofs.run.serve_plain.Goals as goal
 
@@ -17,18 +17,10 @@ returns-in-Ok-listen-clause-promises g c =
 
 pub returns-in_default-clause-promises : goal.returns-in_default-clause-promises
 returns-in_default-clause-promises g c =
-    let post = g.S.Post.Post in
-    let report = c.unused.result in
     let unused = c.unused.ensures.unused in
-    unremembered report.status report.journal.items report.posts.items post.scene post.accept_faults post.link_faults post.keeper_faults
-    (Rose (g.S.Site.listen_faults c.args.site.now) (g.S.Site.listen_faults c.args.site.now)) (Rose (g.K.Sink.faults c.args.log) (g.K.Sink.faults report.log)) (g.K.Sink.held c.args.log) (g.K.Sink.held report.log)
-    c.unused.ensures.status (ap g.K.Sink.held unused.log) unused.events unused.workers
+    unused_promises _ _ _ _ _ _ _ _ _ _ _ _ (serve_unremembered _ _ c.unused.ensures.status) (ap g.K.Sink.held unused.log) unused.events unused.workers
 
 pub returns-in-Err-clause-promises : goal.returns-in-Err-clause-promises
 returns-in-Err-clause-promises g c =
-    let post = g.S.Post.Post in
-    let report = c.unused-in-Err.result in
     let unused = c.unused-in-Err.ensures.unused in
-    unlistened report.status report.journal.items report.posts.items post.scene post.accept_faults post.link_faults post.keeper_faults
-    (Rose (g.S.Site.listen_faults c.args.site.now) (g.S.Site.listen_faults c.listen.new.self)) (Rose (g.K.Sink.faults c.args.log) (g.K.Sink.faults report.log)) (g.K.Sink.held c.args.log) (g.K.Sink.held report.log)
-    c.unused-in-Err.ensures.status c.in-Err.ensures.failed (ap g.K.Sink.held unused.log) unused.events unused.workers
+    unused_promises _ _ _ _ _ _ _ _ _ _ _ _ (unlistened _ _ c.unused-in-Err.ensures.status c.in-Err.ensures.failed) (ap g.K.Sink.held unused.log) unused.events unused.workers

@@ -1,0 +1,189 @@
+-- All that the top call says, for each command and for words that are none.
+use Rattle.std.proofs.Common.{◌≡◌, ◌≢◌, ◌⊎◌, ℕ, List, [], ◌∷◌, Option, Some, None, Result, Ok, Err, refl, sym, ap, subst, ◌∙◌, inl, inr}
+use Rattle.std.specs.Prelude.{option_and_then}
+use Rattle.outside.specs.Files.{Contents}
+use Rattle.outside.specs.Link.{Link}
+use Rattle.outside.specs.Scene.{Scene}
+use Rattle.policy_model.specs.declared.event.Event.{Event}
+use Rattle.command_line.specs.Words.{plain_words}
+use Rattle.otp_mode.specs.declared.fault.OtpFault.{OtpFault}
+use Rattle.otp_mode.specs.declared.fault.OtpFault.TheVariants as otp_faults
+use Rattle.otp_mode.specs.Faults as passwords
+use Rattle.otp_mode.specs.Words.{OtpParts, otp_command}
+use Rattle.check_mode.specs.declared.fault.CheckFault.{CheckFault}
+use Rattle.check_mode.specs.declared.fault.CheckFault.TheVariants as check_faults
+use Rattle.check_mode.specs.declared.finding.Finding.{Finding}
+use Rattle.check_mode.specs.declared.finding.Finding.TheVariants as findings
+use Rattle.check_mode.specs.Outcome as checks
+use Rattle.check_mode.specs.Words.{check_command}
+use Rattle.monitor_server.specs.declared.report.Detail.{Detail}
+use Rattle.monitor_server.specs.declared.report.Detail.TheVariants.{Nothing}
+use Rattle.monitor_server.specs.Commands.{IsCommand, asks_check, asks_otp, serve_words}
+use Rattle.monitor_server.specs.Headline.{IsUnused}
+use Rattle.monitor_server.specs.Modes.{CheckRan, LeavesRest, PasswordRan, checked_detail, detail_of}
+use Rattle.monitor_server.specs.Ran.{Promises, Whole}
+use Rattle.monitor_server.proofs.Headline.{IsModeStatus, Unserved, moded, unused_promises}
+
+-- ---- the words of one command are those of no other
+
+none-some : {A B : Type 0} (o : Option A) (a : A) → o ≡ None → o ≡ Some a → B
+none-some o a none some = absurd (let e : None ≡ Some a = sym none ∙ some in cc)
+
+serve_no_password : (words : List (List ℕ)) → words ≡ serve_words → asks_otp words ≡ None
+serve_no_password words serve = ap asks_otp serve
+
+serve_no_check : (words : List (List ℕ)) → words ≡ serve_words → asks_check words ≡ None
+serve_no_check words serve = ap asks_check serve
+
+password_no_serve : (words : List (List ℕ)) (parts : OtpParts) → asks_otp words ≡ Some parts → words ≢ serve_words
+password_no_serve words parts asked serve = none-some (asks_otp words) parts (serve_no_password words serve) asked
+
+check_no_serve : (words : List (List ℕ)) (setup : List ℕ) → asks_check words ≡ Some setup → words ≢ serve_words
+check_no_serve words setup asked serve = none-some (asks_check words) setup (serve_no_check words serve) asked
+
+-- a command has words
+spoken : {A : Type 0} (read : List (List ℕ) → Option A) (words : List (List ℕ)) (a : A) → option_and_then read (plain_words words) ≡ Some a → plain_words words ≢ None
+spoken read words a asked none = none-some (option_and_then read (plain_words words)) a (ap (option_and_then read) none) asked
+
+-- the words of `check` are two, those of `otp` four or five
+check_no_otp : (words : List (List ℕ)) (setup : List ℕ) → check_command words ≡ Some setup → otp_command words ≡ None
+check_no_otp [] setup asked = refl
+check_no_otp (mode ∷ []) setup asked = refl
+check_no_otp (mode ∷ name ∷ []) setup asked = refl
+check_no_otp (mode ∷ name ∷ more ∷ rest) setup asked = none-some (check_command (mode ∷ name ∷ more ∷ rest)) setup refl asked
+
+check_no_password : (words : List (List ℕ)) (setup : List ℕ) → asks_check words ≡ Some setup → asks_otp words ≡ None
+check_no_password words setup = go (plain_words words) where
+  go : (o : Option (List (List ℕ))) → option_and_then check_command o ≡ Some setup → option_and_then otp_command o ≡ None
+  go None asked = refl
+  go (Some plain) asked = check_no_otp plain setup asked
+
+-- ---- the statuses and details of the modes
+
+password_status : (outcome : Result (Unit {0}) OtpFault) → IsModeStatus (passwords.status_of outcome)
+password_status (Ok done) = refl
+password_status (Err otp_faults.ReadFailed) = refl
+password_status (Err otp_faults.ListMissing) = refl
+password_status (Err (otp_faults.ListRefused fault)) = refl
+password_status (Err otp_faults.OutOfMemory) = refl
+password_status (Err otp_faults.EndsFailed) = refl
+password_status (Err otp_faults.PhraseRefused) = refl
+
+check_status : (outcome : Result Finding CheckFault) → IsModeStatus (checks.status_of outcome)
+check_status (Ok (findings.Right accounts workers)) = refl
+check_status (Ok findings.SetupMissing) = refl
+check_status (Ok (findings.SetupRefused fault)) = refl
+check_status (Ok findings.WordsMissing) = refl
+check_status (Ok (findings.WordsRefused fault)) = refl
+check_status (Err check_faults.ReadFailed) = refl
+check_status (Err check_faults.OutOfMemory) = refl
+check_status (Err check_faults.EndsFailed) = refl
+
+password_detail : (outcome : Result (Unit {0}) OtpFault) → passwords.status_of outcome ≢ 4 → passwords.status_of outcome ≢ 5 → detail_of outcome ≡ Nothing
+password_detail (Ok done) four five = refl
+password_detail (Err otp_faults.ReadFailed) four five = refl
+password_detail (Err otp_faults.ListMissing) four five = absurd (four refl)
+password_detail (Err (otp_faults.ListRefused fault)) four five = absurd (five refl)
+password_detail (Err otp_faults.OutOfMemory) four five = refl
+password_detail (Err otp_faults.EndsFailed) four five = refl
+password_detail (Err otp_faults.PhraseRefused) four five = refl
+
+check_detail : (outcome : Result Finding CheckFault) → checks.status_of outcome ≢ 4 → checks.status_of outcome ≢ 5 → checked_detail outcome ≡ Nothing
+check_detail (Ok (findings.Right accounts workers)) four five = refl
+check_detail (Ok findings.SetupMissing) four five = absurd (four refl)
+check_detail (Ok (findings.SetupRefused fault)) four five = absurd (five refl)
+check_detail (Ok findings.WordsMissing) four five = absurd (four refl)
+check_detail (Ok (findings.WordsRefused fault)) four five = absurd (five refl)
+check_detail (Err fault) four five = refl
+
+-- a detail that the outcome of a mode tells
+detail-by : {A : Type 0} (status_of : A → ℕ) (detail_by : A → Detail) (outcome : A) (status : ℕ) (detail : Detail) → status ≡ status_of outcome → detail ≡ detail_by outcome → (status_of outcome ≢ 4 → status_of outcome ≢ 5 → detail_by outcome ≡ Nothing) → status ≢ 4 → status ≢ 5 → detail ≡ Nothing
+detail-by status_of detail_by outcome status detail is told plain four five = told ∙ plain (λ e. four (is ∙ e)) (λ e. five (is ∙ e))
+
+-- ---- all that is said of each command
+
+-- where nobody was served, and a mode ran
+moded-leaves : {F S E K P : Type 0} {words : List (List ℕ)} {status : ℕ} {detail : Detail} {journal : List Event} {posts : List P} {files_old files_new : F} {site_old site_new : S} {ends_old ends_new : E} {log_old log_new : K} → words ≢ serve_words → (asks_otp words ≡ None → asks_check words ≡ None → ⊥) → site_new ≡ site_old → IsUnused log_old log_new journal posts → ((status ≡ 3) ⊎ (status ≡ 9) → ends_new ≡ ends_old) → (status ≢ 4 → status ≢ 5 → detail ≡ Nothing) → LeavesRest words status detail files_old files_new site_old site_new ends_old ends_new log_old log_new journal posts
+moded-leaves unserved asked site unused silent plain = record {
+  files = λ otp check. absurd (asked otp check);
+  ends = λ otp check. absurd (asked otp check);
+  site = λ _. site;
+  unserved = λ _. unused;
+  unbegun = λ _. unused;
+  unremembered = λ _. unused;
+  silent = silent;
+  plain = plain;
+}
+
+module _ {F S E K P : Type 0} {words : List (List ℕ)} {status : ℕ} {detail : Detail} {journal : List Event} {posts : List P} {scene : P → Option Scene} {accept_faults link_faults keeper_faults : P → ℕ} {files_old files_new : F} {site_old site_new : S} {ends_old ends_new : E} {log_old log_new : K} {contents : Option Contents} {before after : Option Link} {held_old held_new : Option (List ℕ)} {ListenRose LogRose ReadFailed EndsFailed : Type 0} where
+  pub whole-served : words ≡ serve_words → Promises serve_words status journal posts scene accept_faults link_faults keeper_faults ListenRose LogRose held_old held_new → ((status ≡ 6) ⊎ (status ≡ 9) → IsUnused log_old log_new journal posts) → detail ≡ Nothing → files_new ≡ files_old → ends_new ≡ ends_old
+      → Whole words status detail journal posts scene accept_faults link_faults keeper_faults files_old files_new site_old site_new ends_old ends_new log_old log_new contents before after held_old held_new ListenRose LogRose ReadFailed EndsFailed
+  whole-served serve promises unbegun plain files ends = record {
+    promises = subst (λ ws. Promises ws status journal posts scene accept_faults link_faults keeper_faults ListenRose LogRose held_old held_new) (sym serve) promises;
+    password = record { ran = λ parts asked. absurd (password_no_serve words parts asked serve) };
+    check = record { ran = λ setup asked. absurd (check_no_serve words setup asked serve) };
+    leaves = record {
+      files = λ _ _. files;
+      ends = λ _ _. ends;
+      site = λ ne. absurd (ne serve);
+      unserved = λ ne. absurd (ne serve);
+      unbegun = λ six. unbegun (inl six);
+      unremembered = λ nine. unbegun (inr nine);
+      silent = λ _. ends;
+      plain = λ _ _. plain;
+    };
+  }
+
+  pub whole-password : (parts : OtpParts) → asks_otp words ≡ Some parts → PasswordRan parts status detail contents before after ReadFailed EndsFailed → IsUnused log_old log_new journal posts → ((status ≡ 3) ⊎ (status ≡ 9) → ends_new ≡ ends_old) → held_new ≡ held_old → site_new ≡ site_old
+      → Whole words status detail journal posts scene accept_faults link_faults keeper_faults files_old files_new site_old site_new ends_old ends_new log_old log_new contents before after held_old held_new ListenRose LogRose ReadFailed EndsFailed
+  whole-password parts asked ran unused silent held site =
+      let status_is = sym ran.status_is in
+      let of : IsModeStatus status = subst IsModeStatus status_is (password_status ran.outcome) in
+      record {
+        promises = unused_promises words status journal posts scene accept_faults link_faults keeper_faults ListenRose LogRose held_old held_new (moded words status ListenRose (inr (inl (parts, asked))) (password_no_serve words parts asked) (spoken otp_command words parts asked) of) held unused.events unused.workers;
+        password = record {
+          ran = λ other is.
+              let same : parts ≡ other = (let e : Some parts ≡ Some other = sym asked ∙ is in cc) in
+              inr (subst (λ p. PasswordRan p status detail contents before after ReadFailed EndsFailed) same ran);
+        };
+        check = record { ran = λ setup is. none-some (asks_otp words) parts (check_no_password words setup is) asked };
+        leaves = moded-leaves (password_no_serve words parts asked) (λ none _. none-some (asks_otp words) parts none asked) site unused silent (detail-by passwords.status_of detail_of ran.outcome status detail ran.status_is ran.detail_is (password_detail ran.outcome));
+      }
+
+  pub whole-checked : (setup : List ℕ) → asks_check words ≡ Some setup → CheckRan setup status detail contents before after ReadFailed EndsFailed → IsUnused log_old log_new journal posts → ((status ≡ 3) ⊎ (status ≡ 9) → ends_new ≡ ends_old) → held_new ≡ held_old → site_new ≡ site_old
+      → Whole words status detail journal posts scene accept_faults link_faults keeper_faults files_old files_new site_old site_new ends_old ends_new log_old log_new contents before after held_old held_new ListenRose LogRose ReadFailed EndsFailed
+  whole-checked setup asked ran unused silent held site =
+      let status_is = sym ran.status_is in
+      let of : IsModeStatus status = subst IsModeStatus status_is (check_status ran.outcome) in
+      record {
+        promises = unused_promises words status journal posts scene accept_faults link_faults keeper_faults ListenRose LogRose held_old held_new (moded words status ListenRose (inr (inr (setup, asked))) (check_no_serve words setup asked) (spoken check_command words setup asked) of) held unused.events unused.workers;
+        password = record { ran = λ parts is. none-some (asks_otp words) parts (check_no_password words setup asked) is };
+        check = record {
+          ran = λ other is.
+              let same : setup ≡ other = (let e : Some setup ≡ Some other = sym asked ∙ is in cc) in
+              inr (subst (λ p. CheckRan p status detail contents before after ReadFailed EndsFailed) same ran);
+        };
+        leaves = moded-leaves (check_no_serve words setup asked) (λ _ none. none-some (asks_check words) setup none asked) site unused silent (detail-by checks.status_of checked_detail ran.outcome status detail ran.status_is ran.detail_is (check_detail ran.outcome));
+      }
+
+  -- nothing was done
+  pub whole-nothing : Unserved words status ListenRose → (status ≡ 9) ⊎ (IsCommand words → ⊥) → detail ≡ Nothing → IsUnused log_old log_new journal posts → held_new ≡ held_old → files_new ≡ files_old → site_new ≡ site_old → ends_new ≡ ends_old
+      → Whole words status detail journal posts scene accept_faults link_faults keeper_faults files_old files_new site_old site_new ends_old ends_new log_old log_new contents before after held_old held_new ListenRose LogRose ReadFailed EndsFailed
+  whole-nothing known why plain unused held files site ends = record {
+    promises = unused_promises words status journal posts scene accept_faults link_faults keeper_faults ListenRose LogRose held_old held_new known held unused.events unused.workers;
+    password = record { ran = λ parts asked. ran why (inr (inl (parts, asked))) };
+    check = record { ran = λ setup asked. ran why (inr (inr (setup, asked))) };
+    leaves = record {
+      files = λ _ _. files;
+      ends = λ _ _. ends;
+      site = λ _. site;
+      unserved = λ _. unused;
+      unbegun = λ _. unused;
+      unremembered = λ _. unused;
+      silent = λ _. ends;
+      plain = λ _ _. plain;
+    };
+  } where
+    ran : {A : Type 0} → (status ≡ 9) ⊎ (IsCommand words → ⊥) → IsCommand words → (status ≡ 9) ⊎ A
+    ran (inl nine) command = inl nine
+    ran (inr none) command = absurd (none command)

@@ -1,0 +1,40 @@
+use Rattle.std.proofs.Common.{Err, Ok, ap, inl, inr, refl, subst}
+use Rattle.outside.specs.Files.{SameFiles}
+use Rattle.outside.proofs.Told.{Goes-same}
+use Rattle.otp_mode.specs.Command.{command_parts}
+use Rattle.monitor_server.specs.Commands.{IsReading}
+use Rattle.monitor_server.proofs.Headline.{uncommanded, unremembered}
+use Rattle.monitor_server.proofs.Whole.{whole-checked, whole-nothing, whole-password, whole-served}
+use Rattle.monitor_server.proofs.top.run_command.Goals as goal
+
+pub returns-in-Ok-Password-clause-whole : goal.returns-in-Ok-Password-clause-whole
+returns-in-Ok-Password-clause-whole g c =
+    let unused = c.print_password.ensures.unused in
+    whole-password (command_parts c.in-Ok-Password.command) (subst (λ command. IsReading c.args.words.now (Ok command)) c.in-Ok-Password.field-0-is c.in-Ok-Password.ensures) c.print_password.ensures.password unused c.print_password.ensures.silent (ap g.K.Sink.held unused.log) refl
+
+pub returns-in-Err-NoCommand-clause-whole : goal.returns-in-Err-NoCommand-clause-whole
+returns-in-Err-NoCommand-clause-whole g c =
+    let unused = c.unused.ensures.unused in
+    let none = subst (λ unread. IsReading c.args.words.now (Err unread)) c.in-Err-NoCommand.field-0-is c.in-Err-NoCommand.ensures in
+    whole-nothing (uncommanded _ _ _ none c.unused.ensures.status) (inr none) c.unused.ensures.detail unused (ap g.K.Sink.held unused.log) refl refl refl
+
+pub returns-in-Err-NoCommand-clause-files : goal.returns-in-Err-NoCommand-clause-files
+returns-in-Err-NoCommand-clause-files g c =
+    Goes-same SameFiles (λ files. record { same = λ name. refl }) (g.F.Files.contents c.args.files.now)
+
+pub returns-in-Ok-Check-clause-whole : goal.returns-in-Ok-Check-clause-whole
+returns-in-Ok-Check-clause-whole g c =
+    let unused = c.check_setup.ensures.unused in
+    whole-checked c.in-Ok-Check.setup.now (subst (λ command. IsReading c.args.words.now (Ok command)) c.in-Ok-Check.field-0-is c.in-Ok-Check.ensures) c.check_setup.ensures.check unused c.check_setup.ensures.silent (ap g.K.Sink.held unused.log) refl
+
+pub returns-in-Ok-Serve-clause-whole : goal.returns-in-Ok-Serve-clause-whole
+returns-in-Ok-Serve-clause-whole g c =
+    let serve = subst (λ command. IsReading c.args.words.now (Ok command)) c.in-Ok-Serve.field-0-is c.in-Ok-Serve.ensures in
+    whole-served serve c.serve_plain.ensures.promises c.serve_plain.ensures.unbegun c.serve_plain.ensures.detail refl refl
+
+pub returns-in-Err-OutOfMemory-clause-whole : goal.returns-in-Err-OutOfMemory-clause-whole
+returns-in-Err-OutOfMemory-clause-whole g c =
+    let unused = c.unused-in-Err-OutOfMemory.ensures.unused in
+    let spoken = subst (λ unread. IsReading c.args.words.now (Err unread)) c.in-Err-OutOfMemory.field-0-is c.in-Err-OutOfMemory.ensures in
+    let nine = c.unused-in-Err-OutOfMemory.ensures.status in
+    whole-nothing (unremembered _ _ _ spoken nine) (inl nine) c.unused-in-Err-OutOfMemory.ensures.detail unused (ap g.K.Sink.held unused.log) refl refl refl

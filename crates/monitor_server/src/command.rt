@@ -1,0 +1,73 @@
+//! What the words of a command line ask for.
+
+ghost use Rattle.std.specs.Prelude.{◌≡◌, ◌≢◌, ◌∷◌, false, map, true};
+ghost use Rattle.monitor_server.specs.declared.command.Unread.TheVariants.{OutOfMemory};
+ghost use Rattle.monitor_server.specs.Commands.{IsMeant, IsReading, serve_words};
+
+use check_mode::read_check_command;
+use command_line::read_command_line;
+use otp_mode::{OtpCommand, read_otp_command};
+use outside::Word;
+use std::alloc::{AllocError, Global};
+
+/// What the words of a command line ask for.
+#[derive(Clone, Copy)]
+pub enum Command<'a> {
+    /// To serve the connections of the plain setup.
+    Serve,
+    /// To print a one-time password.
+    Password(OtpCommand<'a>),
+    /// To check the setup in the file of this name.
+    Check(&'a str),
+}
+
+/// Why words were not read as a command.
+#[derive(Clone, Copy, PartialEq, Eq, Debug)]
+pub enum Unread {
+    /// They are no command.
+    NoCommand,
+    /// No memory was found for them.
+    OutOfMemory,
+}
+
+impl From<AllocError> for Unread {
+    ghost from_gives = { λ _ unread. unread ≡ OutOfMemory };
+
+    fn from(_: AllocError) -> Self {
+        Unread::OutOfMemory
+    }
+}
+
+/// Reads the words of a command line, without the program's name.
+pub fn read_command<'a>(alloc: Global, words: &'a [Word]) -> Result<Command<'a>, Unread>
+    ensures { IsReading words.now result }
+{
+    let Some(line) = read_command_line(alloc, words)? else {
+        return Err(Unread::NoCommand);
+    };
+    command_of(line.mode, line.further.as_slice()).ok_or(Unread::NoCommand)
+}
+
+/// The command of a mode's word and the words behind it.
+fn command_of<'a>(mode: &str, further: &[&'a str]) -> Option<Command<'a>>
+    ensures { IsMeant (mode.now ∷ map (λ word. word.now) further.now) result }
+{
+    if is_serve(mode, further) {
+        return Some(Command::Serve);
+    }
+    if let Some(command) = read_otp_command(mode, further) {
+        return Some(Command::Password(command));
+    }
+    match read_check_command(mode, further) {
+        Some(setup) => Some(Command::Check(setup)),
+        None => None,
+    }
+}
+
+/// Whether the words are the one word `serve`.
+fn is_serve(mode: &str, further: &[&str]) -> bool
+    ensures yes { result ≡ true → mode.now ∷ map (λ word. word.now) further.now ≡ serve_words }
+    ensures no { result ≡ false → mode.now ∷ map (λ word. word.now) further.now ≢ serve_words }
+{
+    mode == "serve" && further.is_empty()
+}
