@@ -10,6 +10,7 @@ mod reading;
 mod replies;
 mod request;
 mod texts;
+mod width;
 mod writing;
 
 pub use answer::{Answer, Unreadable};
@@ -19,6 +20,7 @@ pub use reading::read_request;
 pub use replies::{read_reply, reply_kind, write_reply};
 pub use request::{Bad, Request};
 pub use texts::{Label, Name, Note};
+pub use width::Width;
 pub use writing::write_request;
 
 #[cfg(test)]
