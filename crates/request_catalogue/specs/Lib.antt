@@ -5,3 +5,4 @@ pub mod Catalogue
 pub mod Fields
 pub mod Reading
 pub mod Replies
+pub mod Rules

@@ -7,7 +7,7 @@ ghost use Rattle.request_catalogue.specs.Replies.{AnswerValue, reply_kind_of, an
 
 use crate::answer::{Answer, Unreadable};
 use crate::fields::number_of;
-use crate::put::{BODY_MAX, put};
+use crate::putting::{BODY_MAX, put};
 
 /// What a reply's kind is above its request's, and the kind of a reply to no request.
 const REPLY: u32 = 256;

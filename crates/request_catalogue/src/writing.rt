@@ -5,7 +5,7 @@ ghost use Rattle.request_catalogue.specs.Kinds.{kind_number};
 ghost use Rattle.request_catalogue.specs.Catalogue.{value_of, kind_of, IsInRange, payload_of};
 ghost use Rattle.request_catalogue.specs.Reading.{request_of};
 
-use crate::put::{BODY_MAX, put};
+use crate::putting::{BODY_MAX, put};
 use crate::request::Request;
 
 /// Writes the payload of a request to the front of `out`, and gives its length. A message of this
