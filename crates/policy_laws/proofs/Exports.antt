@@ -6,6 +6,7 @@ use Rattle.std.proofs.Math.ListN.{get_or-append}
 use Rattle.std.proofs.Math.Seq.{get_or-append_seam, take-append_seam, take-suc}
 use Rattle.std.proofs.lemmas.Bool.{eqb-true}
 use Rattle.std.proofs.lemmas.Bool.Decides.{nat_tests}
+use Rattle.std.proofs.lemmas.Option.{get_or_from_slice_get, slice_get_within}
 use Rattle.std.proofs.lemmas.List.{get_or-take, length-append, length-take-le, take-append-le, take-take, take_all}
 use Rattle.std.proofs.lemmas.List.Folds.{list_any-append}
 use Rattle.request_catalogue.specs.declared.kind.Kind.TheVariants as kinds
@@ -14,26 +15,27 @@ use Rattle.policy_model.specs.declared.event.Event.{Event}
 use Rattle.policy_model.specs.declared.phase.Phase.{Phase}
 use Rattle.policy_model.specs.declared.phase.Phase.TheVariants.{Pre, Challenged, Verified, User, Over}
 use Rattle.policy_model.specs.Asks.{accepts, exports, is_login_step, value_of}
-use Rattle.policy_model.specs.Consequences.{VerifiedBeforeExport}
+use Rattle.policy_laws.specs.Consequences.{VerifiedBeforeExport}
 use Rattle.policy_model.specs.Journal.{has_event, is_own, last_event}
-use Rattle.policy_model.specs.Legal.{IsLegal}
+use Rattle.policy_model.specs.Legal.{IsLegal, IsNextBy}
 use Rattle.policy_model.specs.Logins.{challenged_user, current_password, verified_user, was_accepted}
 use Rattle.policy_model.specs.Phases.{is_over, is_taking, phase_of, table_row}
 use Rattle.policy_model.specs.Settings.{Settings, same_name}
 use Rattle.policy_model.specs.Verdict.{number_named}
+use Rattle.policy_model.proofs.Lists.{stands_at}
 use Rattle.policy_model.proofs.LoginLemmas.{verified_user-push}
-use Rattle.policy_model.proofs.Permits.{accepted_reply, and_true, permitted_export}
-use Rattle.policy_model.proofs.Replies.{some_event}
+use Rattle.policy_laws.proofs.Permits.{accepted_reply, and_true, permitted_export}
+use Rattle.policy_laws.proofs.Replies.{some_event}
 
 -- the table permits EXPORT to a session that is verified, and to no other
-export_phase : (phase : Phase) → (table_row phase kinds.Export).permitted ≡ true → phase ≡ Verified
+pub export_phase : (phase : Phase) → (table_row phase kinds.Export).permitted ≡ true → phase ≡ Verified
 export_phase Pre h = absurd cc
 export_phase Challenged h = absurd cc
 export_phase Verified h = refl
 export_phase User h = absurd cc
 export_phase Over h = absurd cc
 
-verified_accepts : (journal : List Event) (session : ℕ) → phase_of journal session ≡ Verified → has_event journal session accepts ≡ true
+pub verified_accepts : (journal : List Event) (session : ℕ) → phase_of journal session ≡ Verified → has_event journal session accepts ≡ true
 unfolding phase_of
 verified_accepts journal session h = go (is_over journal session) (has_event journal session exports) (has_event journal session accepts) (is_taking (last_event journal session is_login_step)) h where
   go : (over exported accepted taking : Bool) → cond over Over (cond exported User (cond accepted Verified (cond taking Challenged Pre))) ≡ Verified → accepted ≡ true
@@ -110,11 +112,13 @@ found_position p xs x h =
 -- before a permitted EXPORT stands a permitted REPLY for its account
 pub verified_before_export : (setup : Settings) (journal : List Event) → IsLegal setup journal → VerifiedBeforeExport setup journal
 verified_before_export setup journal legal = record {
-  verified = λ k d kn exported.
-      let e = get_or journal k d in
+  verified = λ k e stands exported.
+      let d = e in
+      let kn = slice_get_within journal k e stands in
+      let here : get_or journal k d ≡ e = get_or_from_slice_get journal k e d stands in
       let front = take k journal in
       let size : length front ≡ k = length-take-le k journal (omega arith) in
-      let x = permitted_export setup front e (legal k d kn) exported in
+      let x = permitted_export setup front e (subst (IsNextBy table_row setup front) here (legal k d kn)) exported in
       let v = verified_at front e.session d (verified_accepts front e.session (export_phase (phase_of front e.session) x.0)) in
       let m = v.place in
       let before : m < k = omega (arith, size, v.within) in
@@ -131,6 +135,8 @@ verified_before_export setup journal legal = record {
       let next = and_true (hash_of a.2.account.algo (value_of (get_or journal m d).decision) == current_password (take m journal) a.2.account) (not (was_accepted (take m journal) a.2.account (value_of (get_or journal m d).decision))) a.2.next in
       record {
         place = m;
+        reply = get_or journal m d;
+        stands = stands_at journal m d (omega (arith, before, kn));
         user = a.0;
         account = a.2.account;
         before = before;

@@ -15,13 +15,14 @@ use Rattle.policy_model.specs.declared.event.Event.{Event}
 use Rattle.policy_model.specs.declared.phase.Phase.{Phase}
 use Rattle.policy_model.specs.declared.phase.Row.{Row}
 use Rattle.policy_model.specs.Asks.{accepts, value_of}
-use Rattle.policy_model.specs.Consequences.{NoPasswordTwice}
+use Rattle.policy_laws.specs.Consequences.{NoPasswordTwice}
 use Rattle.policy_model.specs.Legal.{IsLegalBy, IsNextBy}
 use Rattle.policy_model.specs.Logins.{account_of, accepted_of, challenged_user, is_user, replies_of, reply_for, was_accepted}
 use Rattle.policy_model.specs.Settings.{Settings, are_distinct, same_name}
 use Rattle.policy_model.specs.Verdict.{is_next_password}
+use Rattle.policy_model.proofs.Legal.{IsLegal-none, IsLegal-push}
 use Rattle.policy_model.proofs.LoginLemmas.{replies_of-none, replies_of-push}
-use Rattle.policy_model.proofs.Permits.{Accepted, accepted_reply, and_true, find_passes, same_from_same_name}
+use Rattle.policy_laws.proofs.Permits.{Accepted, accepted_reply, and_true, find_passes, same_from_same_name}
 
 -- any event
 pub some_event : Event
@@ -35,6 +36,10 @@ by_events {table} setup P none more journal legal = subst P (take_all (length jo
   go (suc k) le =
       let lt : k < length journal = omega arith in
       subst P (sym (take-suc journal k some_event lt)) (more (take k journal) (get_or journal k some_event) (legal k some_event lt) (go k (omega arith)))
+
+-- the same, where the front is known to be legal
+pub by_legal_events : {table : Phase → Kind → Row} (setup : Settings) (P : List Event → Type 0) → P [] → ((journal : List Event) (e : Event) → IsLegalBy table setup journal → IsNextBy table setup journal e → P journal → P (journal ++ e ∷ [])) → (journal : List Event) → IsLegalBy table setup journal → P journal
+by_legal_events {table} setup P none more journal legal = (by_events setup (λ j. IsLegalBy table setup j × P j) (IsLegal-none setup, none) (λ j e next h. (IsLegal-push setup j e h.0 next, more j e h.0 next h.1)) journal legal).1
 
 -- the account that is found by a name has that name
 pub found_name : (setup : Settings) (user : Name) (account : Account) → account_of setup user ≡ Some account → account.name ≡ user

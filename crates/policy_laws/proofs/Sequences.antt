@@ -1,9 +1,11 @@
 -- How a user's sequence falls, and who takes a user, in a legal journal.
 use Rattle.std.proofs.Common.{◌≡◌, ℕ, zero, suc, ◌+◌, ◌-◌, ◌≤◌, ◌<◌, Bool, true, false, not, ◌&&◌, ◌||◌, ◌⊎◌, inl, inr, cond, eqb, List, [], ◌∷◌, ◌++◌, length, filter, get_or, take, Option, Some, None, is_some, refl, sym, ap, subst, ◌∙◌, arith}
+use Rattle.std.specs.Prelude.{nat_lt, slice_get}
 use Rattle.std.specs.List.{last_or}
 use Rattle.std.specs.Option.{option_to_list}
 use Rattle.std.proofs.lemmas.Bool.{cases_lt, eqb-true, false≢true}
 use Rattle.std.proofs.lemmas.Bool.Decides.{nat_tests}
+use Rattle.std.proofs.lemmas.Option.{get_or_from_slice_get, slice_get_within}
 use Rattle.std.proofs.lemmas.List.{get_or-take, length-take-le, take-take, take_all, take_more}
 use Rattle.request_catalogue.specs.declared.kind.Kind.{Kind}
 use Rattle.request_catalogue.specs.declared.texts.Name.{Name}
@@ -13,17 +15,18 @@ use Rattle.policy_model.specs.declared.event.Ask.TheVariants as asks
 use Rattle.policy_model.specs.declared.event.Event.{Event}
 use Rattle.policy_model.specs.declared.phase.Phase.{Phase}
 use Rattle.policy_model.specs.declared.phase.Row.{Row}
-use Rattle.policy_model.specs.Asks.{accepts, gives_up, is_challenge_for, is_reply, is_abandon, is_permit, takes_user, value_of}
-use Rattle.policy_model.specs.Consequences.{OneTakerAtATime, SequenceFalls, place_at}
-use Rattle.policy_model.specs.Journal.{is_own}
+use Rattle.policy_model.specs.Asks.{accepts, decoys_from, gives_up, is_challenge_for, is_reply, is_abandon, is_permit, reserves, takes_user, value_of}
+use Rattle.policy_laws.specs.Consequences.{OneTakerAtATime, SequenceFalls}
+use Rattle.policy_model.specs.Journal.{Place, is_own}
 use Rattle.policy_model.specs.Legal.{IsLegalBy, IsNextBy}
-use Rattle.policy_model.specs.Logins.{account_of, current_sequence, holder_by, holder_of, is_user, challenged_user, last_taking_of, replies_of, reply_for, session_taking, was_given_up}
+use Rattle.policy_model.specs.Logins.{account_of, current_sequence, holder_by, holder_of, is_live, is_user, challenged_user, last_taking_of, replies_of, reply_for, session_taking, was_given_up}
 use Rattle.policy_model.specs.Phases.{is_over}
 use Rattle.policy_model.specs.Settings.{Settings}
 use Rattle.policy_model.specs.Verdict.{is_holder}
 use Rattle.policy_model.proofs.LoginLemmas.{count_replies-push, last_taking_of-last, last_taking_of-none, last_taking_of-push, replies_of-none, was_given_up-push}
-use Rattle.policy_model.proofs.Permits.{and_true, taken_challenge}
-use Rattle.policy_model.proofs.Replies.{by_events, found_name, neither, new_reply, same_some, some_event}
+use Rattle.policy_model.proofs.Lists.{stands_at}
+use Rattle.policy_laws.proofs.Permits.{and_true, live_challenge, taken_challenge}
+use Rattle.policy_laws.proofs.Replies.{by_events, found_name, neither, new_reply, same_some, some_event}
 
 -- the holder of a user took it last, and didn't give it up
 pub record Holds (journal : List Event) (session : ℕ) (user : Name) : Type 0 where
@@ -68,8 +71,8 @@ no_taking : (user : Name) (ask : Ask) → is_reply ask ≡ true → is_challenge
 no_taking user (asks.Reply words hex) h = refl
 no_taking user _ h = absurd cc
 
-reply_takes_none : (e : Event) (user : Name) → accepts e ≡ true → takes_user user e ≡ false
-reply_takes_none e user h = ap (λ b. b && is_permit e.decision) (no_taking user e.ask (and_true (is_reply e.ask) (is_permit e.decision) h).0)
+reply_takes_none : (e : Event) (user : Name) → accepts e ≡ true → reserves user e ≡ false
+reply_takes_none e user h = ap (λ b. (b && is_permit e.decision) && nat_lt (value_of e.decision) decoys_from) (no_taking user e.ask (and_true (is_reply e.ask) (is_permit e.decision) h).0)
 
 not_zero : (a b : ℕ) → eqb (a - b) 0 ≡ false → b < a
 not_zero a b h = grind (arith, nat_tests)
@@ -88,21 +91,21 @@ sequences {table} setup journal legal = by_events setup Left none more journal l
       }
 
   more : (j : List Event) (e : Event) → IsNextBy table setup j e → Left j → Left (j ++ e ∷ [])
-  more j e next before user account found = go (reply_for user (record { before = j; event = e })) refl (takes_user user e) refl where
+  more j e next before user account found = go (reply_for user (record { before = j; event = e })) refl (reserves user e) refl where
     old : HasLeft setup j user account
     old = before user account found
 
     count : length (replies_of (j ++ e ∷ []) user) ≡ length (replies_of j user) + length (option_to_list (reply_for user (record { before = j; event = e })))
     count = count_replies-push user j e
 
-    go : (o : Option ℕ) → reply_for user (record { before = j; event = e }) ≡ o → (b : Bool) → takes_user user e ≡ b → HasLeft setup (j ++ e ∷ []) user account
+    go : (o : Option ℕ) → reply_for user (record { before = j; event = e }) ≡ o → (b : Bool) → reserves user e ≡ b → HasLeft setup (j ++ e ∷ []) user account
     go (Some password) is b taken =
         let a = new_reply setup j e user password next is in
         let h = holder_holds j e.session user a.holds in
         let left : length (replies_of j user) < account.sequence = old.left h.taking h.last h.kept in
         let one : length (option_to_list (reply_for user (record { before = j; event = e }))) ≡ 1 = ap (λ o. length (option_to_list o)) is in
         let gives : is_own (session_taking (last_taking_of j user)) gives_up e ≡ true = ap (λ o. is_own (session_taking o) gives_up e) h.last ∙ rw (h.own, eqb_same e.session) (reply_gives_up e (reply_accepts j e user password is)) in
-        let given : takes_user user e ≡ false → was_given_up (j ++ e ∷ []) user ≡ true = λ other. was_given_up-push user j e ∙ rw (other, h.kept, gives) refl in
+        let given : reserves user e ≡ false → was_given_up (j ++ e ∷ []) user ≡ true = λ other. was_given_up-push user j e ∙ rw (other, h.kept, gives) refl in
         record {
           left = λ taking last kept. absurd (false≢true (sym kept ∙ given (reply_takes_none e user (reply_accepts j e user password is))));
           few = omega (arith, count, one, left);
@@ -156,7 +159,7 @@ one_reply None h = absurd cc
 one_reply (Some x) h = refl
 
 -- what a permitted CHALLENGE at a place names
-taken_number : {table : Phase → Kind → Row} (setup : Settings) (journal : List Event) → IsLegalBy table setup journal → (user : Name) (account : Account) (i : ℕ) (d : Event) → i < length journal → account_of setup user ≡ Some account → takes_user user (get_or journal i d) ≡ true → (length (replies_of (take i journal) user) < account.sequence) × (value_of (get_or journal i d).decision ≡ account.sequence - length (replies_of (take i journal) user) - 1)
+taken_number : {table : Phase → Kind → Row} (setup : Settings) (journal : List Event) → IsLegalBy table setup journal → (user : Name) (account : Account) (i : ℕ) (d : Event) → i < length journal → account_of setup user ≡ Some account → reserves user (get_or journal i d) ≡ true → (length (replies_of (take i journal) user) < account.sequence) × (value_of (get_or journal i d).decision ≡ account.sequence - length (replies_of (take i journal) user) - 1)
 taken_number {table} setup journal legal user account i d lt found taken =
     let t = taken_challenge setup (take i journal) (get_or journal i d) user (legal i d lt) taken in
     let same : current_sequence (take i journal) t.account ≡ account.sequence - length (replies_of (take i journal) user) =
@@ -164,20 +167,28 @@ taken_number {table} setup journal legal user account i d lt found taken =
     (not_zero account.sequence (length (replies_of (take i journal) user)) (ap (λ n. eqb n 0) (sym same) ∙ t.some), t.is ∙ ap (λ n. n - 1) same)
 
 -- a user's sequence falls
+falls_at : {table : Phase → Kind → Row} (setup : Settings) (journal : List Event) → IsLegalBy table setup journal → (user : Name) (i k j : ℕ) (d : Event) → i < k → k < j → j < length journal → reserves user (get_or journal i d) ≡ true → is_some (reply_for user (record { before = take k journal; event = get_or journal k d })) ≡ true → reserves user (get_or journal j d) ≡ true → value_of (get_or journal j d).decision < value_of (get_or journal i d).decision
+falls_at {table} setup journal legal user i k j d ik kj jn first reply last =
+    let t = taken_challenge setup (take i journal) (get_or journal i d) user (legal i d (omega arith)) first in
+    let a = taken_number setup journal legal user t.account i d (omega arith) t.found first in
+    let b = taken_number setup journal legal user t.account j d (omega arith) t.found last in
+    let before = replies_of-le user journal i k (omega arith) in
+    let after = replies_of-le user journal (k + 1) j (omega arith) in
+    let one : length (replies_of (take (k + 1) journal) user) ≡ length (replies_of (take k journal) user) + 1 =
+    ap (λ x. length (replies_of x user)) (take_more journal k d (omega arith))
+    ∙ count_replies-push user (take k journal) (get_or journal k d)
+    ∙ ap (λ n. length (replies_of (take k journal) user) + n) (one_reply (reply_for user (record { before = take k journal; event = get_or journal k d })) reply) in
+    omega (arith, a.0, a.1, b.0, b.1, before, after, one)
+
 pub sequence_falls : {table : Phase → Kind → Row} (setup : Settings) (journal : List Event) → IsLegalBy table setup journal → SequenceFalls setup journal
 sequence_falls {table} setup journal legal = record {
   few = λ user account found. (sequences setup journal legal user account found).few;
-  falls = λ user i k j d ik kj jn first reply last.
-      let t = taken_challenge setup (take i journal) (get_or journal i d) user (legal i d (omega arith)) first in
-      let a = taken_number setup journal legal user t.account i d (omega arith) t.found first in
-      let b = taken_number setup journal legal user t.account j d (omega arith) t.found last in
-      let before = replies_of-le user journal i k (omega arith) in
-      let after = replies_of-le user journal (k + 1) j (omega arith) in
-      let one : length (replies_of (take (k + 1) journal) user) ≡ length (replies_of (take k journal) user) + 1 =
-      ap (λ x. length (replies_of x user)) (take_more journal k d (omega arith))
-      ∙ count_replies-push user (take k journal) (get_or journal k d)
-      ∙ ap (λ n. length (replies_of (take k journal) user) + n) (one_reply (reply_for user (place_at journal k d)) reply) in
-      omega (arith, a.0, a.1, b.0, b.1, before, after, one);
+  falls = λ user i k j earlier reply later ik kj a b c.
+      let at : (n : ℕ) (e : Event) → slice_get journal n ≡ Some e → get_or journal n some_event ≡ e = λ n e h. get_or_from_slice_get journal n e some_event h in
+      let falls =
+      falls_at setup journal legal user i k j some_event ik kj (slice_get_within journal j later c.stands) (ap (reserves user) (at i earlier a.stands) ∙ a.reserved)
+      (ap (λ e. is_some (reply_for user (let p : Place = record { before = take k journal; event = e } in p))) (at k reply b.stands) ∙ b.replies) (ap (reserves user) (at j later c.stands) ∙ c.reserved) in
+      subst (λ e. value_of later.decision < value_of e.decision) (at i earlier a.stands) (subst (λ e. value_of e.decision < value_of (get_or journal i some_event).decision) (at j later c.stands) falls);
 }
 
 -- where the last that passes stands, if one passes at a place
@@ -221,11 +232,45 @@ some_is : (o : Option ℕ) → is_some o ≡ true → (x : ℕ) × (o ≡ Some x
 some_is None h = absurd cc
 some_is (Some x) h = (x, refl)
 
+-- the last that passes stands at a place
+last_place : {X : Type 0} (p : X → Bool) (xs : List X) (d x : X) → last_or None (filter p xs) ≡ Some x → LastAt X p None xs 0 d
+last_place {X} p xs d x h = go (last_from p None xs d) where
+  go : ((last_or None (filter p xs) ≡ None) ⊎ LastAt X p None xs 0 d) → LastAt X p None xs 0 d
+  go (inl e) = let none : None ≡ Some x = sym e ∙ h in absurd cc
+  go (inr l) = l
+
+not_zero_from : (a b : ℕ) → b < a → not (eqb (a - b) 0) ≡ true
+not_zero_from a b lt = grind (arith, nat_tests)
+
+below_from : (value : ℕ) → value < decoys_from → nat_lt value decoys_from ≡ true
+below_from value lt = grind (arith, nat_tests)
+
+-- while a session holds a user the user can log in, so each permitted CHALLENGE for the user behind the session's own isn't a decoy
+still_reserves : {table : Phase → Kind → Row} (setup : Settings) (journal : List Event) → IsLegalBy table setup journal → (user : Name) (p m k : ℕ) (d : Event) → p ≤ m → m < k → k < length journal → reserves user (get_or journal p d) ≡ true → ((account : Account) → account_of setup user ≡ Some account → length (replies_of (take k journal) user) < account.sequence) → takes_user user (get_or journal m d) ≡ true → reserves user (get_or journal m d) ≡ true
+still_reserves {table} setup journal legal user p m k d pm mk kn reserved left is =
+    let t = taken_challenge setup (take p journal) (get_or journal p d) user (legal p d (omega arith)) reserved in
+    let a = taken_number setup journal legal user t.account p d (omega arith) t.found reserved in
+    let more = left t.account t.found in
+    let before = replies_of-le user journal p m pm in
+    let after = replies_of-le user journal m k (omega arith) in
+    let name : t.account.name ≡ user = found_name setup user t.account t.found in
+    let number : current_sequence (take m journal) t.account ≡ t.account.sequence - length (replies_of (take m journal) user) = ap (λ u. t.account.sequence - length (replies_of (take m journal) u)) name in
+    let some : not (eqb (current_sequence (take m journal) t.account) 0) ≡ true = ap (λ n. not (eqb n 0)) number ∙ not_zero_from t.account.sequence (length (replies_of (take m journal) user)) (omega (arith, more, after)) in
+    let live : is_live (take m journal) t.account ≡ true = ap (λ b. b && not (eqb (current_sequence (take m journal) t.account) 0)) t.enabled ∙ some in
+    let value = live_challenge setup (take m journal) (get_or journal m d) user t.account (legal m d (omega arith)) is t.found live in
+    let first = below_decoys (get_or journal p d) user reserved in
+    let below : value_of (get_or journal m d).decision < decoys_from = omega (arith, value, number, a.1, first, before) in
+    ap (λ b. b && nat_lt (value_of (get_or journal m d).decision) decoys_from) is ∙ below_from (value_of (get_or journal m d).decision) below where
+      below_decoys : (e : Event) (user : Name) → reserves user e ≡ true → value_of e.decision < decoys_from
+      below_decoys e user h = let b = (and_true (takes_user user e) (nat_lt (value_of e.decision) decoys_from) h).1 in grind (arith, nat_tests, b)
+
+-- a place of a journal, with the events before it
+abbrev place_at : List Event → ℕ → Event → Place
+place_at journal k d = record { before = take k journal; event = get_or journal k d }
+
 -- no other session takes a user between a session's taking and its accepted reply
-pub one_taker_at_a_time : {table : Phase → Kind → Row} (setup : Settings) (journal : List Event) → IsLegalBy table setup journal → OneTakerAtATime setup journal
-one_taker_at_a_time {table} setup journal legal = record {
-  alone = λ user i m k d im mk kn reply taken last. go user i m k d im mk kn reply last (takes_user user (get_or journal m d)) refl;
-} where
+alone_at : {table : Phase → Kind → Row} (setup : Settings) (journal : List Event) → IsLegalBy table setup journal → (user : Name) (i m k : ℕ) (d : Event) → i < m → m < k → k < length journal → is_some (reply_for user (place_at journal k d)) ≡ true → ((n : ℕ) → i < n → n < k → is_own (get_or journal k d).session (takes_user user) (get_or journal n d) ≡ false) → takes_user user (get_or journal m d) ≡ false
+alone_at {table} setup journal legal user i m k d im mk kn reply last = go user i m k d im mk kn reply last (takes_user user (get_or journal m d)) refl where
   go : (user : Name) (i m k : ℕ) (d : Event) → i < m → m < k → k < length journal → is_some (reply_for user (place_at journal k d)) ≡ true → ((n : ℕ) → i < n → n < k → is_own (get_or journal k d).session (takes_user user) (get_or journal n d) ≡ false) → (b : Bool) → takes_user user (get_or journal m d) ≡ b → takes_user user (get_or journal m d) ≡ false
   go user i m k d im mk kn reply last false is = is
   go user i m k d im mk kn reply last true is =
@@ -234,12 +279,43 @@ one_taker_at_a_time {table} setup journal legal = record {
       let size : length front ≡ k = length-take-le k journal (omega arith) in
       let password = some_is (reply_for user (place_at journal k d)) reply in
       let held = holder_holds front e.session user (new_reply setup front e user password.0 (legal k d kn) password.1).holds in
-      let here : takes_user user (get_or front m d) ≡ true = ap (takes_user user) (get_or-take k journal m d mk) ∙ is in
-      let l = last_at (takes_user user) None front m d (omega (arith, size)) here in
-      let place = l.place in
-      let within : place < k = omega (arith, size, l.within) in
-      let at : get_or front place d ≡ get_or journal place d = get_or-take k journal place d within in
-      let same : held.taking ≡ get_or front place d = same_some held.taking (get_or front place d) (sym held.last ∙ last_taking_of-last user front ∙ l.last) in
-      let session : (get_or journal place d).session ≡ e.session = ap (λ x. x.session) (sym at) ∙ ap (λ x. x.session) (sym same) ∙ held.own in
-      let own : is_own e.session (takes_user user) (get_or journal place d) ≡ true = ap (λ n. eqb n e.session && takes_user user (get_or journal place d)) session ∙ rw (eqb_same e.session) (ap (takes_user user) (sym at) ∙ l.passes) in
-      absurd (false≢true (sym (last place (omega (arith, l.from)) within) ∙ own))
+      let own_at : (q : ℕ) → q < k → held.taking ≡ get_or front q d → reserves user (get_or front q d) ≡ true → is_own e.session (takes_user user) (get_or journal q d) ≡ true =
+      λ q within same passes.
+      let at : get_or front q d ≡ get_or journal q d = get_or-take k journal q d within in
+      let session : (get_or journal q d).session ≡ e.session = ap (λ x. x.session) (sym at) ∙ ap (λ x. x.session) (sym same) ∙ held.own in
+      ap (λ n. eqb n e.session && takes_user user (get_or journal q d)) session ∙ rw (eqb_same e.session) (ap (takes_user user) (sym at) ∙ (and_true (takes_user user (get_or front q d)) _ passes).0) in
+      let first = last_place (reserves user) front d held.taking (sym (last_taking_of-last user front) ∙ held.last) in
+      let p = first.place in
+      let pk : p < k = omega (arith, size, first.within) in
+      let reserved : reserves user (get_or journal p d) ≡ true = ap (reserves user) (sym (get_or-take k journal p d pk)) ∙ first.passes in
+      let front_legal = IsLegal-take setup journal k (omega arith) legal in
+      let left : (account : Account) → account_of setup user ≡ Some account → length (replies_of front user) < account.sequence = λ account found. (sequences setup front front_legal user account found).left held.taking held.last held.kept in
+      elim (cases_lt i p) [
+        | inl after ↦
+            let same : held.taking ≡ get_or front p d = same_some held.taking (get_or front p d) (sym held.last ∙ last_taking_of-last user front ∙ first.last) in
+            absurd (false≢true (sym (last p after pk) ∙ own_at p pk same first.passes))
+        | inr le ↦
+            let here : reserves user (get_or front m d) ≡ true = ap (reserves user) (get_or-take k journal m d mk) ∙ still_reserves setup journal legal user p m k d (omega (arith, le)) mk kn reserved left is in
+            let l = last_at (reserves user) None front m d (omega (arith, size)) here in
+            let q = l.place in
+            let within : q < k = omega (arith, size, l.within) in
+            let same : held.taking ≡ get_or front q d = same_some held.taking (get_or front q d) (sym held.last ∙ last_taking_of-last user front ∙ l.last) in
+            absurd (false≢true (sym (last q (omega (arith, l.from)) within) ∙ own_at q within same l.passes))
+      ]
+
+pub one_taker_at_a_time : {table : Phase → Kind → Row} (setup : Settings) (journal : List Event) → IsLegalBy table setup journal → OneTakerAtATime setup journal
+one_taker_at_a_time {table} setup journal legal = record {
+  alone = λ user i k taking reply b a same m e im mk c.
+      let at : (n : ℕ) (x : Event) → slice_get journal n ≡ Some x → get_or journal n some_event ≡ x = λ n x h. get_or_from_slice_get journal n x some_event h in
+      let kn = slice_get_within journal k reply b.stands in
+      let replied = ap (λ x. is_some (reply_for user (let p : Place = record { before = take k journal; event = x } in p))) (at k reply b.stands) ∙ b.replies in
+      let none : (n : ℕ) → i < n → n < k → is_own (get_or journal k some_event).session (takes_user user) (get_or journal n some_event) ≡ false =
+      λ n above below. no_own_taking (eqb (get_or journal n some_event).session (get_or journal k some_event).session) (takes_user user (get_or journal n some_event))
+      (λ own taken. a.last n (get_or journal n some_event) above below (record { stands = stands_at journal n some_event (omega (arith, below, kn)); takes = taken }) (eqb-true (get_or journal n some_event).session (get_or journal k some_event).session own ∙ ap (λ x. x.session) (at k reply b.stands) ∙ sym same)) in
+      let alone = alone_at setup journal legal user i m k some_event im mk kn replied none in
+      false≢true (sym alone ∙ ap (takes_user user) (at m e c.stands) ∙ c.takes);
+} where
+  no_own_taking : (own taken : Bool) → (own ≡ true → taken ≡ true → ⊥) → (own && taken) ≡ false
+  no_own_taking true true h = absurd (h refl refl)
+  no_own_taking true false h = refl
+  no_own_taking false taken h = refl
