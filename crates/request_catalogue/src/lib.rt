@@ -15,7 +15,6 @@ mod writing;
 
 pub use answer::{Answer, Unreadable};
 pub use kind::Kind;
-pub use put::BODY_MAX;
 pub use reading::read_request;
 pub use replies::{read_reply, reply_kind, write_reply};
 pub use request::{Bad, Request};
