@@ -1,9 +1,12 @@
 //! OpenBSD's imsg framing, as imsg_init(3) of release 7.3 lays it out, for little-endian machines and
-//! without descriptors: frames from a stream that comes in any pieces, and frames made.
+//! without descriptors, and a wide framing beside it: frames from a stream that comes in any pieces, and
+//! frames made.
 //!
-//! A frame is a header of 16 bytes and then the body. The header is `kind` (the manual's `type`;
+//! A frame is a header of 16 bytes and then the body. A narrow header is `kind` (the manual's `type`;
 //! 4 bytes), `len` (2), `flags` (2), `peerid` (4) and `pid` (4), each number with its lowest byte
-//! first. `len` counts the header and the body together, so it is from 16 to 16,384.
+//! first. In a wide header `len` has 4 bytes and there are no `flags`: the top bit of those marks a
+//! descriptor, and the lower 31 are the length. `len` counts the header and the body together, so it is
+//! from 16 to 16,384, or to 65,536 in wide frames.
 //!
 //! ```text
 //! loop {
@@ -22,9 +25,9 @@ mod header;
 mod reader;
 mod stream;
 
-pub use composing::{TooLong, compose, what_was_composed_is_read};
+pub use composing::{TooLong, a_narrow_frame_is_a_wide_one, compose, what_was_composed_is_read};
 pub use frame::{Frame, OwnedFrame};
-pub use header::{HEADER_LEN, Header, MAX_LEN};
+pub use header::{HEADER_LEN, Header};
 pub use reader::{Next, Reader};
 
 #[cfg(test)]

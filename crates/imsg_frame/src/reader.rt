@@ -1,8 +1,10 @@
 ghost use Rattle.std.specs.Prelude.{◌≡◌, ◌+◌, ◌-◌, ◌≤◌, ◌<◌, ◌++◌, ◌↔◌, [], IfOk, IsTrue, length, take, min};
 ghost use Rattle.std.specs.Borrow.{sem};
+ghost use Rattle.request_catalogue.specs.Widths.{frame_max};
 
 use crate::frame::Frame;
-use crate::header::{HEADER_LEN, Header, MAX_LEN};
+use crate::header::{HEADER_LEN, Header};
+use request_catalogue::Width;
 use std::alloc::{AllocError, Global};
 use std::marker::Model;
 
@@ -13,15 +15,17 @@ pub enum Next<'a> {
     Frame(Frame<'a>),
     /// Less than a whole frame: feed more bytes.
     NotYet,
-    /// A header with a `len` below 16 or above the reader's `max`.
+    /// A header whose length is below 16 or above the reader's `max`: the length, or 65,535 where it is
+    /// greater.
     Bad { len: u16 },
 }
 
 /// Frames from a stream that comes in any pieces.
 ///
-/// Contracts see a reader as a `Held`: its `max`, and the bytes that were fed and not yet given.
+/// Contracts see a reader as a `Held`: its width and its `max`, and the bytes that were fed and not yet given.
 #[derive(Drop)]
 pub struct Reader {
+    width: Width,
     max: usize,
     // Twice `max` bytes, of which those from `start` to `end` are held. They are moved to the front only
     // where a piece has too little room behind them, and so not before `max` bytes were given.
@@ -38,27 +42,29 @@ impl Model for Reader {
 
     ghost Value = { Held };
 
-    ghost view = { λ r. record { max = r.max; bytes = between r.start r.end r.bytes.items } };
+    ghost view = { λ r. record { width = r.width; max = r.max; bytes = between r.start r.end r.bytes.items } };
 
-    ghost invariant = { λ r. IsLaidOut r.max r.start r.end (vec_len r.bytes) };
+    ghost invariant = { λ r. IsLaidOut r.width r.max r.start r.end (vec_len r.bytes) };
 }
 
 impl Reader {
     ghost use Rattle.imsg_frame.specs.Answer.{Rests, IsAnswer, AfterNext};
 
-    /// A reader that holds no bytes, for frames of at most `max` bytes, header and body together.
-    /// `max` is from 16 to 16,384. All memory is taken here.
+    /// A reader that holds no bytes, for frames of this width and of at most `max` bytes, header and body
+    /// together. `max` is from 16 to 16,384, or to 65,536 for wide frames. All memory is taken here.
     ///
     /// # Errors
     ///
     /// Where memory runs out.
-    pub fn new(alloc: Global, max: usize) -> Result<Reader, AllocError>
+    pub fn new(alloc: Global, width: Width, max: usize) -> Result<Reader, AllocError>
         requires low { HEADER_LEN ≤ max }
-        requires high { max ≤ MAX_LEN }
+        requires high { max ≤ frame_max width }
+        ensures width { IfOk result (λ reader. reader.width ≡ width) }
         ensures max { IfOk result (λ reader. reader.max ≡ max) }
         ensures empty { IfOk result (λ reader. reader.bytes ≡ []) }
     {
         Ok(Reader {
+            width,
             max,
             bytes: vec![in alloc; 0; 2 * max]?,
             start: 0,
@@ -82,6 +88,7 @@ impl Reader {
 
     /// Gives up the bytes that are held.
     pub fn clear(&mut self)
+        ensures width { self.new.width ≡ self.old.width }
         ensures max { self.new.max ≡ self.old.max }
         ensures empty { self.new.bytes ≡ [] }
     {
@@ -93,6 +100,7 @@ impl Reader {
     pub fn feed(&mut self, piece: &[u8]) -> usize
         ensures taken { result ≡ min (length piece.now) (self.old.max - length self.old.bytes) }
         ensures bytes { self.new.bytes ≡ self.old.bytes ++ take result piece.now }
+        ensures width { self.new.width ≡ self.old.width }
         ensures max { self.new.max ≡ self.old.max }
     {
         let taken = piece.len().min(self.room());
@@ -110,13 +118,13 @@ impl Reader {
     /// Gives the next frame, if a whole one is held. Its body stays in the reader until the answer is
     /// let go.
     ///
-    /// `Frame` comes exactly where a whole frame with a right `len` stands in front, and the reader then
+    /// `Frame` comes exactly where a whole frame with a right length stands in front, and the reader then
     /// holds what follows it. `NotYet` comes exactly where less than a frame is held that may still become
     /// one, and there is room for at least one more byte. `Bad` comes exactly where a header stands in
-    /// front whose `len` is below 16 or above `max`. After `NotYet` and `Bad` the reader is unchanged, so
+    /// front whose length is below 16 or above `max`. After `NotYet` and `Bad` the reader is unchanged, so
     /// that a bad header is answered again and again until `clear`.
     pub fn next(&mut self) -> Next<'_>
-        ensures answer { IsAnswer self.old.max self.old.bytes result }
+        ensures answer { IsAnswer self.old.width self.old.max self.old.bytes result }
         ensures room { result ≡ Next.NotYet → length self.old.bytes < self.old.max }
         ensures* after_borrow { sem 𝓛 (Rests self.entry (AfterNext self.old result)) }
     {
@@ -124,10 +132,12 @@ impl Reader {
         if held.len() < HEADER_LEN {
             return Next::NotYet;
         }
-        let header = Header::from_front(held);
+        let header = Header::from_front(self.width, held);
         let len = header.len as usize;
         if !is_right_len(len, self.max) {
-            return Next::Bad { len: header.len };
+            return Next::Bad {
+                len: told_len(header.len),
+            };
         }
         if held.len() < len {
             return Next::NotYet;
@@ -145,4 +155,11 @@ fn is_right_len(len: usize, max: usize) -> bool
     ensures { IsTrue result ↔ ((HEADER_LEN ≤ len) × (len ≤ max)) }
 {
     (HEADER_LEN..=max).contains(&len)
+}
+
+// A length as `Next::Bad` tells it.
+fn told_len(len: u32) -> u16
+    ensures { result ≡ min len 65535 }
+{
+    len.min(65_535) as u16
 }

@@ -20,12 +20,13 @@ impl Reader {
         frames: &mut Vec<OwnedFrame>,
     ) -> Result<(), AllocError>
         // The frames that were added, and then what is held, are what was held before.
-        ensures cut { OnOk result (AddsCut self.old.max
+        ensures cut { OnOk result (AddsCut self.old.width self.old.max
             (messages_in frames.old.items) self.old.bytes (messages_in frames.new.items) self.new.bytes) }
-        ensures last { OnOk result (IsLastFront self.new.max self.new.bytes) }
+        ensures last { OnOk result (IsLastFront self.new.width self.new.max self.new.bytes) }
         // There is room for more, unless a bad header stands in front.
-        ensures room { OnOk result (IsPartialFront self.new.max self.new.bytes
+        ensures room { OnOk result (IsPartialFront self.new.width self.new.max self.new.bytes
             → length self.new.bytes < self.new.max) }
+        ensures width { self.new.width ≡ self.old.width }
         ensures max { self.new.max ≡ self.old.max }
     {
         while let Next::Frame(frame) = self.next() {
@@ -47,11 +48,12 @@ impl Reader {
         frames: &mut Vec<OwnedFrame>,
     ) -> Result<usize, AllocError>
         // The frames that were added, what is held and what was not fed are what was held and the piece.
-        ensures cut { IfOk result (λ fed. AddsCut self.old.max
+        ensures cut { IfOk result (λ fed. AddsCut self.old.width self.old.max
             (messages_in frames.old.items) (self.old.bytes ++ piece.now)
             (messages_in frames.new.items) (self.new.bytes ++ drop fed piece.now)) }
-        ensures stop { IfOk result (λ fed. IsStop self.new.max self.new.bytes (drop fed piece.now)) }
+        ensures stop { IfOk result (λ fed. IsStop self.new.width self.new.max self.new.bytes (drop fed piece.now)) }
         ensures within { IfOk result (λ fed. fed ≤ length piece.now) }
+        ensures width { self.new.width ≡ self.old.width }
         ensures max { self.new.max ≡ self.old.max }
     {
         self.take_frames(alloc, frames)?;
@@ -79,13 +81,14 @@ impl Reader {
     ) -> Result<Vec<OwnedFrame>, AllocError>
         // The frames, what is held and, behind a bad header, what was never fed are the whole stream.
         ensures cut { IfOk result (λ frames. (unfed : List ℕ)
-            × IsLongestCut self.old.max (self.old.bytes ++ flat_map (λ piece. piece.now) pieces.now)
+            × IsLongestCut self.old.width self.old.max (self.old.bytes ++ flat_map (λ piece. piece.now) pieces.now)
             (messages_in frames.items) (self.new.bytes ++ unfed)
-            × IsStop self.new.max self.new.bytes unfed) }
+            × IsStop self.new.width self.new.max self.new.bytes unfed) }
         // Every cut of the stream that goes as far has these frames, however the stream comes in pieces.
         ensures only { IfOk result (λ frames. (others : List Message) (rest : List ℕ)
-            → IsLongestCut self.old.max (self.old.bytes ++ flat_map (λ piece. piece.now) pieces.now) others rest
+            → IsLongestCut self.old.width self.old.max (self.old.bytes ++ flat_map (λ piece. piece.now) pieces.now) others rest
             → messages_in frames.items ≡ others) }
+        ensures width { self.new.width ≡ self.old.width }
         ensures max { self.new.max ≡ self.old.max }
     {
         let mut frames = Vec::new(alloc);

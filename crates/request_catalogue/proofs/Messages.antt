@@ -3,6 +3,7 @@ use Rattle.std.proofs.Common.{◌≡◌, ℕ, ◌%◌, ◌≤◌, Bool, true, fa
 use Rattle.std.specs.Prelude.{find, MatchResult, IfOk, IfErr, IsOkAnd}
 use Rattle.std.proofs.lemmas.Bool.{eqb-true, eqb-false}
 use Rattle.std.proofs.lemmas.List.{take_at}
+use Rattle.request_catalogue.specs.declared.width.Width.{Width}
 use Rattle.request_catalogue.specs.declared.kind.Kind.{Kind}
 use Rattle.request_catalogue.specs.declared.kind.Kind.TheVariants as kinds
 use Rattle.request_catalogue.specs.declared.request.Request.{Request}
@@ -60,22 +61,22 @@ before_error true fault y v e = (refl, e)
 before_error false fault y v e = absurd cc
 
 -- what is asked is asked of some kind
-asked_ok : (kind : ℕ) (body : List ℕ) (o : Option Kind) (v : RequestValue) → asked kind body o ≡ Ok v → (k : Kind) × (o ≡ Some k) × (asked_by k body ≡ Some v)
-asked_ok kind body None v e = absurd cc
-asked_ok kind body (Some k) v e = (k, refl, or_bad_ok (bad 5 kind) (asked_by k body) v e)
+asked_ok : (width : Width) (kind : ℕ) (body : List ℕ) (o : Option Kind) (v : RequestValue) → asked width kind body o ≡ Ok v → (k : Kind) × (o ≡ Some k) × (asked_by width k body ≡ Some v)
+asked_ok width kind body None v e = absurd cc
+asked_ok width kind body (Some k) v e = (k, refl, or_bad_ok (bad 5 kind) (asked_by width k body) v e)
   where
     or_bad_ok : (fault : Bad) (o : Option RequestValue) (v : RequestValue) → or_bad fault o ≡ Ok v → o ≡ Some v
     or_bad_ok fault None v e = absurd cc
     or_bad_ok fault (Some w) v e = let same : w ≡ v = cc in ap (λ (x : RequestValue). Some x) same
 
 -- what the table answers is in range and spelled so
-pub request_of-IsRequest : (kind flags : ℕ) (body : List ℕ) (v : RequestValue) → IsBytes body → request_of kind flags body ≡ Ok v → IsRequest kind flags body v
+pub request_of-IsRequest : (width : Width) (kind flags : ℕ) (body : List ℕ) (v : RequestValue) → IsBytes body → request_of width kind flags body ≡ Ok v → IsRequest width kind flags body v
 unfolding request_of
-request_of-IsRequest kind flags body v fits e =
-    let first = past_error (eqb (flags % 2) 1) (bad 2 flags) (cond (eqb flags 0) (asked kind body (kind_numbered kind)) (Err (bad 3 flags))) v e in
-    let second = before_error (eqb flags 0) (bad 3 flags) (asked kind body (kind_numbered kind)) v first.1 in
-    let third = asked_ok kind body (kind_numbered kind) v second.1 in
-    let spelled = asked_by-IsSpelled third.0 body fits v third.2 in
+request_of-IsRequest width kind flags body v fits e =
+    let first = past_error (eqb (flags % 2) 1) (bad 2 flags) (cond (eqb flags 0) (asked width kind body (kind_numbered kind)) (Err (bad 3 flags))) v e in
+    let second = before_error (eqb flags 0) (bad 3 flags) (asked width kind body (kind_numbered kind)) v first.1 in
+    let third = asked_ok width kind body (kind_numbered kind) v second.1 in
+    let spelled = asked_by-IsSpelled width third.0 body fits v third.2 in
     record {
       no_flags = eqb-true flags 0 second.0;
       of_kind = ap kind_number spelled.of_kind ∙ kind_number-numbered kind third.0 third.1;
@@ -84,68 +85,68 @@ request_of-IsRequest kind flags body v fits e =
     }
 
 -- what is in range and spelled so is the table's answer
-pub IsRequest-request_of : (kind flags : ℕ) (body : List ℕ) (v : RequestValue) → IsRequest kind flags body v → request_of kind flags body ≡ Ok v
+pub IsRequest-request_of : (width : Width) (kind flags : ℕ) (body : List ℕ) (v : RequestValue) → IsRequest width kind flags body v → request_of width kind flags body ≡ Ok v
 unfolding request_of
-IsRequest-request_of kind flags body v is =
+IsRequest-request_of width kind flags body v is =
     let no_flags = is.no_flags in
     let of_kind : kind ≡ kind_number (kind_of v) = sym is.of_kind in
     let spelled = is.spelled in
-    rw (no_flags, of_kind, kind_numbered-kind_number (kind_of v), spelled, asked_by-payload_of v is.in_range) refl
+    rw (no_flags, of_kind, kind_numbered-kind_number (kind_of v), spelled, asked_by-payload_of width v is.in_range) refl
 
 -- what was read is in range and spelled so
-pub is_found : (kind flags : ℕ) (body : List ℕ) (r : Result Request Bad) → IsBytes body → MatchResult r (λ x. request_of kind flags body ≡ Ok (value_of x)) (λ e. request_of kind flags body ≡ Err e) → IfOk r (λ x. IsRequest kind flags body (value_of x))
-is_found kind flags body (Ok x) fits given = request_of-IsRequest kind flags body (value_of x) fits given
-is_found kind flags body (Err e) fits given = tt
+pub is_found : (width : Width) (kind flags : ℕ) (body : List ℕ) (r : Result Request Bad) → IsBytes body → MatchResult r (λ x. request_of width kind flags body ≡ Ok (value_of x)) (λ e. request_of width kind flags body ≡ Err e) → IfOk r (λ x. IsRequest width kind flags body (value_of x))
+is_found width kind flags body (Ok x) fits given = request_of-IsRequest width kind flags body (value_of x) fits given
+is_found width kind flags body (Err e) fits given = tt
 
 -- what is in range and spelled so was read
-pub is_only : (kind flags : ℕ) (body : List ℕ) (r : Result Request Bad) → MatchResult r (λ x. request_of kind flags body ≡ Ok (value_of x)) (λ e. request_of kind flags body ≡ Err e) → (v : RequestValue) → IsRequest kind flags body v → IsOkAnd r (λ x. value_of x ≡ v)
-is_only kind flags body (Ok x) given v is = let again = IsRequest-request_of kind flags body v is in cc
-is_only kind flags body (Err e) given v is = let again = IsRequest-request_of kind flags body v is in absurd cc
+pub is_only : (width : Width) (kind flags : ℕ) (body : List ℕ) (r : Result Request Bad) → MatchResult r (λ x. request_of width kind flags body ≡ Ok (value_of x)) (λ e. request_of width kind flags body ≡ Err e) → (v : RequestValue) → IsRequest width kind flags body v → IsOkAnd r (λ x. value_of x ≡ v)
+is_only width kind flags body (Ok x) given v is = let again = IsRequest-request_of width kind flags body v is in cc
+is_only width kind flags body (Err e) given v is = let again = IsRequest-request_of width kind flags body v is in absurd cc
 
 -- a payload that asks nothing is no request's
-no_payload : (k : Kind) (body : List ℕ) → asked_by k body ≡ None → (v : RequestValue) → kind_of v ≡ k → IsInRange v → body ≢ payload_of v
-no_payload k body none v of_kind range same =
-    let again : asked_by k body ≡ Some v = rw (← of_kind, same) (asked_by-payload_of v range) in
+no_payload : (width : Width) (k : Kind) (body : List ℕ) → asked_by width k body ≡ None → (v : RequestValue) → kind_of v ≡ k → IsInRange width v → body ≢ payload_of v
+no_payload width k body none v of_kind range same =
+    let again : asked_by width k body ≡ Some v = rw (← of_kind, same) (asked_by-payload_of width v range) in
     absurd cc
 
 -- the table's fault is the first rule that is broken
-asked_fault : (kind flags : ℕ) (body : List ℕ) (e : Bad) → flags ≡ 0 → (o : Option Kind) → kind_numbered kind ≡ o → asked kind body o ≡ Err e → IsFault kind flags body e
-asked_fault kind flags body e no_flags None known given = let same : bad 4 kind ≡ e = cc in subst (λ (x : Bad). IsFault kind flags body x) same (HasUnknownKind no_flags (kind_number-none kind known))
-asked_fault kind flags body e no_flags (Some k) known given = payload_fault (asked_by k body) refl given
+asked_fault : (width : Width) (kind flags : ℕ) (body : List ℕ) (e : Bad) → flags ≡ 0 → (o : Option Kind) → kind_numbered kind ≡ o → asked width kind body o ≡ Err e → IsFault width kind flags body e
+asked_fault width kind flags body e no_flags None known given = let same : bad 4 kind ≡ e = cc in subst (λ (x : Bad). IsFault width kind flags body x) same (HasUnknownKind no_flags (kind_number-none kind known))
+asked_fault width kind flags body e no_flags (Some k) known given = payload_fault (asked_by width k body) refl given
   where
-    payload_fault : (o : Option RequestValue) → asked_by k body ≡ o → or_bad (bad 5 kind) o ≡ Err e → IsFault kind flags body e
-    payload_fault None none given' = let same : bad 5 kind ≡ e = cc in subst (λ (x : Bad). IsFault kind flags body x) same (HasBadPayload no_flags k (kind_number-numbered kind k known) (no_payload k body none))
+    payload_fault : (o : Option RequestValue) → asked_by width k body ≡ o → or_bad (bad 5 kind) o ≡ Err e → IsFault width kind flags body e
+    payload_fault None none given' = let same : bad 5 kind ≡ e = cc in subst (λ (x : Bad). IsFault width kind flags body x) same (HasBadPayload no_flags k (kind_number-numbered kind k known) (no_payload width k body none))
     payload_fault (Some v) some given' = absurd cc
 
 -- the table's fault, by its two tests of the flags
-flags_fault : (kind flags : ℕ) (body : List ℕ) (e : Bad) (odd none : Bool) → eqb (flags % 2) 1 ≡ odd → eqb flags 0 ≡ none → cond odd (Err (bad 2 flags)) (cond none (asked kind body (kind_numbered kind)) (Err (bad 3 flags))) ≡ Err e → IsFault kind flags body e
-flags_fault kind flags body e true none p q given = let same : bad 2 flags ≡ e = cc in subst (λ (x : Bad). IsFault kind flags body x) same (HasDescriptor (eqb-true (flags % 2) 1 p))
-flags_fault kind flags body e false true p q given = asked_fault kind flags body e (eqb-true flags 0 q) (kind_numbered kind) refl given
-flags_fault kind flags body e false false p q given =
+flags_fault : (width : Width) (kind flags : ℕ) (body : List ℕ) (e : Bad) (odd none : Bool) → eqb (flags % 2) 1 ≡ odd → eqb flags 0 ≡ none → cond odd (Err (bad 2 flags)) (cond none (asked width kind body (kind_numbered kind)) (Err (bad 3 flags))) ≡ Err e → IsFault width kind flags body e
+flags_fault width kind flags body e true none p q given = let same : bad 2 flags ≡ e = cc in subst (λ (x : Bad). IsFault width kind flags body x) same (HasDescriptor (eqb-true (flags % 2) 1 p))
+flags_fault width kind flags body e false true p q given = asked_fault width kind flags body e (eqb-true flags 0 q) (kind_numbered kind) refl given
+flags_fault width kind flags body e false false p q given =
     let same : bad 3 flags ≡ e = cc in
     let even : flags % 2 ≢ 1 = eqb-false (flags % 2) 1 p in
-    subst (λ (x : Bad). IsFault kind flags body x) same (HasOtherFlags (omega arith) (eqb-false flags 0 q))
+    subst (λ (x : Bad). IsFault width kind flags body x) same (HasOtherFlags (omega arith) (eqb-false flags 0 q))
 
 -- why nothing was read
-pub is_fault : (kind flags : ℕ) (body : List ℕ) (r : Result Request Bad) → MatchResult r (λ x. request_of kind flags body ≡ Ok (value_of x)) (λ e. request_of kind flags body ≡ Err e) → IfErr r (IsFault kind flags body)
+pub is_fault : (width : Width) (kind flags : ℕ) (body : List ℕ) (r : Result Request Bad) → MatchResult r (λ x. request_of width kind flags body ≡ Ok (value_of x)) (λ e. request_of width kind flags body ≡ Err e) → IfErr r (IsFault width kind flags body)
 unfolding request_of
-is_fault kind flags body (Ok x) given = tt
-is_fault kind flags body (Err e) given = flags_fault kind flags body e (eqb (flags % 2) 1) (eqb flags 0) refl refl given
+is_fault width kind flags body (Ok x) given = tt
+is_fault width kind flags body (Err e) given = flags_fault width kind flags body e (eqb (flags % 2) 1) (eqb flags 0) refl refl given
 
 -- a payload that stands at the front is read as its request
-pub is_read_back : (v : RequestValue) → IsInRange v → (n : ℕ) (out old : List ℕ) → n ≡ length (payload_of v) → out ≡ payload_of v ++ drop n old → request_of (kind_number (kind_of v)) 0 (take n out) ≡ Ok v
-is_read_back v range n out old len written =
+pub is_read_back : (width : Width) (v : RequestValue) → IsInRange width v → (n : ℕ) (out old : List ℕ) → n ≡ length (payload_of v) → out ≡ payload_of v ++ drop n old → request_of width (kind_number (kind_of v)) 0 (take n out) ≡ Ok v
+is_read_back width v range n out old len written =
     let front : take n out ≡ payload_of v = ap (λ (x : List ℕ). take n x) written ∙ take_at (payload_of v) (drop n old) n (sym len) in
-    IsRequest-request_of (kind_number (kind_of v)) 0 (take n out) v (record { no_flags = refl; of_kind = refl; in_range = range; spelled = front })
+    IsRequest-request_of width (kind_number (kind_of v)) 0 (take n out) v (record { no_flags = refl; of_kind = refl; in_range = range; spelled = front })
 
 -- the rules of faults
-fault_rule : (kind flags : ℕ) (body : List ℕ) (e : Bad) → IsFault kind flags body e → (2 ≤ e.rule) × (e.rule ≤ 5)
-fault_rule kind flags body e (HasDescriptor h) = (omega arith, omega arith)
-fault_rule kind flags body e (HasOtherFlags h k) = (omega arith, omega arith)
-fault_rule kind flags body e (HasUnknownKind h k) = (omega arith, omega arith)
-fault_rule kind flags body e (HasBadPayload h k s t) = (omega arith, omega arith)
+fault_rule : (width : Width) (kind flags : ℕ) (body : List ℕ) (e : Bad) → IsFault width kind flags body e → (2 ≤ e.rule) × (e.rule ≤ 5)
+fault_rule width kind flags body e (HasDescriptor h) = (omega arith, omega arith)
+fault_rule width kind flags body e (HasOtherFlags h k) = (omega arith, omega arith)
+fault_rule width kind flags body e (HasUnknownKind h k) = (omega arith, omega arith)
+fault_rule width kind flags body e (HasBadPayload h k s t) = (omega arith, omega arith)
 
 -- the rule by which nothing was read
-pub is_rule : (kind flags : ℕ) (body : List ℕ) (r : Result Request Bad) → MatchResult r (λ x. request_of kind flags body ≡ Ok (value_of x)) (λ e. request_of kind flags body ≡ Err e) → IfErr r (λ e. (2 ≤ e.rule) × (e.rule ≤ 5))
-is_rule kind flags body (Ok x) given = tt
-is_rule kind flags body (Err e) given = fault_rule kind flags body e (is_fault kind flags body (Err e) given)
+pub is_rule : (width : Width) (kind flags : ℕ) (body : List ℕ) (r : Result Request Bad) → MatchResult r (λ x. request_of width kind flags body ≡ Ok (value_of x)) (λ e. request_of width kind flags body ≡ Err e) → IfErr r (λ e. (2 ≤ e.rule) × (e.rule ≤ 5))
+is_rule width kind flags body (Ok x) given = tt
+is_rule width kind flags body (Err e) given = fault_rule width kind flags body e (is_fault width kind flags body (Err e) given)

@@ -10,6 +10,7 @@ use Rattle.std.proofs.lemmas.List.{nil_from_length, take_at}
 use Rattle.std.proofs.lemmas.Nat.{from_le_bytes-to_le_bytes_4}
 use Rattle.request_catalogue.specs.declared.answer.Answer.{Answer}
 use Rattle.request_catalogue.specs.declared.answer.Unreadable.{Unreadable}
+use Rattle.request_catalogue.specs.declared.width.Width.{Width}
 use Rattle.request_catalogue.specs.Fields.{number_at}
 use Rattle.request_catalogue.specs.Replies.{AnswerValue, Done, Denied, Device, answer_of, IsAnswer, IsSendable, reply_of, denied_by, failed_by, answered_by}
 use Rattle.request_catalogue.proofs.Numbers.{IsBytes, wide32, number_at-below, last_number}
@@ -92,13 +93,13 @@ is_unreadable bytes (Ok a) given = tt
 is_unreadable bytes (Err e) given = λ value range spelled. let again : answered_by bytes ≡ Some value = rw spelled (answered_by-reply_of value range) in absurd cc
 
 -- what fits a message is in range
-sendable : (value : AnswerValue) → IsSendable value → IsAnswer value
-sendable (Done body) range = tt
-sendable (Denied rule detail) range = range
-sendable (Device device) range = range
+sendable : (width : Width) (value : AnswerValue) → IsSendable width value → IsAnswer value
+sendable width (Done body) range = tt
+sendable width (Denied rule detail) range = range
+sendable width (Device device) range = range
 
 -- a reply that stands at the front is read as its answer
-pub is_read_back : (value : AnswerValue) → IsSendable value → (n : ℕ) (out old : List ℕ) → n ≡ length (reply_of value) → out ≡ reply_of value ++ drop n old → answered_by (take n out) ≡ Some value
-is_read_back value range n out old len written =
+pub is_read_back : (width : Width) (value : AnswerValue) → IsSendable width value → (n : ℕ) (out old : List ℕ) → n ≡ length (reply_of value) → out ≡ reply_of value ++ drop n old → answered_by (take n out) ≡ Some value
+is_read_back width value range n out old len written =
     let front : take n out ≡ reply_of value = ap (λ (x : List ℕ). take n x) written ∙ take_at (reply_of value) (drop n old) n (sym len) in
-    rw front (answered_by-reply_of value (sendable value range))
+    rw front (answered_by-reply_of value (sendable width value range))

@@ -1,10 +1,12 @@
 -- The catalogue of requests: what may be asked, and the one payload of each request.
 use Rattle.std.specs.Prelude.{◌≡◌, ℕ, ◌^◌, ◌<◌, ◌≤◌, List, [], ◌∷◌, ◌++◌, length, IsTrue}
 use Rattle.std.specs.Int.{w16, w32, w64, to_le_bytes}
+use Rattle.request_catalogue.specs.declared.width.Width.{Width}
 use Rattle.request_catalogue.specs.declared.kind.Kind.{Kind}
 use Rattle.request_catalogue.specs.declared.kind.Kind.TheVariants as kinds
 use Rattle.request_catalogue.specs.declared.request.Request.{Request}
 use Rattle.request_catalogue.specs.declared.request.Request.TheVariants as requests
+use Rattle.request_catalogue.specs.Widths.{transfer_max}
 use Rattle.request_catalogue.specs.Texts.{is_name, is_label, is_note, is_reply}
 use Rattle.request_catalogue.specs.TextBytes.{name_bytes, label_bytes, note_bytes}
 use Rattle.request_catalogue.specs.Kinds.{kind_number}
@@ -57,21 +59,21 @@ kind_of (Info number) = kinds.Info
 kind_of (Note text) = kinds.Note
 kind_of Finish = kinds.Finish
 
--- the parts of a request are in their ranges
-abbrev pub IsInRange : RequestValue → Type 0
-IsInRange Banner = Unit {0}
-IsInRange (Challenge user) = IsTrue (is_name user)
-IsInRange (Reply text) = IsTrue (is_reply text)
-IsInRange Abandon = Unit {0}
-IsInRange (Export state) = length state ≤ 8192
-IsInRange Import = Unit {0}
-IsInRange (ReadAt handle offset max) = (handle < 2 ^ 32) × (offset < 2 ^ 64) × (1 ≤ max) × (max ≤ 16000)
-IsInRange (WriteAt handle offset bytes) = (handle < 2 ^ 32) × (offset < 2 ^ 64) × (1 ≤ length bytes) × (length bytes ≤ 16000)
-IsInRange (OpenFile mode name) = (1 ≤ mode) × (mode ≤ 3) × IsTrue (is_label name)
-IsInRange (CloseFile handle) = handle < 2 ^ 32
-IsInRange (Info number) = number < 2 ^ 32
-IsInRange (Note text) = IsTrue (is_note text)
-IsInRange Finish = Unit {0}
+-- the parts of a request are in their ranges, of which two go by the width of the frames
+abbrev pub IsInRange : Width → RequestValue → Type 0
+IsInRange width Banner = Unit {0}
+IsInRange width (Challenge user) = IsTrue (is_name user)
+IsInRange width (Reply text) = IsTrue (is_reply text)
+IsInRange width Abandon = Unit {0}
+IsInRange width (Export state) = length state ≤ 8192
+IsInRange width Import = Unit {0}
+IsInRange width (ReadAt handle offset max) = (handle < 2 ^ 32) × (offset < 2 ^ 64) × (1 ≤ max) × (max ≤ transfer_max width)
+IsInRange width (WriteAt handle offset bytes) = (handle < 2 ^ 32) × (offset < 2 ^ 64) × (1 ≤ length bytes) × (length bytes ≤ transfer_max width)
+IsInRange width (OpenFile mode name) = (1 ≤ mode) × (mode ≤ 3) × IsTrue (is_label name)
+IsInRange width (CloseFile handle) = handle < 2 ^ 32
+IsInRange width (Info number) = number < 2 ^ 32
+IsInRange width (Note text) = IsTrue (is_note text)
+IsInRange width Finish = Unit {0}
 
 -- the payload of a request, numbers with their lowest byte first
 unfoldable pub payload_of : RequestValue → List ℕ
@@ -89,9 +91,9 @@ payload_of (Info number) = to_le_bytes w32 number
 payload_of (Note text) = text
 payload_of Finish = []
 
--- a message of this kind, flags and body is this request
-pub record IsRequest (kind flags : ℕ) (body : List ℕ) (value : RequestValue) : Type 0 where
+-- a message of this kind, flags and body is this request, in frames of this width
+pub record IsRequest (width : Width) (kind flags : ℕ) (body : List ℕ) (value : RequestValue) : Type 0 where
   pub no_flags : flags ≡ 0
   pub of_kind : kind_number (kind_of value) ≡ kind
-  pub in_range : IsInRange value
+  pub in_range : IsInRange width value
   pub spelled : body ≡ payload_of value

@@ -1,3 +1,4 @@
+pub mod Widths
 pub mod Texts
 pub mod TextBytes
 pub mod Kinds

@@ -1,31 +1,34 @@
 -- The catalogue as a table, a row a kind, and what is wrong with a message that is no request.
-use Rattle.std.specs.Prelude.{◌≡◌, ◌≢◌, ℕ, ◌%◌, List, [], ◌∷◌, length, drop, Option, Some, None, Result, Ok, Err, if◌then◌else◌, nat_le, ◌==◌, ◌&&◌}
+use Rattle.std.specs.Prelude.{◌≡◌, ◌≢◌, ℕ, ◌+◌, ◌%◌, List, [], ◌∷◌, length, drop, Option, Some, None, Result, Ok, Err, if◌then◌else◌, nat_le, ◌==◌, ◌&&◌}
 use Rattle.std.specs.Bool.{then_some}
 use Rattle.std.specs.Int.{w16, w32, w64}
+use Rattle.request_catalogue.specs.declared.width.Width.{Width}
 use Rattle.request_catalogue.specs.declared.kind.Kind.{Kind}
 use Rattle.request_catalogue.specs.declared.kind.Kind.TheVariants as kinds
 use Rattle.request_catalogue.specs.declared.request.Bad.{Bad}
+use Rattle.request_catalogue.specs.Widths.{transfer_max}
 use Rattle.request_catalogue.specs.Texts.{is_name, is_label, is_note, is_reply}
 use Rattle.request_catalogue.specs.Fields.{number_at}
+use Rattle.request_catalogue.specs.Rules.{bad_payload, descriptor_flag, other_flags, unknown_kind}
 use Rattle.request_catalogue.specs.Kinds.{kind_number, kind_numbered}
 use Rattle.request_catalogue.specs.Catalogue.{RequestValue, Banner, Challenge, Reply, Abandon, Export, Import, ReadAt, WriteAt, OpenFile, CloseFile, Info, Note, Finish, kind_of, IsInRange, payload_of}
 
--- the table: what a payload asks in a message of each kind, if it is one
-unfoldable pub asked_by : Kind → List ℕ → Option RequestValue
-asked_by kinds.Banner payload = then_some (length payload == 0) Banner
-asked_by kinds.Challenge payload = then_some (is_name payload) (Challenge payload)
-asked_by kinds.Reply payload = then_some (is_reply payload) (Reply payload)
-asked_by kinds.Abandon payload = then_some (length payload == 0) Abandon
-asked_by kinds.Export payload = then_some (nat_le (length payload) 8192) (Export payload)
-asked_by kinds.Import payload = then_some (length payload == 0) Import
-asked_by kinds.ReadAt payload = then_some (length payload == 14 && nat_le 1 (number_at w16 12 payload) && nat_le (number_at w16 12 payload) 16000) (ReadAt (number_at w32 0 payload) (number_at w64 4 payload) (number_at w16 12 payload))
-asked_by kinds.WriteAt payload = then_some (nat_le 13 (length payload) && nat_le (length payload) 16012) (WriteAt (number_at w32 0 payload) (number_at w64 4 payload) (drop 12 payload))
-asked_by kinds.OpenFile [] = None
-asked_by kinds.OpenFile (mode ∷ name) = then_some (nat_le 1 mode && nat_le mode 3 && is_label name) (OpenFile mode name)
-asked_by kinds.CloseFile payload = then_some (length payload == 4) (CloseFile (number_at w32 0 payload))
-asked_by kinds.Info payload = then_some (length payload == 4) (Info (number_at w32 0 payload))
-asked_by kinds.Note payload = then_some (is_note payload) (Note payload)
-asked_by kinds.Finish payload = then_some (length payload == 0) Finish
+-- the table: what a payload asks in a message of each kind, if it is one, in frames of this width
+unfoldable pub asked_by : Width → Kind → List ℕ → Option RequestValue
+asked_by width kinds.Banner payload = then_some (length payload == 0) Banner
+asked_by width kinds.Challenge payload = then_some (is_name payload) (Challenge payload)
+asked_by width kinds.Reply payload = then_some (is_reply payload) (Reply payload)
+asked_by width kinds.Abandon payload = then_some (length payload == 0) Abandon
+asked_by width kinds.Export payload = then_some (nat_le (length payload) 8192) (Export payload)
+asked_by width kinds.Import payload = then_some (length payload == 0) Import
+asked_by width kinds.ReadAt payload = then_some (length payload == 14 && nat_le 1 (number_at w16 12 payload) && nat_le (number_at w16 12 payload) (transfer_max width)) (ReadAt (number_at w32 0 payload) (number_at w64 4 payload) (number_at w16 12 payload))
+asked_by width kinds.WriteAt payload = then_some (nat_le 13 (length payload) && nat_le (length payload) (transfer_max width + 12)) (WriteAt (number_at w32 0 payload) (number_at w64 4 payload) (drop 12 payload))
+asked_by width kinds.OpenFile [] = None
+asked_by width kinds.OpenFile (mode ∷ name) = then_some (nat_le 1 mode && nat_le mode 3 && is_label name) (OpenFile mode name)
+asked_by width kinds.CloseFile payload = then_some (length payload == 4) (CloseFile (number_at w32 0 payload))
+asked_by width kinds.Info payload = then_some (length payload == 4) (Info (number_at w32 0 payload))
+asked_by width kinds.Note payload = then_some (is_note payload) (Note payload)
+asked_by width kinds.Finish payload = then_some (length payload == 0) Finish
 
 -- what is wrong with a message, by which rule, and its detail
 abbrev pub bad : ℕ → ℕ → Bad
@@ -37,17 +40,17 @@ or_bad fault None = Err fault
 or_bad fault (Some value) = Ok value
 
 -- what a message with no flags asks
-abbrev pub asked : ℕ → List ℕ → Option Kind → Result RequestValue Bad
-asked kind body None = Err (bad 4 kind)
-asked kind body (Some k) = or_bad (bad 5 kind) (asked_by k body)
+abbrev pub asked : Width → ℕ → List ℕ → Option Kind → Result RequestValue Bad
+asked width kind body None = Err (bad unknown_kind kind)
+asked width kind body (Some k) = or_bad (bad bad_payload kind) (asked_by width k body)
 
 -- the request of the catalogue that a message is, or the first rule that it breaks
-unfoldable pub request_of : ℕ → ℕ → List ℕ → Result RequestValue Bad
-request_of kind flags body = if flags % 2 == 1 then Err (bad 2 flags) else (if flags == 0 then asked kind body (kind_numbered kind) else Err (bad 3 flags))
+unfoldable pub request_of : Width → ℕ → ℕ → List ℕ → Result RequestValue Bad
+request_of width kind flags body = if flags % 2 == 1 then Err (bad descriptor_flag flags) else (if flags == 0 then asked width kind body (kind_numbered kind) else Err (bad other_flags flags))
 
 -- why a message is no request: the first of four rules that it breaks, and its detail
-pub data IsFault (kind flags : ℕ) (body : List ℕ) : Bad → Type 0 where
-  HasDescriptor : flags % 2 ≡ 1 → IsFault kind flags body (bad 2 flags)
-  HasOtherFlags : flags % 2 ≡ 0 → flags ≢ 0 → IsFault kind flags body (bad 3 flags)
-  HasUnknownKind : flags ≡ 0 → ((k : Kind) → kind_number k ≢ kind) → IsFault kind flags body (bad 4 kind)
-  HasBadPayload : flags ≡ 0 → (k : Kind) → kind_number k ≡ kind → ((value : RequestValue) → kind_of value ≡ k → IsInRange value → body ≢ payload_of value) → IsFault kind flags body (bad 5 kind)
+pub data IsFault (width : Width) (kind flags : ℕ) (body : List ℕ) : Bad → Type 0 where
+  HasDescriptor : flags % 2 ≡ 1 → IsFault width kind flags body (bad descriptor_flag flags)
+  HasOtherFlags : flags % 2 ≡ 0 → flags ≢ 0 → IsFault width kind flags body (bad other_flags flags)
+  HasUnknownKind : flags ≡ 0 → ((k : Kind) → kind_number k ≢ kind) → IsFault width kind flags body (bad unknown_kind kind)
+  HasBadPayload : flags ≡ 0 → (k : Kind) → kind_number k ≡ kind → ((value : RequestValue) → kind_of value ≡ k → IsInRange width value → body ≢ payload_of value) → IsFault width kind flags body (bad bad_payload kind)

@@ -2,6 +2,8 @@
 use Rattle.std.specs.Prelude.{ℕ, ◌+◌, ◌^◌, ◌<◌, ◌≤◌, List, [], ◌∷◌, length, Option, Some, None, if◌then◌else◌, nat_le, ◌==◌, ◌&&◌}
 use Rattle.std.specs.Bool.{then_some}
 use Rattle.std.specs.Int.{w32, to_le_bytes}
+use Rattle.request_catalogue.specs.declared.width.Width.{Width}
+use Rattle.request_catalogue.specs.Widths.{body_max}
 use Rattle.request_catalogue.specs.Fields.{number_at}
 use Rattle.request_catalogue.specs.declared.answer.Answer.{Answer}
 use Rattle.request_catalogue.specs.declared.answer.Answer.TheVariants as answers
@@ -28,11 +30,11 @@ IsAnswer (Done body) = Unit {0}
 IsAnswer (Denied rule detail) = (1 ≤ rule) × (rule ≤ 22) × (detail < 2 ^ 32)
 IsAnswer (Device device) = (1 ≤ device) × (device ≤ 2)
 
--- an answer whose reply fits a message
-abbrev pub IsSendable : AnswerValue → Type 0
-IsSendable (Done body) = length body ≤ 16367
-IsSendable (Denied rule detail) = IsAnswer (Denied rule detail)
-IsSendable (Device device) = IsAnswer (Device device)
+-- an answer whose reply, a byte and the body, fits a frame of this width
+abbrev pub IsSendable : Width → AnswerValue → Type 0
+IsSendable width (Done body) = length body < body_max width
+IsSendable width (Denied rule detail) = IsAnswer (Denied rule detail)
+IsSendable width (Device device) = IsAnswer (Device device)
 
 -- the reply of an answer, numbers with their lowest byte first
 unfoldable pub reply_of : AnswerValue → List ℕ

@@ -3,7 +3,7 @@
 /// The monitor's answer to a request. A body is lent.
 #[derive(Clone, Copy, Debug, PartialEq, Eq)]
 pub enum Answer<'a> {
-    /// Permitted and done, with at most 16,367 bytes.
+    /// Permitted and done. A reply holds at most 16,367 bytes of it, or 65,519 in wide frames.
     Done { body: &'a [u8] },
     /// Denied by a rule from 1 to 22.
     Denied { rule: u8, detail: u32 },

@@ -16,7 +16,7 @@ mod writing;
 
 pub use answer::{Answer, Unreadable};
 pub use kind::Kind;
-pub use putting::{BODY_MAX, put};
+pub use putting::put;
 pub use reading::read_request;
 pub use replies::{read_reply, reply_kind, write_reply};
 pub use request::{Bad, Request};

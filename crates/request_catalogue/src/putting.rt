@@ -2,9 +2,6 @@
 
 ghost use Rattle.std.specs.Prelude.{◌≡◌, ◌+◌, ◌≤◌, ◌++◌, length, take, drop};
 
-/// The most bytes of a message's body, and what a buffer for one has.
-pub const BODY_MAX: usize = 16_368;
-
 /// Puts the bytes at a place of the buffer, and gives the place behind them.
 pub fn put(out: &mut [u8], at: usize, bytes: &[u8]) -> usize
     requires { at + length bytes.now ≤ length out.old }

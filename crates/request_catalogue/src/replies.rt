@@ -3,11 +3,13 @@
 ghost use Rattle.std.specs.Prelude.{◌≡◌, ◌≢◌, ◌≤◌, ◌++◌, IfOk, IfErr, IsOkAnd, Some, length, take, drop};
 ghost use Rattle.std.specs.Option.{option_map};
 ghost use Rattle.std.specs.Result.{result_ok};
+ghost use Rattle.request_catalogue.specs.Widths.{body_max};
 ghost use Rattle.request_catalogue.specs.Replies.{AnswerValue, reply_kind_of, answer_of, IsAnswer, IsSendable, reply_of, denied_by, failed_by, answered_by};
 
 use crate::answer::{Answer, Unreadable};
 use crate::fields::number_of;
-use crate::putting::{BODY_MAX, put};
+use crate::putting::put;
+use crate::width::Width;
 
 /// What a reply's kind is above its request's, and the kind of a reply to no request.
 const REPLY: u32 = 256;
@@ -24,24 +26,25 @@ pub fn reply_kind(kind: u32, flags: u16) -> u32
 }
 
 /// Writes the reply of an answer to the front of `out`, and gives its length. A reply is a byte 0
-/// and the body; a byte 1, the rule and the detail; or a byte 2 and the device.
-pub fn write_reply(answer: &Answer, out: &mut [u8]) -> usize
-    requires sendable { IsSendable (answer_of answer.now) }
-    requires room { BODY_MAX ≤ length out.old }
+/// and the body; a byte 1, the rule and the detail; or a byte 2 and the device. The body has at
+/// most 16,367 bytes, or 65,519 in wide frames.
+pub fn write_reply(width: Width, answer: &Answer, out: &mut [u8]) -> usize
+    requires sendable { IsSendable width (answer_of answer.now) }
+    requires room { body_max width ≤ length out.old }
     ensures len { result ≡ length (reply_of (answer_of answer.now)) }
-    ensures within { result ≤ BODY_MAX }
+    ensures within { result ≤ body_max width }
     ensures written { out.new ≡ reply_of (answer_of answer.now) ++ drop result out.old }
     ensures read_back { answered_by (take result out.new) ≡ Some (answer_of answer.now) }
 {
-    put_reply(answer, out)
+    put_reply(width, answer, out)
 }
 
 #[tactic(auto, unfolding(crate::specs::Replies::reply_of))]
-fn put_reply(answer: &Answer, out: &mut [u8]) -> usize
-    requires sendable { IsSendable (answer_of answer.now) }
-    requires room { BODY_MAX ≤ length out.old }
+fn put_reply(width: Width, answer: &Answer, out: &mut [u8]) -> usize
+    requires sendable { IsSendable width (answer_of answer.now) }
+    requires room { body_max width ≤ length out.old }
     ensures len { result ≡ length (reply_of (answer_of answer.now)) }
-    ensures within { result ≤ BODY_MAX }
+    ensures within { result ≤ body_max width }
     ensures written { out.new ≡ reply_of (answer_of answer.now) ++ drop result out.old }
 {
     match answer {

@@ -26,13 +26,13 @@ pub enum Request<'a> {
     },
     /// The predecessor's state.
     Import,
-    /// At most `max` bytes, 1 to 16,000, of a handle from an offset on.
+    /// At most `max` bytes, 1 to 16,000 or in wide frames 60,000, of a handle from an offset on.
     ReadAt {
         handle: u32,
         offset: u64,
         max: u16,
     },
-    /// These bytes, 1 to 16,000, into a handle from an offset on.
+    /// These bytes, 1 to 16,000 or in wide frames 60,000, into a handle from an offset on.
     WriteAt {
         handle: u32,
         offset: u64,

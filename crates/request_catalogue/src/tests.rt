@@ -1,15 +1,27 @@
 use super::*;
 use std::test::*;
 
-/// A message without flags is this request, which is written as the same body.
-fn check_request(rt: &impl std::process::Abort, kind: u32, body: &[u8], request: Request) {
-    assert_eq!(rt; read_request(kind, 0, body), Ok(request));
+/// A message without flags is this request, which is written as the same body, in this width.
+fn check_request_in(
+    rt: &impl std::process::Abort,
+    width: Width,
+    kind: u32,
+    body: &[u8],
+    request: Request,
+) {
+    assert_eq!(rt; read_request(width, kind, 0, body), Ok(request));
     assert_eq!(rt; request.kind().number(), kind);
-    if let Ok(read) = read_request(kind, 0, body) {
-        let mut out = [9; BODY_MAX];
-        let len = write_request(&read, &mut out);
+    if let Ok(read) = read_request(width, kind, 0, body) {
+        let mut out = [9; 65_520];
+        let len = write_request(width, &read, &mut out);
         assert_eq!(rt; &out[..len], body);
     }
+}
+
+/// The same in both widths.
+fn check_request(rt: &impl std::process::Abort, kind: u32, body: &[u8], request: Request) {
+    check_request_in(rt, Width::Narrow, kind, body, request);
+    check_request_in(rt, Width::Wide, kind, body, request);
 }
 
 #[test]
@@ -101,7 +113,42 @@ fn messages_that_are_no_requests(rt: HostRuntime) {
         (13, 0, b"\0".as_slice(), 5, 13),
     ];
     for (kind, flags, body, rule, detail) in wrong {
-        assert_eq!(rt; read_request(kind, flags, body), Err(Bad { rule, detail }));
+        assert_eq!(rt;
+            read_request(Width::Narrow, kind, flags, body),
+            Err(Bad { rule, detail })
+        );
+    }
+}
+
+#[test]
+fn payloads_by_width(rt: HostRuntime) {
+    // A READ's greatest number of bytes, and how many bytes a WRITE has.
+    let widths = [(Width::Narrow, 16_000), (Width::Wide, 60_000)];
+    for (width, most) in widths {
+        let [low, high] = u16::to_le_bytes(most);
+        let read = [7, 0, 0, 0, 0, 0, 0, 0, 0, 0, 0, 0, low, high];
+        let request = Request::ReadAt {
+            handle: 7,
+            offset: 0,
+            max: most,
+        };
+        check_request_in(&rt, width, 7, &read, request);
+        let read = [7, 0, 0, 0, 0, 0, 0, 0, 0, 0, 0, 0, low + 1, high];
+        let refused = Err(Bad { rule: 5, detail: 7 });
+        assert_eq!(rt; read_request(width, 7, 0, &read), refused);
+
+        let mut write = [b'a'; 60_013];
+        write[..12].copy_from_slice(&[0; 12]);
+        let len = 12 + usize::from(most);
+        let bytes = &write[12..len];
+        let request = Request::WriteAt {
+            handle: 0,
+            offset: 0,
+            bytes,
+        };
+        check_request_in(&rt, width, 8, &write[..len], request);
+        let refused = Err(Bad { rule: 5, detail: 8 });
+        assert_eq!(rt; read_request(width, 8, 0, &write[..len + 1]), refused);
     }
 }
 
@@ -149,25 +196,40 @@ fn texts_and_their_rules(rt: HostRuntime) {
 }
 
 /// An answer's reply is these bytes, which are read as the answer.
-fn check_reply(rt: &impl std::process::Abort, answer: Answer, bytes: &[u8]) {
+fn check_reply(rt: &impl std::process::Abort, width: Width, answer: Answer, bytes: &[u8]) {
     assert_eq!(rt; read_reply(bytes), Ok(answer));
     if let Answer::Done { body } = answer
-        && body.len() <= 16_367
+        && body.len() < width.body_max()
     {
-        let mut out = [9; BODY_MAX];
-        let len = write_reply(&answer, &mut out);
+        let mut out = [9; 65_520];
+        let len = write_reply(width, &answer, &mut out);
         assert_eq!(rt; &out[..len], bytes);
     }
 }
 
 #[test]
 fn replies(rt: HostRuntime) {
-    check_reply(&rt, Answer::Done { body: b"" }, &[0]);
-    check_reply(&rt, Answer::Done { body: b"OTP login" }, b"\0OTP login");
-    let mut out = [9; BODY_MAX];
-    let len = write_reply(&Answer::Denied { rule: 2, detail: 1 }, &mut out);
+    let zeros = [0; 65_520];
+    for (width, longest) in [
+        (Width::Narrow, &zeros[..16_368]),
+        (Width::Wide, zeros.as_slice()),
+    ] {
+        check_reply(&rt, width, Answer::Done { body: b"" }, &[0]);
+        check_reply(
+            &rt,
+            width,
+            Answer::Done { body: b"OTP login" },
+            b"\0OTP login",
+        );
+        let (_zero, body) = longest.split_at(1);
+        check_reply(&rt, width, Answer::Done { body }, longest);
+    }
+    let width = Width::Narrow;
+    let mut out = [9; 16_368];
+    let len = write_reply(width, &Answer::Denied { rule: 2, detail: 1 }, &mut out);
     assert_eq!(rt; &out[..len], [1, 2, 1, 0, 0, 0].as_slice());
     let len = write_reply(
+        width,
         &Answer::Denied {
             rule: 17,
             detail: 5,
@@ -175,17 +237,18 @@ fn replies(rt: HostRuntime) {
         &mut out,
     );
     assert_eq!(rt; &out[..len], [1, 0x11, 5, 0, 0, 0].as_slice());
-    let len = write_reply(&Answer::Device { device: 1 }, &mut out);
+    let len = write_reply(width, &Answer::Device { device: 1 }, &mut out);
     assert_eq!(rt; &out[..len], [2, 1].as_slice());
     check_reply(
         &rt,
+        width,
         Answer::Denied {
             rule: 22,
             detail: u32::MAX,
         },
         &[1, 22, 255, 255, 255, 255],
     );
-    check_reply(&rt, Answer::Device { device: 2 }, &[2, 2]);
+    check_reply(&rt, width, Answer::Device { device: 2 }, &[2, 2]);
     let wrong = [
         b"".as_slice(),
         &[1],

@@ -1,32 +1,34 @@
 //! Requests written as the payloads of messages.
 
 ghost use Rattle.std.specs.Prelude.{◌≡◌, ◌≤◌, ◌++◌, Ok, length, take, drop};
+ghost use Rattle.request_catalogue.specs.Widths.{body_max};
 ghost use Rattle.request_catalogue.specs.Kinds.{kind_number};
 ghost use Rattle.request_catalogue.specs.Catalogue.{value_of, kind_of, IsInRange, payload_of};
 ghost use Rattle.request_catalogue.specs.Reading.{request_of};
 
-use crate::putting::{BODY_MAX, put};
+use crate::putting::put;
 use crate::request::Request;
+use crate::width::Width;
 
 /// Writes the payload of a request to the front of `out`, and gives its length. A message of this
-/// payload, the request's kind and flags 0 is read as the request.
-pub fn write_request(request: &Request, out: &mut [u8]) -> usize
-    requires in_range { IsInRange (value_of request.now) }
-    requires room { BODY_MAX ≤ length out.old }
+/// payload, the request's kind and flags 0 is read as the request, in frames of the same width.
+pub fn write_request(width: Width, request: &Request, out: &mut [u8]) -> usize
+    requires in_range { IsInRange width (value_of request.now) }
+    requires room { body_max width ≤ length out.old }
     ensures len { result ≡ length (payload_of (value_of request.now)) }
-    ensures within { result ≤ BODY_MAX }
+    ensures within { result ≤ body_max width }
     ensures written { out.new ≡ payload_of (value_of request.now) ++ drop result out.old }
-    ensures read_back { let value = value_of request.now in request_of (kind_number (kind_of value)) 0 (take result out.new) ≡ Ok value }
+    ensures read_back { let value = value_of request.now in request_of width (kind_number (kind_of value)) 0 (take result out.new) ≡ Ok value }
 {
-    put_payload(request, out)
+    put_payload(width, request, out)
 }
 
 #[tactic(auto, unfolding(crate::specs::Catalogue::payload_of, crate::specs::Texts::is_reply))]
-fn put_payload(request: &Request, out: &mut [u8]) -> usize
-    requires in_range { IsInRange (value_of request.now) }
-    requires room { BODY_MAX ≤ length out.old }
+fn put_payload(width: Width, request: &Request, out: &mut [u8]) -> usize
+    requires in_range { IsInRange width (value_of request.now) }
+    requires room { body_max width ≤ length out.old }
     ensures len { result ≡ length (payload_of (value_of request.now)) }
-    ensures within { result ≤ BODY_MAX }
+    ensures within { result ≤ body_max width }
     ensures written { out.new ≡ payload_of (value_of request.now) ++ drop result out.old }
 {
     match request {

@@ -10,7 +10,7 @@ pub returns-then-held-lt-HEADER_LEN : goal.returns-then-held-lt-HEADER_LEN
 returns-then-held-lt-HEADER_LEN c =
     let s = c.self.inside in
     let short : length (between s.start s.end s.bytes.items) < 16 = rw c.deref.ensures.value at c.if-held-lt-HEADER_LEN.true in
-    rw (← c.self.view_is) ((refl, λ _. tt, refl), record { answer = answer_not_yet _ _ (inl short); room = λ _. partial_has_room _ _ c.self.invariant.low (inl short); after_borrow = tt })
+    rw (← c.self.view_is) ((refl, λ _. tt, refl), record { answer = answer_not_yet _ _ _ (inl short); room = λ _. partial_has_room c.self.inside.width _ _ c.self.invariant.low (inl short); after_borrow = tt })
 
 pub returns-then-not-is_right_len : goal.returns-then-not-is_right_len
 returns-then-not-is_right_len c =
@@ -19,8 +19,9 @@ returns-then-not-is_right_len c =
     let header = rw c.deref.ensures.value at h.bytes in
     let long : 16 ≤ length (between s.start s.end s.bytes.items) = rw c.deref.ensures.value at c.if-held-lt-HEADER_LEN.false in
     let wrong = wrong_len _ s.max (λ right. let yes = c.is_right_len.ensures.1 right in absurd cc) in
-    let bad = IsBadFront-from_header s.max (between s.start s.end s.bytes.items) c.from_front-header.result long header h.fields wrong in
-    rw (← c.self.view_is) ((refl, λ _. tt, refl), record { answer = answer_bad _ _ _ bad; room = λ e. absurd cc; after_borrow = tt })
+    let told = c.told_len.ensures in
+    let bad = IsBadFront-from_header s.width s.max (between s.start s.end s.bytes.items) c.from_front-header.result long header h.fields wrong in
+    rw (← c.self.view_is) ((refl, λ _. tt, refl), record { answer = rw told (answer_bad _ _ _ _ bad); room = λ e. absurd cc; after_borrow = tt })
 
 pub returns-then-held-len : goal.returns-then-held-len
 returns-then-held-len c =
@@ -29,8 +30,8 @@ returns-then-held-len c =
     let header = rw c.deref.ensures.value at h.bytes in
     let right = c.is_right_len.ensures.0 c.if-not-is_right_len.false in
     let short : length (between s.start s.end s.bytes.items) < c.from_front-header.result.len = rw c.deref.ensures.value at c.if-held-len.true in
-    let partial : IsPartialFront s.max (between s.start s.end s.bytes.items) = inr (IsShortFront-from_header _ _ _ header h.fields right.0 right.1 short) in
-    rw (← c.self.view_is) ((refl, λ _. tt, refl), record { answer = answer_not_yet _ _ partial; room = λ _. partial_has_room _ _ c.self.invariant.low partial; after_borrow = tt })
+    let partial : IsPartialFront s.width s.max (between s.start s.end s.bytes.items) = inr (IsShortFront-from_header _ _ _ _ header h.fields right.0 right.1 short) in
+    rw (← c.self.view_is) ((refl, λ _. tt, refl), record { answer = answer_not_yet _ _ _ partial; room = λ _. partial_has_room c.self.inside.width _ _ c.self.invariant.low partial; after_borrow = tt })
 
 pub returns : goal.returns
 returns c =
@@ -43,5 +44,5 @@ returns c =
     let whole : f.len ≤ length bytes = rw c.deref.ensures.value at c.if-held-len.false in
     let fits : s.start + f.len ≤ s.end = omega (arith, whole, c.self.invariant.ordered, length-between s.bytes.items s.start s.end (omega (arith, ap length c.deref.ensures.value, c.self.invariant.within_len))) in
     let body : between (s.start + 16) (s.start + f.len) c.deref-2.result.now ≡ between 16 f.len bytes = rw c.deref-2.ensures.value (between-between s.start s.end 16 f.len s.bytes.items fits) in
-    let parts = Parts-from_header s.max bytes f (between (s.start + 16) (s.start + f.len) c.deref-2.result.now) (between (s.start + f.len) s.end s.bytes.items) header h.fields right.0 right.1 whole body (between-behind s.start s.end f.len s.bytes.items) in
-    rw (← c.self.view_is) ((refl, λ _. tt, (refl, parts.is)), record { answer = answer_frame _ _ _ (record { right = parts.right; front = (_, parts.is) }); room = λ e. absurd cc; after_borrow = tt })
+    let parts = Parts-from_header s.width s.max bytes f (between (s.start + 16) (s.start + f.len) c.deref-2.result.now) (between (s.start + f.len) s.end s.bytes.items) header h.fields right.0 right.1 whole body (between-behind s.start s.end f.len s.bytes.items) in
+    rw (← c.self.view_is) ((refl, λ _. tt, record { width = refl; max = refl; bytes = parts.is }), record { answer = answer_frame _ _ _ _ (record { right = parts.right; front = (_, parts.is) }); room = λ e. absurd cc; after_borrow = tt })

@@ -5,7 +5,8 @@ use Rattle.imsg_frame.proofs.reader.Reader.take_frames.Given as goal
 
 abbrev pub invariant-loop-frame : goal.invariant-loop-frame
 invariant-loop-frame l = record {
-  cut : AddsCut l.initial.self.max (messages_in l.initial.frames.items) l.initial.self.bytes (messages_in l.frames.items) l.self.bytes;
+  cut : AddsCut l.initial.self.width l.initial.self.max (messages_in l.initial.frames.items) l.initial.self.bytes (messages_in l.frames.items) l.self.bytes;
+  width : l.self.width ≡ l.initial.self.width;
   max : l.self.max ≡ l.initial.self.max;
 }
 
