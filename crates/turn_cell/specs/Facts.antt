@@ -1,5 +1,5 @@
 -- The words of the contracts: what they see of a pass and of a cell.
-use Rattle.std.specs.Prelude.{◌≡◌, ℕ, zero, suc, ◌<◌, ◌≤◌, ◌==◌, List, [], ◌∷◌, ◌++◌, filter, length, slice_index_or}
+use Rattle.std.specs.Prelude.{◌≡◌, ℕ, zero, suc, ◌<◌, ◌≤◌, ◌==◌, List, [], ◌∷◌, ◌++◌, filter, length, slice_index_or, Option, Some}
 use Rattle.std.specs.List.{All, Any}
 use Rattle.atomic_table.specs.Seated.{TableId}
 use Rattle.turn_cell.specs.declared.view.View.{View}
@@ -37,6 +37,11 @@ pub record CellFacts (T : Type 0) : Type 0 where
   pub passes : ℕ
   pub quota : ℕ
 
+-- what contracts see of the cell of a table and of its object
+abbrev pub cell_facts : {O T : Type 0} → (O → T) → (O → ℕ) → (O → ℕ) → TableId → O → CellFacts (Option T)
+cell_facts terms passes quota id y = record { id = id; terms = Some (terms y); passes = passes y; quota = quota y }
+
+-- what contracts see of a pass of the cell
 abbrev pub pass_facts : {R T : Type 0} → TableId → View R T → PassFacts R T
 pass_facts cell v = record { number = v.number; cell = cell; terms = v.terms; passes = v.passes; quota = v.quota; seen = v.seen; mine = v.mine }
 

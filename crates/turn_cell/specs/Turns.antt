@@ -33,6 +33,10 @@ Among (y ∷ ys) x = (y ≡ x) ⊎ Among ys x
 abbrev pub IsSeatAt : TableId → TableId → Type 0
 IsSeatAt seat table = (seat ≡ table) × (table.words ≡ 2) × (table.slots ≡ 1)
 
+-- the pass may take the turn: it has neither the turn nor the object
+abbrev pub IsIdle : {O R T : Type 0} → Me O (View R T) → Type 0
+IsIdle me = (me.0.holding ≡ false) × (me.1 ≡ []) × (me.0.live ≡ true)
+
 -- a pass of one number, which may make calls
 abbrev pub IsSingle : {R T : Type 0} → View R T → Type 0
 IsSingle v = (v.live ≡ true) × (v.until ≤ v.from) × (v.folded ≡ [])

@@ -1,7 +1,7 @@
 //! The cell.
 ghost use Rattle.std.specs.Prelude.{◌≡◌, ℕ, ◌+◌, ◌*◌, ◌<◌, ◌≤◌, ◌^◌, List, [], ◌∷◌, ◌++◌, length, vec_len, vec_capacity, true, false, Some, None, IfOk, IfErr};
 ghost use Rattle.std.specs.List.{All};
-ghost use Rattle.turn_cell.specs.Facts.{StartsWith, EndsWith, replies_of, IsSamePass, IsCellOf, AreNewPasses, AreAllPasses, HoldsPass, first_passes};
+ghost use Rattle.turn_cell.specs.Facts.{StartsWith, EndsWith, replies_of, IsSamePass, IsCellOf, AreNewPasses, AreAllPasses, HoldsPass, first_passes, cell_facts};
 ghost use Rattle.turn_cell.specs.Turns.{setting_at, LegalAt, IsSeatAt, Covers, KeptIn, Back, newcomer, pass_from};
 
 use crate::object::Object;
@@ -32,15 +32,17 @@ pub struct TurnCell<O: Object> {
 
 impl<O: Object> Model for TurnCell<O> {
     ghost use Rattle.std.specs.Prelude.{Option};
-    ghost use Rattle.turn_cell.specs.Facts.{CellFacts};
+    ghost use Rattle.turn_cell.specs.Facts.{CellFacts, cell_facts};
 
     ghost Value = { CellFacts (Option O.Terms) };
 
     ghost use Rattle.std.specs.Prelude.{◌≡◌, ◌<◌, Some};
 
-    ghost view = { λ c. record { id = c.table.shared.table_id; terms = Some (O.terms c.table.shared.key.value); passes = O.passes c.table.shared.key.value; quota = O.quota c.table.shared.key.value } };
+    ghost view = { λ c. cell_facts O.terms O.passes O.quota c.table.shared.table_id c.table.shared.key.value };
 
-    ghost invariant = { λ c. (c.table.shared.table_id.words ≡ 2) × (c.table.shared.table_id.slots ≡ 1) × (0 < O.passes c.table.shared.key.value) };
+    ghost invariant = { λ c.
+        (c.table.shared.table_id.words ≡ 2) × (c.table.shared.table_id.slots ≡ 1)
+        × (0 < O.passes c.table.shared.key.value) };
 }
 
 impl<O: Object> TurnCell<O> {
@@ -113,7 +115,11 @@ fn open<O: Object>(
     requires legal { O.legal (O.terms object) [] }
     requires some { 0 < O.passes object }
     requires room { O.passes object * O.quota object < 2 ^ 64 }
-    ensures ok { IfOk result (λ r. (r.1.table_id ≡ r.0.shared.table_id) × (r.0.shared.table_id.words ≡ 2) × (r.0.shared.table_id.slots ≡ 1) × (r.0.shared.key.value ≡ object) × (r.1.me ≡ (newcomer (setting_at O.terms O.passes O.quota object), []))) }
+    ensures ok { IfOk result (λ r.
+        (r.1.table_id ≡ r.0.shared.table_id)
+        × (r.0.shared.table_id.words ≡ 2) × (r.0.shared.table_id.slots ≡ 1)
+        × (r.0.shared.key.value ≡ object)
+        × (r.1.me ≡ (newcomer (setting_at O.terms O.passes O.quota object), []))) }
     ensures err { IfErr result (λ e. e.0 ≡ object) }
 {
     let about = Snapshot::of(&object);
@@ -138,7 +144,7 @@ fn deal<O: Object>(top: &CellTable<O>, first: PassSeat<O>, count: u32, passes: &
     requires count { (count ≡ O.passes top.now.key.value) × (0 < count) }
     requires room { O.passes top.now.key.value * O.quota top.now.key.value < 2 ^ 64 }
     requires empty { (passes.old.items ≡ []) × (count ≤ vec_capacity passes.old) }
-    ensures { passes.new.items ≡ first_passes (record { id = top.now.table_id; terms = Some (O.terms top.now.key.value); passes = O.passes top.now.key.value; quota = O.quota top.now.key.value }) count }
+    ensures { passes.new.items ≡ first_passes (cell_facts O.terms O.passes O.quota top.now.table_id top.now.key.value) count }
 {
     let mut seat = first;
     let mut number = 0;
@@ -174,8 +180,10 @@ fn gather<O: Object>(top: &CellTable<O>, mut passes: Vec<Pass<O>>) -> PassSeat<O
 // The object, once every pass was taken in.
 fn finish<O: Object>(table: WholeTable<O>, seat: PassSeat<O>) -> O
     requires table { IsSeatAt seat.table_id table.shared.table_id }
-    requires all { (seat.me.0.live ≡ true) × (seat.me.0.holding ≡ false) × ((n : ℕ) → n < O.passes table.shared.key.value → Covers seat.me.0 n) }
-    ensures { Back O.history O.owner (setting_at O.terms O.passes O.quota) (LegalAt O.legal) (setting_at O.terms O.passes O.quota table.shared.key.value) seat.me.0 result }
+    requires all { (seat.me.0.live ≡ true) × (seat.me.0.holding ≡ false)
+        × ((n : ℕ) → n < O.passes table.shared.key.value → Covers seat.me.0 n) }
+    ensures { Back O.history O.owner (setting_at O.terms O.passes O.quota) (LegalAt O.legal)
+        (setting_at O.terms O.passes O.quota table.shared.key.value) seat.me.0 result }
 {
     let mut closed = table.close_with(seat);
     let object = closed.take(0);

@@ -35,7 +35,8 @@ pub trait Object: Send + Drop {
         ensures history { history self.new ≡ history self.old ++ result ∷ [] }
         ensures reply { (owner result ≡ who) × (call_of result ≡ call) }
         ensures legal { legal (terms self.new) (history self.new) }
-        ensures same { (terms self.new ≡ terms self.old) × (passes self.new ≡ passes self.old) × (quota self.new ≡ quota self.old) };
+        ensures same { (terms self.new ≡ terms self.old)
+            × (passes self.new ≡ passes self.old) × (quota self.new ≡ quota self.old) };
 
     /// How many callers there may be: their numbers are those below. An object's history is always legal, before the
     /// first call too.

@@ -1,7 +1,7 @@
 // The steps of a cell, on its table and a seat.
 ghost use Rattle.std.specs.Prelude.{◌≡◌, ℕ, ◌<◌, [], ◌∷◌, length, true, false, MatchBool};
 ghost use Rattle.turn_cell.specs.Facts.{replies_of};
-ghost use Rattle.turn_cell.specs.Turns.{setting_at, LegalAt, IsSeatAt, IsSingle, HasTurn, HasReply, Counted, IsCounted, Gave, MadeCall, kept_of, given_of, joined};
+ghost use Rattle.turn_cell.specs.Turns.{setting_at, LegalAt, IsSeatAt, IsIdle, IsSingle, HasTurn, HasReply, Counted, IsCounted, Gave, MadeCall, kept_of, given_of, joined};
 
 use crate::object::Object;
 use crate::pass::PassSeat;
@@ -24,7 +24,8 @@ const TURN: usize = 0;
 
 const COUNT: usize = 1;
 
-// What the turn's word may be: the turn is free; a pass has it; a pass has it, and others may sleep until it is given back.
+// What the turn's word may be: the turn is free; a pass has it; a pass has it, and others may sleep until it is given
+// back.
 const FREE: u64 = 0;
 
 const HELD: u64 = 1;
@@ -38,9 +39,11 @@ const TRIES: u32 = 8;
 fn try_take<O: Object>(top: &CellTable<O>, seat: &mut PassSeat<O>, word: u64) -> bool
     requires word { 0 < word }
     requires table { IsSeatAt seat.old.table_id top.now.table_id }
-    requires idle { (seat.old.me.0.holding ≡ false) × (seat.old.me.1 ≡ []) × (seat.old.me.0.live ≡ true) }
+    requires idle { IsIdle seat.old.me }
     ensures table { seat.new.table_id ≡ seat.old.table_id }
-    ensures took { MatchBool result (HasTurn O.history O.owner (setting_at O.terms O.passes O.quota) (LegalAt O.legal) seat.old.me seat.new.me) (seat.new.me ≡ seat.old.me) }
+    ensures took { MatchBool result
+        (HasTurn O.history O.owner (setting_at O.terms O.passes O.quota) (LegalAt O.legal) seat.old.me seat.new.me)
+        (seat.new.me ≡ seat.old.me) }
 {
     top.compare_exchange::<Taking<O>>(seat, TURN, FREE, word) == FREE
 }
@@ -48,9 +51,11 @@ fn try_take<O: Object>(top: &CellTable<O>, seat: &mut PassSeat<O>, word: u64) ->
 // Takes the turn if it is free, and says in its word that it is awaited in any case.
 fn take_or_await<O: Object>(top: &CellTable<O>, seat: &mut PassSeat<O>) -> bool
     requires table { IsSeatAt seat.old.table_id top.now.table_id }
-    requires idle { (seat.old.me.0.holding ≡ false) × (seat.old.me.1 ≡ []) × (seat.old.me.0.live ≡ true) }
+    requires idle { IsIdle seat.old.me }
     ensures table { seat.new.table_id ≡ seat.old.table_id }
-    ensures took { MatchBool result (HasTurn O.history O.owner (setting_at O.terms O.passes O.quota) (LegalAt O.legal) seat.old.me seat.new.me) (seat.new.me ≡ seat.old.me) }
+    ensures took { MatchBool result
+        (HasTurn O.history O.owner (setting_at O.terms O.passes O.quota) (LegalAt O.legal) seat.old.me seat.new.me)
+        (seat.new.me ≡ seat.old.me) }
 {
     top.swap::<Taking<O>>(seat, TURN, AWAITED) == FREE
 }
@@ -59,9 +64,11 @@ fn take_or_await<O: Object>(top: &CellTable<O>, seat: &mut PassSeat<O>) -> bool
 fn try_often<O: Object>(top: &CellTable<O>, seat: &mut PassSeat<O>, word: u64) -> bool
     requires word { 0 < word }
     requires table { IsSeatAt seat.old.table_id top.now.table_id }
-    requires idle { (seat.old.me.0.holding ≡ false) × (seat.old.me.1 ≡ []) × (seat.old.me.0.live ≡ true) }
+    requires idle { IsIdle seat.old.me }
     ensures table { seat.new.table_id ≡ seat.old.table_id }
-    ensures took { MatchBool result (HasTurn O.history O.owner (setting_at O.terms O.passes O.quota) (LegalAt O.legal) seat.old.me seat.new.me) (seat.new.me ≡ seat.old.me) }
+    ensures took { MatchBool result
+        (HasTurn O.history O.owner (setting_at O.terms O.passes O.quota) (LegalAt O.legal) seat.old.me seat.new.me)
+        (seat.new.me ≡ seat.old.me) }
 {
     for _ in 0..TRIES {
         if top.peek(TURN) == FREE && try_take(top, seat, word) {
@@ -76,7 +83,7 @@ fn try_often<O: Object>(top: &CellTable<O>, seat: &mut PassSeat<O>, word: u64) -
 // was woken says so again, since others may sleep still.
 fn take<O: Object, W: Wait>(rt: &W, top: &CellTable<O>, seat: &mut PassSeat<O>)
     requires table { IsSeatAt seat.old.table_id top.now.table_id }
-    requires idle { (seat.old.me.0.holding ≡ false) × (seat.old.me.1 ≡ []) × (seat.old.me.0.live ≡ true) }
+    requires idle { IsIdle seat.old.me }
     ensures table { seat.new.table_id ≡ seat.old.table_id }
     ensures took { HasTurn O.history O.owner (setting_at O.terms O.passes O.quota) (LegalAt O.legal) seat.old.me seat.new.me }
 {
@@ -146,15 +153,18 @@ pub(crate) fn split<O: Object>(top: &CellTable<O>, seat: &mut PassSeat<O>) -> Pa
     requires table { IsSeatAt seat.old.table_id top.now.table_id }
     requires some_left { (seat.old.me.0.holding ≡ false) × (seat.old.me.0.from < seat.old.me.0.until) }
     ensures table { (seat.new.table_id ≡ seat.old.table_id) × (result.table_id ≡ seat.old.table_id) }
-    ensures views { (seat.new.me ≡ (kept_of seat.old.me.0, seat.old.me.1)) × (result.me ≡ (given_of seat.old.me.0, [])) }
+    ensures views { (seat.new.me ≡ (kept_of seat.old.me.0, seat.old.me.1))
+        × (result.me ≡ (given_of seat.old.me.0, [])) }
 {
     top.split_seat::<Splitting>(seat)
 }
 
 // Takes a pass in.
 pub(crate) fn absorb<O: Object>(top: &CellTable<O>, seat: &mut PassSeat<O>, other: PassSeat<O>)
-    requires table { (seat.old.table_id ≡ top.now.table_id) × (other.table_id ≡ top.now.table_id) × (top.now.table_id.words ≡ 2) × (top.now.table_id.slots ≡ 1) }
-    requires idle { (seat.old.me.0.holding ≡ false) × (other.me.0.holding ≡ false) × (other.me.0.live ≡ true) × (other.me.1 ≡ []) }
+    requires table { (seat.old.table_id ≡ top.now.table_id) × (other.table_id ≡ top.now.table_id)
+        × (top.now.table_id.words ≡ 2) × (top.now.table_id.slots ≡ 1) }
+    requires idle { (seat.old.me.0.holding ≡ false)
+        × (other.me.0.holding ≡ false) × (other.me.0.live ≡ true) × (other.me.1 ≡ []) }
     ensures table { seat.new.table_id ≡ seat.old.table_id }
     ensures view { seat.new.me ≡ (joined seat.old.me.0 other.me.0, seat.old.me.1) }
 {
