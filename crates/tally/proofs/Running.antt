@@ -1,4 +1,4 @@
-use Rattle.std.proofs.Common.{◌≡◌, ℕ, ◌+◌, ◌&&◌, Bool, true, false, List, [], ◌∷◌, ◌++◌, ◌∙◌, refl, ap, eq-eqb}
+use Rattle.std.proofs.Common.{◌≡◌, ℕ, ◌+◌, ◌&&◌, Bool, true, false, List, [], ◌∷◌, ◌++◌, refl, eq-eqb}
 use Rattle.std.specs.Prelude.{◌==◌}
 use Rattle.tally.specs.declared.object.Added.{Added}
 use Rattle.tally.specs.Sums.{is_running, end_of}

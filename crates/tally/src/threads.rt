@@ -10,7 +10,7 @@ use std::thread::Threads;
 use turn_cell::{Object, Pass, TurnCell};
 
 // Makes the call so many times.
-fn make_calls<O: Object, W: Wait>(
+pub(crate) fn make_calls<O: Object, W: Wait>(
     rt: &W,
     cell: &TurnCell<O>,
     pass: &mut Pass<O>,

@@ -45,7 +45,7 @@ new_passes {R} {T} c ps e =
 
 -- ---- the passes at the end
 
-set_length : {X : Type 0} (xs : List X) (k : ℕ) (x : X) → length (slice_set xs k x) ≡ length xs
+pub set_length : {X : Type 0} (xs : List X) (k : ℕ) (x : X) → length (slice_set xs k x) ≡ length xs
 set_length [] k x = refl
 set_length (y ∷ xs) zero x = refl
 set_length (y ∷ xs) (suc k) x = let e : length (slice_set xs k x) ≡ length xs = set_length xs k x in omega arith

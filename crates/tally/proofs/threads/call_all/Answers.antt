@@ -1,24 +1,13 @@
-use Rattle.std.proofs.Common.{◌≡◌, ◌<◌, ◌+◌, ◌++◌, ℕ, List, [], length, take, drop, sym, ap, subst, ◌∙◌, arith}
-use Rattle.std.proofs.Math.Seq.{take-append_seam}
+use Rattle.std.proofs.Common.{◌≡◌, ◌<◌, ℕ, List, length, drop, sym, ap, subst, ◌∙◌, arith}
 use Rattle.std.specs.List.{All}
 use Rattle.std.specs.Prelude.{Option as Maybe, slice_index_or}
-use Rattle.turn_cell.specs.Facts.{PassFacts, first_pass, AreAllPasses, StartsWith, replies_of}
-use Rattle.turn_cell.proofs.Ends.{all_new, all_same}
+use Rattle.turn_cell.specs.Facts.{PassFacts, first_pass, StartsWith, replies_of}
+use Rattle.tally.proofs.Written.{written_whole, all_written}
 use Rattle.tally.proofs.threads.call_all.Goals as goal
-
-written_whole : {X : Type 0} (xs zs : List X) (n : ℕ) → n ≡ length xs → take n (xs ++ zs) ≡ xs
-written_whole xs zs n e = subst (λ (k : ℕ). take k (xs ++ zs) ≡ xs) (sym e) (take-append_seam xs zs)
 
 pub close-requires-clause-all : goal.close-requires-clause-all
 close-requires-clause-all g c κs within =
-    let cell = c.in_ok-cell.cell in
-    let after = c.call_from_all.new.passes in
-    let lent = subst (λ (l : List (PassFacts g.row.O-Reply.Denot (Maybe g.row.O-Terms.Denot))). AreAllPasses cell l) (sym c.deref_mut.ensures.value) (all_new cell c.in_ok-cell.passes.items c.in_ok-cell.ensures.passes) in
-    let all = all_same cell c.deref_mut.result.now after lent c.call_from_all.auto.passes c.call_from_all.ensures.same in
-    let news_len : length after ≡ length c.deref_mut.result.now = c.call_from_all.auto.passes in
-    let same_len : c.in_ok-cell.passes.len ≡ length after = let a = ap (λ (l : List (PassFacts g.row.O-Reply.Denot (Maybe g.row.O-Terms.Denot))). length l) c.deref_mut.ensures.value in let b = c.in_ok-cell.passes.ok in omega arith in
-    let back = written_whole after (drop (length after) c.in_ok-cell.passes.items) c.in_ok-cell.passes.len same_len in
-    subst (λ (l : List (PassFacts g.row.O-Reply.Denot (Maybe g.row.O-Terms.Denot))). AreAllPasses cell l) (sym back) all
+    all_written c.in_ok-cell.cell c.in_ok-cell.passes.items c.deref_mut.result.now c.call_from_all.new.passes c.in_ok-cell.passes.len c.in_ok-cell.ensures.passes c.deref_mut.ensures.value (let b = c.in_ok-cell.passes.ok in omega arith) c.call_from_all.auto.passes c.call_from_all.ensures.same
 
 pub returns-clause-calls : goal.returns-clause-calls
 returns-clause-calls g c n h =

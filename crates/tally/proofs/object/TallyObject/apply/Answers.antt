@@ -1,4 +1,4 @@
-use Rattle.std.proofs.Common.{◌≡◌, ◌<◌, ◌≤◌, ◌*◌, ◌+◌, ◌∙◌, sym, ap, subst, ℕ, List, ◌++◌, ◌∷◌, [], length, length-append, arith, refl, true, vec_len}
+use Rattle.std.proofs.Common.{◌≡◌, ◌+◌, ◌∙◌, sym, ap, subst, ℕ, List, ◌++◌, ◌∷◌, [], length, length-append, arith, true}
 use Rattle.turn_cell.specs.Facts.{IsWithin}
 use Rattle.turn_cell.proofs.Counts.{room_for, within_more}
 use Rattle.tally.specs.declared.object.Added.{Added}
