@@ -1,10 +1,10 @@
 -- The import record that bytes spell, and the bytes that spell it.
-use Rattle.std.proofs.Common.{◌≡◌, ℕ, suc, ◌^◌, ◌<◌, ◌≤◌, ◌+◌, Bool, true, false, leb, eqb, List, [], ◌∷◌, ◌++◌, length, take, drop, get_or, Some, None, Result, Ok, Err, refl, lit<, lit≤, sym, ap, subst, ◌∙◌, append_assoc, arith, IsTrue}
+use Rattle.std.proofs.Common.{◌≡◌, ℕ, ◌^◌, ◌<◌, ◌≤◌, Bool, true, leb, List, [], ◌∷◌, ◌++◌, length, take, drop, Result, Ok, Err, refl, sym, ap, subst, ◌∙◌, arith}
 use Rattle.std.specs.Prelude.{IfOk, IsOkAnd, MatchResult, slice_index}
 use Rattle.std.specs.Bool.{then_some}
 use Rattle.std.specs.Int.{w32, to_le_bytes}
 use Rattle.std.proofs.lemmas.Bool.{leb-true, le-leb}
-use Rattle.std.proofs.lemmas.List.{take-append-drop, length-append, length-take-le, length-drop, take_at, drop_at}
+use Rattle.std.proofs.lemmas.List.{take-append-drop, length-append, length-take-le, take_at, drop_at}
 use Rattle.std.proofs.lemmas.Nat.{from_le_bytes-to_le_bytes_4}
 use Rattle.request_catalogue.specs.Fields.{number_at}
 use Rattle.request_catalogue.specs.Texts.{is_name}
@@ -15,7 +15,7 @@ use Rattle.state_export.specs.declared.fault.ImportFault.TheVariants.{Head}
 use Rattle.state_export.specs.declared.fault.StateFault.{StateFault}
 use Rattle.state_export.specs.declared.import.Import.{Import}
 use Rattle.state_export.specs.Reading.{demand, import_of, imported, state_of, ◌>>=◌}
-use Rattle.state_export.specs.Spelling.{ImportValue, IsImport, IsState, StateValue, import_bytes, import_value, state_bytes}
+use Rattle.state_export.specs.Spelling.{ImportValue, IsImport, StateValue, import_bytes, import_value, state_bytes}
 use Rattle.state_export.proofs.Fields.{after, behind_is_bytes}
 use Rattle.state_export.proofs.States.{state_read, state_written}
 

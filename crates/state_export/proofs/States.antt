@@ -1,5 +1,5 @@
 -- The state that bytes spell, and the bytes that spell it.
-use Rattle.std.proofs.Common.{◌≡◌, ℕ, ◌^◌, ◌<◌, ◌≤◌, ◌+◌, Bool, true, false, leb, eqb, List, [], ◌∷◌, ◌++◌, codes, length, take, drop, Some, None, Result, Ok, Err, refl, lit<, lit≤, sym, ap, subst, ◌∙◌, append_assoc, arith}
+use Rattle.std.proofs.Common.{◌≡◌, ℕ, ◌^◌, eqb, List, [], ◌++◌, codes, length, take, drop, Result, Ok, Err, lit<, lit≤, sym, ap, subst, ◌∙◌, append_assoc, arith}
 use Rattle.std.specs.Bool.{then_some}
 use Rattle.std.specs.Int.{w32, to_le_bytes}
 use Rattle.std.specs.Str.{bytes_eq}
@@ -9,7 +9,7 @@ use Rattle.std.proofs.lemmas.List.{append-nil, nil_from_length, take-append-drop
 use Rattle.std.proofs.lemmas.Nat.{from_le_bytes-to_le_bytes_4}
 use Rattle.std.proofs.lemmas.Slice.Eq.{bytes_eq-Decides}
 use Rattle.request_catalogue.specs.Fields.{number_at}
-use Rattle.request_catalogue.proofs.Numbers.{IsBytes, IsBytes-part, wide32, last_number, number_at-below, to_le_bytes-number_at}
+use Rattle.request_catalogue.proofs.Numbers.{IsBytes, wide32, last_number, number_at-below, to_le_bytes-number_at}
 use Rattle.state_export.specs.declared.fault.StateFault.{StateFault}
 use Rattle.state_export.specs.declared.fault.StateFault.TheVariants.{Magic, Trailing}
 use Rattle.state_export.specs.declared.state.State.{State}

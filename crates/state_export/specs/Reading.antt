@@ -1,5 +1,5 @@
 -- Believed: the state that bytes spell and the import record that they spell, or their first fault.
-use Rattle.std.specs.Prelude.{◌≡◌, ℕ, List, ◌∷◌, codes, drop, length, take, Option, Some, None, Result, Ok, Err, nat_le, slice_index, ◌==◌, ◌&&◌}
+use Rattle.std.specs.Prelude.{ℕ, List, codes, drop, length, take, Option, Some, None, Result, Ok, Err, nat_le, slice_index, ◌==◌, ◌&&◌}
 use Rattle.std.specs.Bool.{then_some}
 use Rattle.std.specs.Int.{w16, w32}
 use Rattle.std.specs.Str.{bytes_eq}

@@ -1,5 +1,5 @@
 -- Believed: the exported state and the import record, and the one spelling of each.
-use Rattle.std.specs.Prelude.{◌≡◌, ℕ, ◌^◌, ◌<◌, ◌≤◌, List, ◌∷◌, ◌++◌, codes, length, IsTrue}
+use Rattle.std.specs.Prelude.{ℕ, ◌^◌, ◌<◌, ◌≤◌, List, ◌∷◌, ◌++◌, codes, length, IsTrue}
 use Rattle.std.specs.Int.{w16, w32, to_le_bytes}
 use Rattle.request_catalogue.specs.Texts.{is_name}
 use Rattle.request_catalogue.specs.TextBytes.{name_bytes}

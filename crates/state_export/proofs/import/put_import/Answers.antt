@@ -1,8 +1,7 @@
-use Rattle.std.proofs.Common.{◌≡◌, ℕ, List, ◌++◌, ◌∷◌, [], take, drop, sym, ap, ◌∙◌, append_assoc, length, arith}
+use Rattle.std.proofs.Common.{ℕ, List, ◌++◌, ◌∷◌, [], drop, ap, ◌∙◌, length, arith}
 use Rattle.std.specs.Int.{w32, to_le_bytes}
-use Rattle.request_catalogue.specs.TextBytes.{name_bytes}
 use Rattle.state_export.specs.Spelling.{import_bytes}
-use Rattle.state_export.proofs.Puts.{IsFront, at_first, on}
+use Rattle.state_export.proofs.Puts.{at_first, on}
 use Rattle.state_export.proofs.import.put_import.Goals as goal
 
 pub returns-clause-written : goal.returns-clause-written

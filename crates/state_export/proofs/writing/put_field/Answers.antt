@@ -1,7 +1,7 @@
-use Rattle.std.proofs.Common.{◌≡◌, ℕ, ◌+◌, List, ◌++◌, ◌∷◌, [], take, drop, sym, ap, ◌∙◌, append_assoc, length, arith}
+use Rattle.std.proofs.Common.{◌≡◌, ℕ, ◌+◌, List, ◌++◌, ◌∷◌, [], take, drop, ap, ◌∙◌, append_assoc, length, arith}
 use Rattle.std.specs.Int.{w16, to_le_bytes}
 use Rattle.state_export.specs.Spelling.{field_bytes}
-use Rattle.state_export.proofs.Puts.{IsFront, at_first, on}
+use Rattle.state_export.proofs.Puts.{at_first, on}
 use Rattle.state_export.proofs.writing.put_field.Goals as goal
 
 -- three parts behind a front, as one field

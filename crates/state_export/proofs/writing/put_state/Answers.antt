@@ -1,7 +1,7 @@
-use Rattle.std.proofs.Common.{◌≡◌, ℕ, List, ◌++◌, ◌∷◌, [], codes, take, drop, sym, ap, refl, ◌∙◌, append_assoc, length, arith}
+use Rattle.std.proofs.Common.{◌≡◌, ℕ, List, ◌++◌, ◌∷◌, [], codes, drop, ap, ◌∙◌, append_assoc, arith}
 use Rattle.std.specs.Int.{w32, to_le_bytes}
-use Rattle.state_export.specs.Spelling.{counts_bytes, field_bytes, state_bytes, value_of}
-use Rattle.state_export.proofs.Puts.{IsFront, at_first, on}
+use Rattle.state_export.specs.Spelling.{field_bytes, state_bytes, value_of}
+use Rattle.state_export.proofs.Puts.{at_first, on}
 use Rattle.state_export.proofs.writing.put_state.Goals as goal
 
 -- the parts of a state, one behind the other

@@ -1,0 +1,55 @@
+//! Forms: the pieces of what a stored function says.
+
+ghost use Rattle.std.specs.Prelude.{◌≡◌, ◌≤◌, length};
+
+use crate::card::Short;
+
+/// The most pieces of a form.
+const PIECES_MAX: usize = 8;
+
+/// A part of a form: a fixed text, or a part of the card.
+#[derive(Clone, Copy, Debug)]
+pub enum Piece {
+    Fixed(Short),
+    Name,
+    /// In decimal digits.
+    Uid,
+    /// `md5` or `sha1`.
+    Algo,
+    /// In decimal digits.
+    Sequence,
+}
+
+/// At most eight pieces, one behind the other.
+#[derive(Clone, Copy, Debug)]
+pub struct Form {
+    pieces: [Piece; 8],
+    len: u8,
+    ghost whole: { length pieces ≡ 8 },
+    ghost within: { len ≤ 8 },
+}
+
+impl Form {
+    ghost use Rattle.info_hooks.specs.Said.{form_pieces};
+
+    /// The form of these pieces.
+    pub fn of(pieces: &[Piece]) -> Form
+        requires { length pieces.now ≤ 8 }
+        ensures { form_pieces result ≡ pieces.now }
+    {
+        let mut padded = [Piece::Name; PIECES_MAX];
+        padded[..pieces.len()].copy_from_slice(pieces);
+        Form {
+            pieces: padded,
+            len: pieces.len() as u8,
+        }
+    }
+
+    /// The pieces.
+    pub fn as_slice(&self) -> &[Piece]
+        ensures pieces { result.now ≡ form_pieces self.now }
+        ensures few { length result.now ≤ 8 }
+    {
+        &self.pieces[..usize::from(self.len)]
+    }
+}
