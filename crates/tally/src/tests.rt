@@ -30,7 +30,7 @@ fn one_after_the_other(rt: HostRuntime) {
     assert_eq!(&rt; tally.log.len(), 3);
 }
 
-// Where an allocation fails, as under `rt try --test --fail-alloc 1..`, the tally comes back as it was.
+// Where an allocation fails, as by `rt try --test --fail-alloc N`, the tally comes back as it was.
 #[test]
 fn a_cell_has_its_passes_or_the_tally_comes_back(rt: HostRuntime) {
     let tally = Tally::new(rt.alloc(), 2, 3).expect(&rt, "memory");
