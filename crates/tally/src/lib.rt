@@ -8,4 +8,4 @@ mod tests;
 pub mod threads;
 
 pub use object::{Added, Tally};
-pub use threads::{call_all, call_from_all};
+pub use threads::{THREADS, call_all, call_from_all};

@@ -24,23 +24,20 @@ fn one_after_the_other(rt: HostRuntime) {
     assert_eq!(&rt; (passes[0].number(), passes[0].made()), (0, 2));
     assert_eq!(&rt; (passes[1].number(), passes[1].made()), (1, 1));
     let tally = cell.close(passes);
-    for (added, want) in tally.log().iter().zip([5, 12, 13]) {
+    for (added, want) in tally.log.iter().zip([5, 12, 13]) {
         assert_eq!(&rt; added.total, want);
     }
-    assert_eq!(&rt; tally.log().len(), 3);
+    assert_eq!(&rt; tally.log.len(), 3);
 }
 
-// Where an allocation fails, as under `rt try --test --fail-alloc 1..`, the tally comes back as it was.
+// Where an allocation fails, as by `rt try --test --fail-alloc N`, the tally comes back as it was.
 #[test]
 fn a_cell_has_its_passes_or_the_tally_comes_back(rt: HostRuntime) {
     let tally = Tally::new(rt.alloc(), 2, 3).expect(&rt, "memory");
     match TurnCell::new(rt.alloc(), tally) {
         Ok((_cell, passes)) => assert_eq!(&rt; passes.len(), 2),
         Err((tally, _)) => {
-            assert_eq!(&rt;
-                (tally.passes(), tally.quota(), tally.log().len()),
-                (2, 3, 0)
-            );
+            assert_eq!(&rt; (tally.passes, tally.quota, tally.log.len()), (2, 3, 0));
         }
     }
 }
@@ -52,12 +49,12 @@ fn two_threads_of_three_calls(rt: HostRuntime) {
     let Ok(tally) = call_all(&rt, rt.alloc(), tally, 1, 3) else {
         panic!(&rt; "memory")
     };
-    assert_eq!(&rt; tally.log().len(), 6);
-    for (place, added) in tally.log().iter().enumerate() {
+    assert_eq!(&rt; tally.log.len(), 6);
+    for (place, added) in tally.log.iter().enumerate() {
         assert_eq!(&rt; added.total, place as u64 + 1);
     }
     assert_eq!(&rt;
-        tally.log().iter().filter(|added| added.owner == 0).count(),
+        tally.log.iter().filter(|added| added.owner == 0).count(),
         3
     );
 }
@@ -68,8 +65,8 @@ fn eight_threads_of_ten_thousand_calls(rt: HostRuntime) {
     let Ok(tally) = call_all(&rt, rt.alloc(), tally, 3, 10_000) else {
         panic!(&rt; "memory")
     };
-    assert_eq!(&rt; tally.log().len(), 80_000);
-    let Some(last) = tally.log().last() else {
+    assert_eq!(&rt; tally.log.len(), 80_000);
+    let Some(last) = tally.log.last() else {
         panic!(&rt; "no call was made")
     };
     assert_eq!(&rt; last.total, 240_000);
@@ -208,8 +205,8 @@ fn seven_wait_for_one(rt: HostRuntime) {
     call_while_held(&rt, &cell, &signs, &mut passes, 1);
     let slow = cell.close(passes);
     assert_eq!(&rt; signs.came.load(Ordering::SeqCst), 7);
-    assert_eq!(&rt; slow.tally.log().len(), 8);
-    for (place, added) in slow.tally.log().iter().enumerate() {
+    assert_eq!(&rt; slow.tally.log.len(), 8);
+    for (place, added) in slow.tally.log.iter().enumerate() {
         assert_eq!(&rt;
             (added.total, added.owner == 0),
             (place as u64 + 1, place == 0)

@@ -9,6 +9,9 @@ use std::thread;
 use std::thread::Threads;
 use turn_cell::{Object, Pass, TurnCell};
 
+/// The most threads that calls are made from at one time.
+pub const THREADS: usize = 64;
+
 // Makes the call so many times.
 pub(crate) fn make_calls<O: Object, W: Wait>(
     rt: &W,
@@ -31,7 +34,7 @@ where
     }
 }
 
-/// Each pass makes the call so many times, on threads of their own.
+/// Each pass makes the call so many times, on threads of their own, which are at most `THREADS`.
 pub fn call_from_all<O: Object, R: Threads + Wait + Sync>(
     rt: &R,
     cell: &TurnCell<O>,
@@ -44,13 +47,15 @@ where
     requires cell { AllWithin (λ p. p.cell ≡ cell.now.id) passes.old 0 (length passes.old) }
     requires proper { O.proper call }
     requires quota { AllWithin (λ p. length p.mine + times ≤ p.quota) passes.old 0 (length passes.old) }
-    ensures same { (k : ℕ) (d : _) → k < length passes.old → IsSamePass (slice_index_or passes.new k d) (slice_index_or passes.old k d) }
-    ensures mine { (k : ℕ) (d : _) → k < length passes.old → length (slice_index_or passes.new k d).mine ≡ length (slice_index_or passes.old k d).mine + times }
+    ensures same { (k : ℕ) (d : _) → k < length passes.old →
+        IsSamePass (slice_index_or passes.new k d) (slice_index_or passes.old k d) }
+    ensures mine { (k : ℕ) (d : _) → k < length passes.old →
+        length (slice_index_or passes.new k d).mine ≡ length (slice_index_or passes.old k d).mine + times }
 {
     thread::for_each_mut(
         rt,
         passes,
-        64,
+        THREADS,
         &|_, pass: &mut Pass<O>|
             requires proper { O.proper call }
             requires cell { (pass.old.cell ≡ cell.now.id) × (length pass.old.mine + times ≤ pass.old.quota) }
@@ -60,7 +65,8 @@ where
     );
 }
 
-/// One cell over the object, which every pass calls so many times from threads of their own.
+/// One cell over the object, whose passes each make the call so many times, on threads of their own. The object comes
+/// back with all of these calls, or, where memory is wanted for the cell, as it was.
 pub fn call_all<O: Object, R: Threads + Wait + Sync>(
     rt: &R,
     alloc: Global,
