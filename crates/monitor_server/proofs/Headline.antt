@@ -22,7 +22,7 @@ use Rattle.session_model.specs.Ends.{is_fault_end, is_keeper_end, is_link_end, i
 use Rattle.session_model.specs.Places.{Place, places_of, step_acts}
 use Rattle.session_model.specs.Parts.{IsAnswered}
 use Rattle.session_model.specs.Sittings.{AreSittingsOf, IsSitting, Sitting, all_steps}
-use Rattle.session_model.specs.Stories.{AcceptFailed, IsStory, LastAccept, NoneLeft, Unasked, is_stop, parts_of, story_acts}
+use Rattle.session_model.specs.Stories.{AcceptFailed, IsStory, LastAccept, NoAcceptBehindLoss, NoneLeft, Unasked, is_stop, parts_of, story_acts}
 use Rattle.session_model.proofs.Answered.{all_answered}
 use Rattle.session_model.proofs.Ends.{lost_places}
 use Rattle.session_model.proofs.Lists.{any-none, count-any, count-cons, count-none}
@@ -47,12 +47,12 @@ IfSome-weaker (Some x) P Q weaker h = weaker x h
 
 -- what a worker did is some sessions, which are all its events
 sittings_of : (connections : ℕ) (last : LastAccept) (journal : List Event) (worker : ℕ) (scene : Option Scene) (a l k : ℕ) → (ran : WorkerRan connections last (places_of journal worker) scene a l k) → AreSittingsOf journal worker ran.sittings
-sittings_of connections last journal worker scene a l k ran = record { places = ran.all; each = ran.each }
+sittings_of connections last journal worker scene a l k ran = record { places = ran.all; each = ran.each; alone = ran.alone }
 
 pub sessions_in_order : {P : Type 0} (status : ℕ) (journal : List Event) (posts : List P) (scene : P → Option Scene) (accept_faults link_faults keeper_faults : P → ℕ) → RunEnded status journal posts scene accept_faults link_faults keeper_faults → SessionsInOrder journal
 sessions_in_order {P} status journal posts scene accept_faults link_faults keeper_faults run = record { in_order = λ worker. go worker (slice_get posts worker) refl } where
   go : (worker : ℕ) (o : Option P) → slice_get posts worker ≡ o → (sittings : List Sitting) × AreSittingsOf journal worker sittings
-  go worker None is = ([], record { places = run.ran.unbegun worker (get_past posts worker is); each = tt })
+  go worker None is = ([], record { places = run.ran.unbegun worker (get_past posts worker is); each = tt; alone = tt })
   go worker (Some post) is =
       let did = run.ran.each worker post (slice_get_within posts worker post is) is in
       (did.2.sittings, sittings_of 1 did.0 journal worker (scene post) (accept_faults post) (link_faults post) (keeper_faults post) did.2)
@@ -68,8 +68,8 @@ conversations_match status journal posts scene accept_faults link_faults keeper_
 -- the operations are those of the same sessions
 pub operations_match : {P : Type 0} (scene : P → Option Scene) (journal : List Event) (posts : List P) → ConversationsMatch scene journal posts → OperationsMatch scene journal posts
 operations_match scene journal posts match = record {
-  done = λ worker post is. IfSome-weaker (scene post) (λ s. (sittings : List Sitting) × (last : LastAccept) × AreSittingsOf journal worker sittings × IsStory sittings last s) (λ s. (sittings : List Sitting) × (last : LastAccept) × AreSittingsOf journal worker sittings × (s.acts ≡ story_acts sittings last))
-      (λ s held. (held.0, held.1, held.2, held.3.acts)) (match.held worker post is);
+  done = λ worker post is. IfSome-weaker (scene post) (λ s. (sittings : List Sitting) × (last : LastAccept) × AreSittingsOf journal worker sittings × IsStory sittings last s) (λ s. (sittings : List Sitting) × (last : LastAccept) × AreSittingsOf journal worker sittings × NoAcceptBehindLoss sittings last × (s.acts ≡ story_acts sittings last))
+      (λ s held. (held.0, held.1, held.2, held.3.halted, held.3.acts)) (match.held worker post is);
 }
 
 -- ---- accepts by which no connection came
@@ -282,7 +282,7 @@ no_post : {P : Type 0} {X : Type 0} (posts : List P) (worker : ℕ) (post : P) �
 no_post posts worker post none is = absurd (let e : None ≡ Some post = sym (ap (λ ps. slice_get ps worker) none) ∙ is in cc)
 
 pub unused_sessions : (journal : List Event) → journal ≡ [] → SessionsInOrder journal
-unused_sessions journal events = record { in_order = λ worker. ([], record { places = ap (λ j. places_of j worker) events; each = tt }) }
+unused_sessions journal events = record { in_order = λ worker. ([], record { places = ap (λ j. places_of j worker) events; each = tt; alone = tt }) }
 
 unused_legal : (journal : List Event) → journal ≡ [] → JournalIsLegal plain_settings journal
 unused_legal journal events = subst (JournalIsLegal plain_settings) (sym events) (record { legal = IsLegal-none {table = narrow_row} plain_settings; proper = tt; workers = tt; few = omega arith })

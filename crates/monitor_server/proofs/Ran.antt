@@ -12,7 +12,7 @@ use Rattle.policy_model.specs.declared.event.Event.{Event}
 use Rattle.session_model.specs.Ends.{is_keeper_end, is_link_end}
 use Rattle.session_model.specs.Places.{places_of, step_places}
 use Rattle.session_model.specs.Sittings.{Sitting, all_steps}
-use Rattle.session_model.specs.Stories.{AcceptFailed, ArePlanned, IsStory, LastAccept, Unasked, parts_of, story_acts, talk_of}
+use Rattle.session_model.specs.Stories.{AcceptFailed, ArePlanned, IsStory, LastAccept, NoAcceptBehindLoss, Unasked, parts_of, story_acts, talk_of}
 use Rattle.session_model.proofs.Ends.{lost_places}
 use Rattle.monitor_server.specs.declared.worker.WorkerEnd.{WorkerEnd}
 use Rattle.monitor_server.specs.declared.worker.WorkerEnd.TheVariants as ends
@@ -56,14 +56,15 @@ fresh_next posts i new scene accept_faults keeper_faults link_faults conn_faults
 }
 
 -- what a fresh post tells after its worker ran
-story_told : (sittings : List Sitting) (last : LastAccept) (before after : Option Scene) → IfSome before IsUnplayed → Goes (Played (story_acts sittings last) (map talk_of (parts_of sittings)) (map (λ part. part.unread) (parts_of sittings))) before after → Goes (λ b a. ArePlanned b.plan (came_count b.acts) sittings) before after → IfSome after (IsStory sittings last)
-story_told sittings last before None fresh played planned = tt
-story_told sittings last None (Some a) fresh played planned = absurd played
-story_told sittings last (Some b) (Some a) fresh played planned = record {
+story_told : (sittings : List Sitting) (last : LastAccept) (before after : Option Scene) → IfSome before IsUnplayed → Goes (Played (story_acts sittings last) (map talk_of (parts_of sittings)) (map (λ part. part.unread) (parts_of sittings))) before after → Goes (λ b a. ArePlanned b.plan (came_count b.acts) sittings) before after → NoAcceptBehindLoss sittings last → IfSome after (IsStory sittings last)
+story_told sittings last before None fresh played planned halted = tt
+story_told sittings last None (Some a) fresh played planned halted = absurd played
+story_told sittings last (Some b) (Some a) fresh played planned halted = record {
   acts = played.acts ∙ ap (λ acts. acts ++ story_acts sittings last) fresh.acts;
   talks = played.talks ∙ ap (λ talks. talks ++ map talk_of (parts_of sittings)) fresh.talks;
   unread = played.unread ∙ ap (λ unread. unread ++ map (λ part. part.unread) (parts_of sittings)) fresh.unread;
   planned = subst (λ n. ArePlanned a.plan n sittings) (ap came_count fresh.acts) (subst (λ plan. ArePlanned plan (came_count b.acts) sittings) (sym played.plan) planned);
+  halted = halted;
 }
 
 by_end : (connections : ℕ) (end : WorkerEnd) (sittings : List Sitting) (lost : ℕ) → last_of end ≡ Unasked → lost ≡ 0 → (end ≡ ends.AllServed → length sittings ≡ connections) → (end ≡ ends.LogLost → 1 ≤ lost) → length sittings ≡ connections
@@ -99,7 +100,8 @@ worker_ran worker connections end old new before after link_old keeper_old link_
       sittings = story.sittings;
       each = story.are.each;
       all = places;
-      story = story_told story.sittings (last_of end) before after fresh story.are.played story.are.planned;
+      alone = story.alone;
+      story = story_told story.sittings (last_of end) before after fresh story.are.played story.are.planned story.halted;
       quota = λ last none. by_end connections end story.sittings (lost_places steps) last (sym (ap lost_places places) ∙ none) story.all story.lost;
       failed = λ last. failed (failed_end end last);
       link = subst (λ ps. RoseBy (asks_among is_link_end ps) 0 link_new) (sym places) (subst (λ n. RoseBy (asks_among is_link_end steps) n link_new) no_link story.counted.link);

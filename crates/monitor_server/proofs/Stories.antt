@@ -18,11 +18,12 @@ use Rattle.policy_model.specs.declared.event.Why.TheVariants as whys
 use Rattle.policy_model.specs.Asks.{is_lost}
 use Rattle.session_model.specs.Ends.{is_keeper_end, is_link_end, is_lost_end}
 use Rattle.session_model.specs.Places.{Step, step_acts, step_places}
-use Rattle.session_model.specs.Sittings.{Follows, IsSitting, Sitting, all_steps}
+use Rattle.session_model.specs.Sittings.{Follows, IsSitting, Sitting, all_steps, ends_by_loss}
 use Rattle.session_model.specs.Parts.{Part}
 use Rattle.session_model.specs.Stories.{ArePlanned, IsPlanned, LastAccept, Unasked, last_acts, parts_of, story_acts, talk_of}
 use Rattle.session_model.proofs.Ends.{keeper_requests, link_requests, lost_ends, lost_places, lost_requests}
 use Rattle.session_model.proofs.Lists.{All-push, count-append, count-cons}
+use Rattle.session_model.proofs.Losses.{GoesOnBehind}
 use Rattle.session_model.proofs.Sittings.{later_steps, passes_end, passing}
 use Rattle.session_model.proofs.Steps.{FailsRequests}
 use Rattle.session_model.proofs.Stories.{acts-append, all_came, places-append, planned_more}
@@ -165,6 +166,23 @@ among-more test ss s =
     ap (λ steps. asks_among test (step_places steps)) (steps_more ss s)
     ∙ ap (asks_among test) (places-append (flat_map all_steps ss) (all_steps s))
     ∙ count-append (λ p. test p.event.ask) (step_places (flat_map all_steps ss)) (step_places (all_steps s))
+
+-- a session that ended otherwise than by a loss leaves its worker to go on
+not_lost : (why : Why) → (why ≡ whys.LogLost → ⊥) → is_lost_end (asks.End why) ≡ false
+not_lost whys.LogLost other = absurd (other refl)
+not_lost whys.Finished other = refl
+not_lost whys.ChildEnded other = refl
+not_lost whys.Truncated other = refl
+not_lost (whys.BadFrame len) other = refl
+not_lost (whys.Violation rule) other = refl
+not_lost whys.KeeperFault other = refl
+not_lost whys.LinkFault other = refl
+
+pub goes_on_behind : (s : Sitting) (why : Why) → EndsFor why s.ending → (why ≡ whys.LogLost → ⊥) → GoesOnBehind s
+goes_on_behind s why ended other = go s.ending ended where
+  go : (ending : Option Step) → EndsFor why ending → ends_by_loss ending ≡ false
+  go None ended = absurd (other ended)
+  go (Some step) ended = ap is_lost_end ended ∙ not_lost why other
 
 pub counted_none : (link keeper : ℕ) → EndsCounted [] link keeper link keeper
 counted_none link keeper = record { link = RoseBy-none link; keeper = RoseBy-none keeper }

@@ -29,6 +29,9 @@ use Rattle.monitor_server.proofs.Headline.{IsModeStatus, Unserved, moded, unused
 none-some : {A B : Type 0} (o : Option A) (a : A) → o ≡ None → o ≡ Some a → B
 none-some o a none some = absurd (let e : None ≡ Some a = sym none ∙ some in cc)
 
+some_parts : (parts other : OtpParts) → Some parts ≡ Some other → parts ≡ other
+some_parts parts other e = cc
+
 serve_no_password : (words : List (List ℕ)) → words ≡ serve_words → asks_otp words ≡ None
 serve_no_password words serve = ap asks_otp serve
 
@@ -103,15 +106,17 @@ detail-by status_of detail_by outcome status detail is told plain four five = to
 -- ---- all that is said of each command
 
 -- where nobody was served, and a mode ran
-moded-leaves : {F S E K P : Type 0} {words : List (List ℕ)} {status : ℕ} {detail : Detail} {journal : List Event} {posts : List P} {files_old files_new : F} {site_old site_new : S} {ends_old ends_new : E} {log_old log_new : K} → words ≢ serve_words → (asks_otp words ≡ None → asks_check words ≡ None → ⊥) → site_new ≡ site_old → IsUnused log_old log_new journal posts → ((status ≡ 3) ⊎ (status ≡ 9) → ends_new ≡ ends_old) → (status ≢ 4 → status ≢ 5 → detail ≡ Nothing) → LeavesRest words status detail files_old files_new site_old site_new ends_old ends_new log_old log_new journal posts
-moded-leaves unserved asked site unused silent plain = record {
+moded-leaves : {F S E K P : Type 0} {words : List (List ℕ)} {status : ℕ} {detail : Detail} {journal : List Event} {posts : List P} {files_old files_new : F} {site_old site_new : S} {ends_old ends_new : E} {log_old log_new : K} → words ≢ serve_words → (asks_otp words ≡ None → asks_check words ≡ None → ⊥) → site_new ≡ site_old → IsUnused log_old log_new journal posts → ((parts : OtpParts) → asks_otp words ≡ Some parts → parts.list ≡ None → files_new ≡ files_old) → ((status ≡ 3) ⊎ (status ≡ 9) → ends_new ≡ ends_old) → (asks_check words ≡ None → (status ≡ 4) ⊎ (status ≡ 5) → ends_new ≡ ends_old) → (status ≢ 4 → status ≢ 5 → detail ≡ Nothing) → LeavesRest words status detail files_old files_new site_old site_new ends_old ends_new log_old log_new journal posts
+moded-leaves unserved asked site unused unread silent unprinted plain = record {
   files = λ otp check. absurd (asked otp check);
   ends = λ otp check. absurd (asked otp check);
   site = λ _. site;
   unserved = λ _. unused;
   unbegun = λ _. unused;
   unremembered = λ _. unused;
+  unread = unread;
   silent = silent;
+  unprinted = unprinted;
   plain = plain;
 }
 
@@ -129,14 +134,16 @@ module _ {F S E K P : Type 0} {words : List (List ℕ)} {status : ℕ} {detail :
       unserved = λ ne. absurd (ne serve);
       unbegun = λ six. unbegun (inl six);
       unremembered = λ nine. unbegun (inr nine);
+      unread = λ _ _ _. files;
       silent = λ _. ends;
+      unprinted = λ _ _. ends;
       plain = λ _ _. plain;
     };
   }
 
-  pub whole-password : (parts : OtpParts) → asks_otp words ≡ Some parts → PasswordRan parts status detail contents before after ReadFailed EndsFailed → IsUnused log_old log_new journal posts → ((status ≡ 3) ⊎ (status ≡ 9) → ends_new ≡ ends_old) → held_new ≡ held_old → site_new ≡ site_old
+  pub whole-password : (parts : OtpParts) → asks_otp words ≡ Some parts → PasswordRan parts status detail contents before after ReadFailed EndsFailed → IsUnused log_old log_new journal posts → (parts.list ≡ None → files_new ≡ files_old) → ((status ≡ 3) ⊎ (status ≡ 9) → ends_new ≡ ends_old) → ((status ≡ 4) ⊎ (status ≡ 5) → ends_new ≡ ends_old) → held_new ≡ held_old → site_new ≡ site_old
       → Whole words status detail journal posts scene accept_faults link_faults keeper_faults files_old files_new site_old site_new ends_old ends_new log_old log_new contents before after held_old held_new ListenRose LogRose ReadFailed EndsFailed
-  whole-password parts asked ran unused silent held site =
+  whole-password parts asked ran unused unread silent at_list held site =
       let status_is = sym ran.status_is in
       let of : IsModeStatus status = subst IsModeStatus status_is (password_status ran.outcome) in
       record {
@@ -147,7 +154,7 @@ module _ {F S E K P : Type 0} {words : List (List ℕ)} {status : ℕ} {detail :
               inr (subst (λ p. PasswordRan p status detail contents before after ReadFailed EndsFailed) same ran);
         };
         check = record { ran = λ setup is. none-some (asks_otp words) parts (check_no_password words setup is) asked };
-        leaves = moded-leaves (password_no_serve words parts asked) (λ none _. none-some (asks_otp words) parts none asked) site unused silent (detail-by passwords.status_of detail_of ran.outcome status detail ran.status_is ran.detail_is (password_detail ran.outcome));
+        leaves = moded-leaves (password_no_serve words parts asked) (λ none _. none-some (asks_otp words) parts none asked) site unused (λ other is none. unread (ap (λ p. p.list) (some_parts parts other (sym asked ∙ is)) ∙ none)) silent (λ _. at_list) (detail-by passwords.status_of detail_of ran.outcome status detail ran.status_is ran.detail_is (password_detail ran.outcome));
       }
 
   pub whole-checked : (setup : List ℕ) → asks_check words ≡ Some setup → CheckRan setup status detail contents before after ReadFailed EndsFailed → IsUnused log_old log_new journal posts → ((status ≡ 3) ⊎ (status ≡ 9) → ends_new ≡ ends_old) → held_new ≡ held_old → site_new ≡ site_old
@@ -163,7 +170,7 @@ module _ {F S E K P : Type 0} {words : List (List ℕ)} {status : ℕ} {detail :
               let same : setup ≡ other = (let e : Some setup ≡ Some other = sym asked ∙ is in cc) in
               inr (subst (λ p. CheckRan p status detail contents before after ReadFailed EndsFailed) same ran);
         };
-        leaves = moded-leaves (check_no_serve words setup asked) (λ _ none. none-some (asks_check words) setup none asked) site unused silent (detail-by checks.status_of checked_detail ran.outcome status detail ran.status_is ran.detail_is (check_detail ran.outcome));
+        leaves = moded-leaves (check_no_serve words setup asked) (λ _ none. none-some (asks_check words) setup none asked) site unused (λ parts is _. none-some (asks_otp words) parts (check_no_password words setup asked) is) silent (λ none _. none-some (asks_check words) setup none asked) (detail-by checks.status_of checked_detail ran.outcome status detail ran.status_is ran.detail_is (check_detail ran.outcome));
       }
 
   -- nothing was done
@@ -180,7 +187,9 @@ module _ {F S E K P : Type 0} {words : List (List ℕ)} {status : ℕ} {detail :
       unserved = λ _. unused;
       unbegun = λ _. unused;
       unremembered = λ _. unused;
+      unread = λ _ _ _. files;
       silent = λ _. ends;
+      unprinted = λ _ _. ends;
       plain = λ _ _. plain;
     };
   } where

@@ -18,7 +18,7 @@ use Rattle.session_model.specs.Ends.{is_fault_end, is_keeper_end, is_link_end}
 use Rattle.session_model.specs.Log.{line_of, log_text}
 use Rattle.session_model.specs.Parts.{IsAnswered}
 use Rattle.session_model.specs.Sittings.{AreSittingsOf, Sitting}
-use Rattle.session_model.specs.Stories.{IsStory, LastAccept, is_stop, parts_of, story_acts}
+use Rattle.session_model.specs.Stories.{IsStory, LastAccept, NoAcceptBehindLoss, is_stop, parts_of, story_acts}
 use Rattle.monitor_server.specs.Commands.{IsCommand, serve_words}
 
 -- ---- the journal is legal
@@ -30,7 +30,7 @@ pub record JournalIsLegal (setup : Settings) (journal : List Event) : Type 0 whe
   pub workers : AllByRecursion (IsOfWorker setup) journal
   pub few : length journal ≤ 1048576
 
--- a worker's events are its sessions, one after the other; a lost opening alone may stand behind them
+-- a worker's events are its sessions, one after the other; at most one lost opening stands behind them
 pub record SessionsInOrder (journal : List Event) : Type 0 where
   pub in_order : (worker : ℕ) → (sittings : List Sitting) × AreSittingsOf journal worker sittings
 
@@ -40,9 +40,9 @@ pub record SessionsInOrder (journal : List Event) : Type 0 where
 abbrev pub EachScene : {P : Type 0} → (P → Option Scene) → List P → (ℕ → Scene → Type 0) → Type 0
 EachScene {P} scene posts Holds = (worker : ℕ) (post : P) → slice_get posts worker ≡ Some post → IfSome (scene post) (Holds worker)
 
--- the operations done are those of the sessions, and nothing else but a last accept
+-- the operations done are those of the sessions, and nothing else but a last accept, which stands behind no loss
 pub record OperationsMatch {P : Type 0} (scene : P → Option Scene) (journal : List Event) (posts : List P) : Type 0 where
-  pub done : EachScene scene posts (λ worker s. (sittings : List Sitting) × (last : LastAccept) × AreSittingsOf journal worker sittings × (s.acts ≡ story_acts sittings last))
+  pub done : EachScene scene posts (λ worker s. (sittings : List Sitting) × (last : LastAccept) × AreSittingsOf journal worker sittings × NoAcceptBehindLoss sittings last × (s.acts ≡ story_acts sittings last))
 
 -- the same sessions have the bytes that passed, and those that were left unread
 pub record ConversationsMatch {P : Type 0} (scene : P → Option Scene) (journal : List Event) (posts : List P) : Type 0 where

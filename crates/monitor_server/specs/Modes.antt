@@ -65,7 +65,8 @@ pub record CheckMode (words : List (List ℕ)) (status : ℕ) (detail : Detail) 
   pub ran : (setup : List ℕ) → asks_check words ≡ Some setup → (status ≡ 9) ⊎ CheckRan setup status detail contents before after ReadFailed EndsFailed
 
 -- what a mode doesn't use it leaves as it was: all but `otp` and `check` the files and the ends, all but `serve` the site, the log
--- and the posts; with 3 and 9 nothing was received or sent; the detail tells of 4 and 5 alone
+-- and the posts; `otp` leaves the files where the words name no list; with 3 and 9 nothing was received or sent, and with 4 and 5
+-- only by `check`; the detail tells of 4 and 5 alone
 pub record LeavesRest {F S E K P : Type 0} (words : List (List ℕ)) (status : ℕ) (detail : Detail) (files_old files_new : F) (site_old site_new : S) (ends_old ends_new : E) (log_old log_new : K) (journal : List Event) (posts : List P) : Type 0 where
   pub files : asks_otp words ≡ None → asks_check words ≡ None → files_new ≡ files_old
   pub ends : asks_otp words ≡ None → asks_check words ≡ None → ends_new ≡ ends_old
@@ -73,5 +74,7 @@ pub record LeavesRest {F S E K P : Type 0} (words : List (List ℕ)) (status : �
   pub unserved : words ≢ serve_words → IsUnused log_old log_new journal posts
   pub unbegun : status ≡ 6 → IsUnused log_old log_new journal posts
   pub unremembered : status ≡ 9 → IsUnused log_old log_new journal posts
+  pub unread : (parts : OtpParts) → asks_otp words ≡ Some parts → parts.list ≡ None → files_new ≡ files_old
   pub silent : (status ≡ 3) ⊎ (status ≡ 9) → ends_new ≡ ends_old
+  pub unprinted : asks_check words ≡ None → (status ≡ 4) ⊎ (status ≡ 5) → ends_new ≡ ends_old
   pub plain : status ≢ 4 → status ≢ 5 → detail ≡ Nothing

@@ -9,7 +9,7 @@ use Rattle.policy_model.specs.Asks.{is_lost}
 use Rattle.policy_model.specs.Settings.{plain_settings}
 use Rattle.session_model.specs.Ends.{is_keeper_end, is_link_end}
 use Rattle.session_model.specs.Places.{Place, places_of, step_places}
-use Rattle.session_model.specs.Sittings.{IsSitting, Sitting, all_steps}
+use Rattle.session_model.specs.Sittings.{IsSitting, NoneBehindLoss, Sitting, all_steps}
 use Rattle.session_model.specs.Stories.{AcceptFailed, IsStory, LastAccept, Unasked}
 use Rattle.monitor_server.specs.declared.report.Detail.{Detail}
 use Rattle.monitor_server.specs.Headline.{ConversationsMatch, FaultEndsAreCounted, IsComplete, JournalIsLegal, LogMatches, NoFault, OperationsMatch, RunsToQuota, SessionsInOrder, StatusHasCause}
@@ -21,6 +21,7 @@ pub record WorkerRan (connections : ℕ) (last : LastAccept) (places : List Plac
   pub sittings : List Sitting
   pub each : AllByRecursion IsSitting sittings
   pub all : places ≡ step_places (flat_map all_steps sittings)
+  pub alone : NoneBehindLoss sittings
   pub story : IfSome scene (IsStory sittings last)
   pub quota : last ≡ Unasked → count_by (λ p. is_lost p.event.decision) places ≡ 0 → length sittings ≡ connections
   pub failed : last ≡ AcceptFailed → 0 < accept_faults

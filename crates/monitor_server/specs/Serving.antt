@@ -26,8 +26,8 @@ use Rattle.session_model.specs.Places.{Place, Step, places_of, step_acts, step_p
 use Rattle.session_model.specs.Acts.{Operation, Sends, Starts, asked, has_connection_fault, is_failed_start}
 use Rattle.session_model.specs.Answers.{answer_to, answers}
 use Rattle.session_model.specs.Parts.{EndsSo, GoesOn, IsPart, IsRequestStep, LastSent, Part, requests_of, step_bytes}
-use Rattle.session_model.specs.Sittings.{IsSitting, IsUnframed, Sitting, all_steps}
-use Rattle.session_model.specs.Stories.{AcceptFailed, ArePlanned, IsPlanned, LastAccept, NoneLeft, Unasked, parts_of, story_acts, talk_of}
+use Rattle.session_model.specs.Sittings.{IsSitting, IsUnframed, NoneBehindLoss, Sitting, all_steps}
+use Rattle.session_model.specs.Stories.{AcceptFailed, ArePlanned, IsPlanned, LastAccept, NoAcceptBehindLoss, NoneLeft, Unasked, parts_of, story_acts, talk_of}
 use Rattle.monitor_server.specs.declared.worker.WorkerEnd.{WorkerEnd}
 use Rattle.monitor_server.specs.declared.worker.WorkerEnd.TheVariants as ends
 
@@ -209,6 +209,8 @@ last_of ends.LogLost = Unasked
 pub record HasStory (worker connections : ℕ) (end : WorkerEnd) (old new : List Event) (before after : Option Scene) (link_old keeper_old link_new keeper_new : ℕ) : Type 0 where
   pub sittings : List Sitting
   pub are : HasSittings worker sittings (last_of end) old new before after
+  pub alone : NoneBehindLoss sittings
+  pub halted : NoAcceptBehindLoss sittings (last_of end)
   pub all : end ≡ ends.AllServed → length sittings ≡ connections
   pub lost : end ≡ ends.LogLost → 1 ≤ count_by (λ p. is_lost p.event.decision) (step_places (flat_map all_steps sittings))
   pub counted : EndsCounted sittings link_old keeper_old link_new keeper_new

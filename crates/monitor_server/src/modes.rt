@@ -1,6 +1,6 @@
 //! The modes that serve nobody.
 
-ghost use Rattle.std.specs.Prelude.{◌≡◌, ◌⊎◌};
+ghost use Rattle.std.specs.Prelude.{◌≡◌, ◌⊎◌, None};
 ghost use Rattle.outside.specs.Files.{SameFiles};
 ghost use Rattle.outside.specs.Told.{Goes, Rose};
 ghost use Rattle.otp_mode.specs.Command.{command_parts};
@@ -23,7 +23,9 @@ pub(crate) fn print_password<F: Files, P, K, E: Stream>(
 ) -> Report<P, K>
     ensures password { PasswordRan (command_parts command.now) result.status result.detail (F.contents files.new) (E.link ends.old) (E.link ends.new) (Rose (F.read_faults files.old) (F.read_faults files.new)) (Rose (E.faults ends.old) (E.faults ends.new)) }
     ensures unused { IsUnused log result.log result.journal.items result.posts.items }
+    ensures no_list { (command_parts command.now).list ≡ None → files.new ≡ files.old }
     ensures silent { (result.status ≡ 3) ⊎ (result.status ≡ 9) → ends.new ≡ ends.old }
+    ensures at_list { (result.status ≡ 4) ⊎ (result.status ≡ 5) → ends.new ≡ ends.old }
     ensures files { Goes SameFiles (F.contents files.old) (F.contents files.new) }
 {
     match run_otp(alloc, command, files, ends) {

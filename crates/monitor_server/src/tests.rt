@@ -12,11 +12,16 @@ use outside::{
 use std::alloc::{AllocError, Global};
 use std::test::Fail as Fault;
 
+mod polite;
+
 /// The child before the login of the first session.
 const PRE: Role = Role::Pre { session: 1 };
 
 /// WRITE of `hi` to the client's connection.
 const WRITE_HI: &[u8] = b"\x08\0\0\0\x1e\0\0\0\0\0\0\0\0\0\0\0\0\0\0\0\0\0\0\0\0\0\0\0hi";
+
+/// FINISH.
+const FINISH: &[u8] = b"\x0d\0\0\0\x10\0\0\0\0\0\0\0\0\0\0\0";
 
 /// WRITE of `hi` and FINISH.
 const SMALLEST: &[u8] = b"\x08\0\0\0\x1e\0\0\0\0\0\0\0\0\0\0\0\0\0\0\0\0\0\0\0\0\0\0\0hi\
@@ -114,6 +119,17 @@ fn the_smallest_run_succeeds(rt: HostRuntime) -> Result<(), Fault> {
         assert_eq!(rt; report.posts.len(), 1);
         assert_eq!(rt; report.posts[0].acts(), acts.as_slice());
     }
+    Ok(())
+}
+
+/// What is held is served before more is received: the child may wait for its replies.
+#[test]
+fn the_smallest_run_in_one_piece_is_received_once(rt: HostRuntime) -> Result<(), Fault> {
+    let second = fail(CallKind::Recv, 2, 0);
+    let report = serve(rt.alloc(), SMALLEST, &[100], &[second], &[])?;
+    assert_eq!(rt; report.status, 0);
+    assert_eq!(rt; log_of(&report), SMALLEST_LOG.as_bytes());
+    assert_eq!(rt; sent_to_child(&report), Some(BOTH_DONE));
     Ok(())
 }
 

@@ -5,3 +5,4 @@ pub mod Sittings
 pub mod Ends
 pub mod Stories
 pub mod Answered
+pub mod Losses

@@ -1,5 +1,5 @@
 -- One session of a worker, and all of them.
-use Rattle.std.specs.Prelude.{◌≡◌, ◌≢◌, ℕ, true, false, List, [], ◌∷◌, ◌++◌, Option, Some, None, option_to_list}
+use Rattle.std.specs.Prelude.{◌≡◌, ◌≢◌, ℕ, Bool, true, false, List, [], ◌∷◌, ◌++◌, Option, Some, None, option_to_list}
 use Rattle.std.specs.List.{AllByRecursion, flat_map}
 use Rattle.outside.specs.declared.act.Role.TheVariants.{Pre}
 use Rattle.policy_model.specs.declared.event.Ask.TheVariants as asks
@@ -8,6 +8,7 @@ use Rattle.policy_model.specs.declared.event.Why.TheVariants as whys
 use Rattle.policy_model.specs.declared.event.Event.{Event}
 use Rattle.policy_model.specs.Asks.{is_permit, is_lost}
 use Rattle.session_model.specs.Places.{Step, step_places, places_of}
+use Rattle.session_model.specs.Ends.{is_lost_end}
 use Rattle.session_model.specs.Acts.{AreActsOf, has_failed_start}
 use Rattle.session_model.specs.Parts.{Part, IsPart, requests_of}
 
@@ -49,7 +50,23 @@ pub record IsSitting (sitting : Sitting) : Type 0 where
   pub unframed : IsUnframed sitting.opening
   pub round : Follows sitting.opening sitting.parts sitting.ending
 
--- the sessions of a worker, one after the other, are all its events
+-- an end of a session behind which its worker serves no more: there is none, since the opening is lost, or it came because a
+-- decision was lost
+abbrev pub ends_by_loss : Option Step → Bool
+ends_by_loss None = true
+ends_by_loss (Some ending) = is_lost_end ending.place.event.ask
+
+abbrev pub ends_worker : Sitting → Bool
+ends_worker sitting = ends_by_loss sitting.ending
+
+-- behind such a session stands no other
+abbrev pub NoneBehindLoss : List Sitting → Type 0
+NoneBehindLoss [] = Unit {0}
+NoneBehindLoss (sitting ∷ behind) = (ends_worker sitting ≡ true → behind ≡ []) × NoneBehindLoss behind
+
+-- the sessions of a worker, one after the other, are all its events; one that was lost, or ended because a decision was lost, is
+-- the last
 pub record AreSittingsOf (journal : List Event) (worker : ℕ) (sittings : List Sitting) : Type 0 where
   pub places : places_of journal worker ≡ step_places (flat_map all_steps sittings)
   pub each : AllByRecursion IsSitting sittings
+  pub alone : NoneBehindLoss sittings

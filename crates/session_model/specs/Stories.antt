@@ -1,6 +1,6 @@
 -- All that a worker did, against what its post tells.
 use Rattle.std.specs.Prelude.{◌≡◌, ℕ, ◌+◌, Bool, true, false, List, [], ◌∷◌, ◌++◌, map}
-use Rattle.std.specs.List.{flat_map, AllByRecursion}
+use Rattle.std.specs.List.{flat_map, list_any, AllByRecursion}
 use Rattle.outside.specs.declared.act.Act.{Act}
 use Rattle.outside.specs.declared.act.Act.TheVariants.{Accept}
 use Rattle.outside.specs.declared.act.Accepted.TheVariants as accepted
@@ -8,7 +8,7 @@ use Rattle.outside.specs.declared.act.Talk.{Talk}
 use Rattle.outside.specs.Scene.{Scene, bytes_at}
 use Rattle.session_model.specs.Places.{step_acts}
 use Rattle.session_model.specs.Parts.{Part}
-use Rattle.session_model.specs.Sittings.{Sitting, all_steps}
+use Rattle.session_model.specs.Sittings.{Sitting, all_steps, ends_worker}
 
 -- the accept after which a worker stopped: no connection was left, or it failed; none where it stopped otherwise
 pub data LastAccept : Type 0 where
@@ -45,9 +45,14 @@ ArePlanned plan count (sitting ∷ sittings) = IsPlanned plan (count + 1) sittin
 abbrev pub story_acts : List Sitting → LastAccept → List Act
 story_acts sittings last = step_acts (flat_map all_steps sittings) ++ last_acts last
 
+-- behind a session that was lost, or ended because a decision was lost, its worker accepts no more
+abbrev pub NoAcceptBehindLoss : List Sitting → LastAccept → Type 0
+NoAcceptBehindLoss sittings last = list_any ends_worker sittings ≡ true → last ≡ Unasked
+
 -- what a post tells of a worker that had these sessions and stopped so
 pub record IsStory (sittings : List Sitting) (last : LastAccept) (scene : Scene) : Type 0 where
   pub acts : scene.acts ≡ story_acts sittings last
   pub talks : scene.talks ≡ map talk_of (parts_of sittings)
   pub unread : scene.unread ≡ map (λ part. part.unread) (parts_of sittings)
   pub planned : ArePlanned scene.plan 0 sittings
+  pub halted : NoAcceptBehindLoss sittings last

@@ -10,7 +10,7 @@ use Rattle.monitor_server.proofs.top.run_command.Goals as goal
 pub returns-in-Ok-Password-clause-whole : goal.returns-in-Ok-Password-clause-whole
 returns-in-Ok-Password-clause-whole g c =
     let unused = c.print_password.ensures.unused in
-    whole-password (command_parts c.in-Ok-Password.command) (subst (λ command. IsReading c.args.words.now (Ok command)) c.in-Ok-Password.field-0-is c.in-Ok-Password.ensures) c.print_password.ensures.password unused c.print_password.ensures.silent (ap g.K.Sink.held unused.log) refl
+    whole-password (command_parts c.in-Ok-Password.command) (subst (λ command. IsReading c.args.words.now (Ok command)) c.in-Ok-Password.field-0-is c.in-Ok-Password.ensures) c.print_password.ensures.password unused c.print_password.ensures.no_list c.print_password.ensures.silent c.print_password.ensures.at_list (ap g.K.Sink.held unused.log) refl
 
 pub returns-in-Err-NoCommand-clause-whole : goal.returns-in-Err-NoCommand-clause-whole
 returns-in-Err-NoCommand-clause-whole g c =

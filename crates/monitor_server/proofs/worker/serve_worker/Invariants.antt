@@ -1,9 +1,11 @@
 use Rattle.std.proofs.Common.{◌≡◌, ◌+◌, ◌*◌, ◌≤◌, List, length, vec_len, vec_capacity}
+use Rattle.std.specs.List.{AllByRecursion}
 use Rattle.monitor_server.specs.Book.{Logged}
 use Rattle.monitor_server.specs.Serving.{EndsCounted, HasSittings}
 use Rattle.monitor_server.specs.Session.{Ended}
 use Rattle.session_model.specs.Sittings.{Sitting}
 use Rattle.session_model.specs.Stories.{Unasked}
+use Rattle.session_model.proofs.Losses.{GoesOnBehind}
 use Rattle.monitor_server.proofs.worker.serve_worker.Given as goal
 
 abbrev pub invariant-loop : goal.invariant-loop
@@ -13,6 +15,7 @@ invariant-loop g l = record {
   capacity : vec_capacity l.book.journal ≡ vec_capacity l.fn.book.journal;
   max : l.reader.max ≡ 16384;
   story : (sittings : List Sitting) × HasSittings l.worker sittings Unasked l.fn.book.journal.items l.book.journal.items (g.P.Post.scene l.fn.post) (g.P.Post.scene l.post)
-      × (length sittings ≡ l.counter) × EndsCounted sittings (g.P.Post.link_faults l.fn.post) (g.P.Post.keeper_faults l.fn.post) (g.P.Post.link_faults l.post) (g.P.Post.keeper_faults l.post);
+      × (length sittings ≡ l.counter) × EndsCounted sittings (g.P.Post.link_faults l.fn.post) (g.P.Post.keeper_faults l.fn.post) (g.P.Post.link_faults l.post) (g.P.Post.keeper_faults l.post)
+      × AllByRecursion GoesOnBehind sittings;
   logged : Logged l.setup l.fn.book.journal.items l.book.journal.items (g.K.Sink.held l.fn.book.log) (g.K.Sink.held l.book.log) (g.K.Sink.faults l.fn.book.log) (g.K.Sink.faults l.book.log);
 }
