@@ -13,7 +13,7 @@ use crate::accounts::accounts_of;
 use crate::fault::{SetupError, SetupKey, SetupRule, Spot};
 use crate::info::info_of;
 use crate::known::{Level, are_known};
-use crate::settings::{bounded, counts_of, texts_of};
+use crate::settings::{check_product, counts_of, texts_of};
 use policy_model::{Setup, SetupParts, Text};
 use std::alloc::{AllocError, Global};
 use toml::Table;
@@ -58,7 +58,7 @@ fn settings_of(alloc: Global, table: &Table) -> Result<Setup, SetupError>
     let texts = texts_of(table)?;
     let counts = counts_of(table)?;
     let info = info_of(alloc, table)?;
-    let counts = bounded(counts)?;
+    let counts = check_product(counts)?;
     let accounts = accounts_of(alloc, table)?;
     let parts = SetupParts {
         socket: copied(alloc, texts.socket)?,

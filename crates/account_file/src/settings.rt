@@ -84,7 +84,7 @@ pub fn counts_of(table: &Table) -> Result<Counts, SetupFault>
 }
 
 /// The counts again, where a run makes at most 1,048,576 events by them.
-pub fn bounded(counts: Counts) -> Result<Counts, SetupFault>
+pub fn check_product(counts: Counts) -> Result<Counts, SetupFault>
     requires workers { counts.workers ≤ 64 }
     requires connections { counts.connections ≤ 4096 }
     requires requests { counts.requests ≤ 4096 }

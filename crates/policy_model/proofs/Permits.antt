@@ -15,8 +15,8 @@ use Rattle.policy_model.specs.declared.event.Decision.TheVariants.{Permit, Deny,
 use Rattle.policy_model.specs.declared.event.Event.{Event}
 use Rattle.policy_model.specs.declared.phase.Phase.{Phase}
 use Rattle.policy_model.specs.declared.phase.Row.{Row}
-use Rattle.policy_model.specs.Asks.{accepts, exports, is_challenge_for, is_denied_reply, is_export, is_lost, is_permit, is_reply, is_request, permits_kind, request_number, takes_user, value_of}
-use Rattle.policy_model.specs.Journal.{asks_of, count_of, has_event, open_session_of}
+use Rattle.policy_model.specs.Asks.{accepts, exports, is_challenge_for, is_denied_reply, is_export, is_lost, is_permit, is_reply, came_by_frame, permits_kind, request_number, takes_user, value_of}
+use Rattle.policy_model.specs.Journal.{ask_count, count_of, has_event, open_session_of}
 use Rattle.policy_model.specs.Legal.{IsNextBy}
 use Rattle.policy_model.specs.Logins.{account_of, challenged_user, current_sequence, holder_of, last_taking_of, session_taking, verified_user, was_accepted}
 use Rattle.policy_model.specs.Phases.{is_over, phase_of}
@@ -94,7 +94,7 @@ login_permit setup journal session passwords (Some user) value h =
     (user, refl, record { account = r.0; holds = not_false (is_holder session (holder_of journal user)) a.0; found = r.1; next = r.2 })
 
 -- what a session's request was judged by, that is permitted
-pub request_permit : {table : Phase → Kind → Row} (setup : Settings) (journal : List Event) (e : Event) → IsNextBy table setup journal e → is_request e.ask ≡ true → is_permit e.decision ≡ true → request_verdict table setup journal e.session e.ask ≡ Permit (value_of e.decision)
+pub request_permit : {table : Phase → Kind → Row} (setup : Settings) (journal : List Event) (e : Event) → IsNextBy table setup journal e → came_by_frame e.ask ≡ true → is_permit e.decision ≡ true → request_verdict table setup journal e.session e.ask ≡ Permit (value_of e.decision)
 request_permit {table} setup journal e next request permit =
     let judged : e.decision ≡ request_verdict table setup journal (open_session_of journal e.worker) e.ask = next_decision setup journal e next (permit_kept e.decision permit) ∙ verdict_of-request table setup journal e.worker e.ask request in
     let own : e.session ≡ open_session_of journal e.worker = next_session setup journal e next ∙ session_of-other journal e.worker e.ask e.decision (no_begin e.ask request) in
@@ -104,12 +104,12 @@ reply_judged : (table : Phase → Kind → Row) (setup : Settings) (journal : Li
 unfolding kind_verdict reply_verdict
 reply_judged table setup journal session (asks.Reply words hex) value is h =
     let a = permit_from (eqb session 0 || is_over journal session) 6 3 value _ h in
-    let b = permit_from (eqb (asks_of journal session) setup.requests) 1 setup.requests value _ a.1 in
+    let b = permit_from (eqb (ask_count journal session) setup.requests) 1 setup.requests value _ a.1 in
     let r = row_permit setup journal session kinds.Reply (asks.Reply words hex) (table (phase_of journal session) kinds.Reply) value b.1 in
     login_permit setup journal session (readings words hex) (challenged_user journal session) value r.1
 reply_judged table setup journal session _ value is h = absurd cc
 
-request_reply : (ask : Ask) → is_reply ask ≡ true → is_request ask ≡ true
+request_reply : (ask : Ask) → is_reply ask ≡ true → came_by_frame ask ≡ true
 request_reply (asks.Reply words hex) h = refl
 request_reply _ h = absurd cc
 
@@ -139,13 +139,13 @@ challenge_judged : (table : Phase → Kind → Row) (setup : Settings) (journal 
 unfolding kind_verdict challenge_verdict
 challenge_judged table setup journal session (asks.Challenge name now) user value is h =
     let a = permit_from (eqb session 0 || is_over journal session) 6 2 value _ h in
-    let b = permit_from (eqb (asks_of journal session) setup.requests) 1 setup.requests value _ a.1 in
+    let b = permit_from (eqb (ask_count journal session) setup.requests) 1 setup.requests value _ a.1 in
     let r = row_permit setup journal session kinds.Challenge (asks.Challenge name now) (table (phase_of journal session) kinds.Challenge) value b.1 in
     let c = permit_from (nat_le setup.tries (count_of journal session is_denied_reply)) 8 setup.tries value _ r.1 in
     subst (λ u. Taken setup journal u value) (same_from_same_name name user is) (account_permit setup journal session name now value (account_of setup name) refl c.1)
 challenge_judged table setup journal session _ user value is h = absurd cc
 
-request_challenge : (user : Name) (ask : Ask) → is_challenge_for user ask ≡ true → is_request ask ≡ true
+request_challenge : (user : Name) (ask : Ask) → is_challenge_for user ask ≡ true → came_by_frame ask ≡ true
 request_challenge user (asks.Challenge name now) h = refl
 request_challenge user _ h = absurd cc
 
@@ -159,13 +159,13 @@ export_judged : (table : Phase → Kind → Row) (setup : Settings) (journal : L
 unfolding kind_verdict
 export_judged table setup journal session (asks.Export len) value is h =
     let a = permit_from (eqb session 0 || is_over journal session) 6 5 value _ h in
-    let b = permit_from (eqb (asks_of journal session) setup.requests) 1 setup.requests value _ a.1 in
+    let b = permit_from (eqb (ask_count journal session) setup.requests) 1 setup.requests value _ a.1 in
     let r = row_permit setup journal session kinds.Export (asks.Export len) (table (phase_of journal session) kinds.Export) value b.1 in
     let permit : Permit (number_named setup (verified_user journal session)) ≡ Permit value = r.1 in
     (r.0, cc)
 export_judged table setup journal session _ value is h = absurd cc
 
-request_export : (ask : Ask) → is_export ask ≡ true → is_request ask ≡ true
+request_export : (ask : Ask) → is_export ask ≡ true → came_by_frame ask ≡ true
 request_export (asks.Export len) h = refl
 request_export _ h = absurd cc
 

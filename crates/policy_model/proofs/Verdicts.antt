@@ -17,9 +17,9 @@ use Rattle.policy_model.specs.declared.event.Decision.TheVariants.{Permit, Deny,
 use Rattle.policy_model.specs.declared.event.Event.{Event}
 use Rattle.policy_model.specs.declared.phase.Phase.{Phase}
 use Rattle.policy_model.specs.declared.phase.Row.{Row}
-use Rattle.policy_model.specs.Asks.{is_begin, is_denied_reply, is_lost, is_proper, is_request, is_violation, kind_of, mode_of, permits_kind, request_number}
-use Rattle.policy_model.specs.Handles.{free_handle_of, live_handles_of, opening_of}
-use Rattle.policy_model.specs.Journal.{asks_of, count_of, has_event, open_session_of, openings_of}
+use Rattle.policy_model.specs.Asks.{is_begin, is_denied_reply, is_lost, is_proper, came_by_frame, is_violation, kind_of, mode_of, permits_kind, request_number}
+use Rattle.policy_model.specs.Handles.{free_handle_of, live_handles_of, handle_opening}
+use Rattle.policy_model.specs.Journal.{ask_count, count_of, has_event, open_session_of, openings_of}
 use Rattle.policy_model.specs.Legal.{session_of}
 use Rattle.policy_model.specs.Logins.{account_of, challenged_user, current_sequence, holder_of, last_taking_of, session_taking, verified_user, was_accepted}
 use Rattle.policy_model.specs.Phases.{is_over, phase_of}
@@ -27,7 +27,7 @@ use Rattle.policy_model.specs.Settings.{Settings, same_label}
 use Rattle.policy_model.specs.Verdict.{IsVerdict, NamesRule, account_named, account_verdict, allows, challenge_verdict, close_verdict, grant_verdict, grants_of, handle_verdict, info_verdict, is_held, is_holder, is_next_password, kind_verdict, login_verdict, matching_verdict, open_verdict, own_verdict, readings, readings_verdict, reply_verdict, request_verdict, row_verdict, sequence_of, table_verdict, use_verdict, verdict_by}
 
 -- a request is judged in the worker's open session
-pub verdict_of-request : (table : Phase → Kind → Row) (setup : Settings) (journal : List Event) (worker : ℕ) (ask : Ask) → is_request ask ≡ true → verdict_by table setup journal worker ask ≡ request_verdict table setup journal (open_session_of journal worker) ask
+pub verdict_of-request : (table : Phase → Kind → Row) (setup : Settings) (journal : List Event) (worker : ℕ) (ask : Ask) → came_by_frame ask ≡ true → verdict_by table setup journal worker ask ≡ request_verdict table setup journal (open_session_of journal worker) ask
 unfolding verdict_by
 verdict_of-request table setup journal worker asks.Begin h = absurd cc
 verdict_of-request table setup journal worker (asks.End why) h = absurd cc
@@ -55,9 +55,9 @@ by_limit false true n r d h = absurd cc
 by_limit false false n r d h = refl
 
 -- a request that is no violation was made below the limit of asks
-pub asks_of-below : (table : Phase → Kind → Row) (setup : Settings) (journal : List Event) (session : ℕ) (ask : Ask) → is_violation (request_verdict table setup journal session ask) ≡ false → asks_of journal session ≢ setup.requests
-asks_of-below table setup journal session ask h =
-    let below : eqb (asks_of journal session) setup.requests ≡ false = by_limit (eqb session 0 || is_over journal session) (eqb (asks_of journal session) setup.requests) (request_number ask) setup.requests (own_verdict table setup journal session ask) h in
+pub ask_count-below : (table : Phase → Kind → Row) (setup : Settings) (journal : List Event) (session : ℕ) (ask : Ask) → is_violation (request_verdict table setup journal session ask) ≡ false → ask_count journal session ≢ setup.requests
+ask_count-below table setup journal session ask h =
+    let below : eqb (ask_count journal session) setup.requests ≡ false = by_limit (eqb session 0 || is_over journal session) (eqb (ask_count journal session) setup.requests) (request_number ask) setup.requests (own_verdict table setup journal session ask) h in
     λ e. grind (arith, nat_tests)
 
 -- only an opening has another session than the worker's open one
@@ -109,7 +109,7 @@ use_decided handle needed (Some e) = cond_decided (allows (mode_of e.ask) needed
 
 handle_decided : (journal : List Event) (session handle needed : ℕ) → IsVerdict (handle_verdict journal session handle needed)
 unfolding handle_verdict
-handle_decided journal session handle needed = cond_decided (eqb handle 0) (Permit 0) (use_verdict handle needed (opening_of journal session handle)) tt (use_decided handle needed (opening_of journal session handle))
+handle_decided journal session handle needed = cond_decided (eqb handle 0) (Permit 0) (use_verdict handle needed (handle_opening journal session handle)) tt (use_decided handle needed (handle_opening journal session handle))
 
 grant_decided : (free mode : ℕ) (o : Option Grant) → IsVerdict (grant_verdict free mode o)
 grant_decided free mode None = (lit≤ tt, lit≤ tt)
@@ -121,7 +121,7 @@ open_decided setup journal session mode name = cond_decided (nat_le 8 (length (l
 
 close_decided : (journal : List Event) (session handle : ℕ) → IsVerdict (close_verdict journal session handle)
 unfolding close_verdict
-close_decided journal session handle = cond_decided (eqb handle 0 || is_none (opening_of journal session handle)) (Deny 17 handle) (Permit 0) (lit≤ tt, lit≤ tt) tt
+close_decided journal session handle = cond_decided (eqb handle 0 || is_none (handle_opening journal session handle)) (Deny 17 handle) (Permit 0) (lit≤ tt, lit≤ tt) tt
 
 info_decided : (setup : Settings) (journal : List Event) (session number : ℕ) → IsVerdict (info_verdict setup journal session number)
 unfolding info_verdict
@@ -153,7 +153,7 @@ own_decided table setup journal session ask h = table_decided table setup journa
 request_decided : (table : Phase → Kind → Row) (setup : Settings) (journal : List Event) (session : ℕ) (ask : Ask) → is_proper ask ≡ true → IsVerdict (request_verdict table setup journal session ask)
 request_decided table setup journal session ask h =
     let own = own_verdict table setup journal session ask in
-    let limit = eqb (asks_of journal session) setup.requests in
+    let limit = eqb (ask_count journal session) setup.requests in
     cond_decided (eqb session 0 || is_over journal session) (Deny 6 (request_number ask)) (cond limit (Deny 1 setup.requests) own) (lit≤ tt, lit≤ tt)
     (cond_decided limit (Deny 1 setup.requests) own (lit≤ tt, lit≤ tt) (own_decided table setup journal session ask h))
 

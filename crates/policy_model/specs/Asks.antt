@@ -22,8 +22,8 @@ is_end (asks.End why) = true
 is_end _ = false
 
 -- it came by a frame of a child
-abbrev pub is_request : Ask → Bool
-is_request ask = not (is_begin ask) && not (is_end ask)
+abbrev pub came_by_frame : Ask → Bool
+came_by_frame ask = not (is_begin ask) && not (is_end ask)
 
 abbrev pub is_finish : Ask → Bool
 is_finish asks.Finish = true

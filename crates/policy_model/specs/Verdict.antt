@@ -16,8 +16,8 @@ use Rattle.policy_model.specs.declared.event.Event.{Event}
 use Rattle.policy_model.specs.declared.phase.Phase.{Phase}
 use Rattle.policy_model.specs.declared.phase.Row.{Row}
 use Rattle.policy_model.specs.Asks.{is_denied_reply, kind_of, mode_of, moment_of, permits_kind, request_number}
-use Rattle.policy_model.specs.Handles.{free_handle_of, live_handles_of, opening_of}
-use Rattle.policy_model.specs.Journal.{asks_of, count_of, has_event, open_session_of, openings_of}
+use Rattle.policy_model.specs.Handles.{free_handle_of, live_handles_of, handle_opening}
+use Rattle.policy_model.specs.Journal.{ask_count, count_of, has_event, open_session_of, openings_of}
 use Rattle.policy_model.specs.Logins.{account_of, challenged_user, current_password, current_sequence, holder_of, last_taking_of, session_taking, verified_user, was_accepted}
 use Rattle.policy_model.specs.Phases.{is_over, phase_of, table_row}
 use Rattle.policy_model.specs.Settings.{Settings, account_number, same_label}
@@ -114,7 +114,7 @@ use_verdict handle needed (Some e) = if allows (mode_of e.ask) needed then Permi
 -- a READ or WRITE of a handle; 0 is the client's connection
 unfoldable pub handle_verdict : List Event → ℕ → ℕ → ℕ → Decision
 handle_verdict journal session handle needed =
-    if handle == 0 then Permit 0 else use_verdict handle needed (opening_of journal session handle)
+    if handle == 0 then Permit 0 else use_verdict handle needed (handle_opening journal session handle)
 
 -- the verified user's account
 abbrev pub account_named : Settings → Option Name → Option Account
@@ -140,7 +140,7 @@ open_verdict setup journal session mode name =
 -- a CLOSE of a handle
 unfoldable pub close_verdict : List Event → ℕ → ℕ → Decision
 close_verdict journal session handle =
-    if handle == 0 || is_none (opening_of journal session handle) then Deny 17 handle else Permit 0
+    if handle == 0 || is_none (handle_opening journal session handle) then Deny 17 handle else Permit 0
 
 -- the current sequence of an account that is there
 abbrev pub sequence_of : List Event → Option Account → ℕ
@@ -192,7 +192,7 @@ own_verdict table setup journal session ask = table_verdict table setup journal 
 abbrev pub request_verdict : (Phase → Kind → Row) → Settings → List Event → ℕ → Ask → Decision
 request_verdict table setup journal session ask =
     if session == 0 || is_over journal session then Deny 6 (request_number ask)
-    else (if asks_of journal session == setup.requests then Deny 1 setup.requests
+    else (if ask_count journal session == setup.requests then Deny 1 setup.requests
     else own_verdict table setup journal session ask)
 
 -- 1. an opening, an end, any other ask
