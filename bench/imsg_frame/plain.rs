@@ -1,17 +1,21 @@
 // The same work as main.rt.txt, with a plain buffer in Rust.
+use std::env;
 use std::hint::black_box;
 use std::time::Instant;
 
 const HEADER_LEN: usize = 16;
-const MAX_LEN: usize = 16384;
-const PIECE_LEN: usize = 4096;
-const ROUND_LEN: usize = 49152;
-const ROUNDS: u64 = 1366;
+const ROUND_LEN: usize = 196_608;
+
+#[derive(Clone, Copy, PartialEq)]
+enum Width {
+    Narrow,
+    Wide,
+}
 
 #[allow(dead_code)]
 struct Header {
     kind: u32,
-    len: u16,
+    len: u32,
     flags: u16,
     peerid: u32,
     pid: u32,
@@ -29,15 +33,20 @@ enum Next<'a> {
 }
 
 struct Reader {
+    width: Width,
     max: usize,
     bytes: Vec<u8>,
     start: usize,
     end: usize,
 }
 
+fn u32_at(bytes: &[u8], at: usize) -> u32 {
+    u32::from_le_bytes(bytes[at..at + 4].try_into().unwrap())
+}
+
 impl Reader {
-    fn new(max: usize) -> Reader {
-        Reader { max, bytes: vec![0; 2 * max], start: 0, end: 0 }
+    fn new(width: Width, max: usize) -> Reader {
+        Reader { width, max, bytes: vec![0; 2 * max], start: 0, end: 0 }
     }
 
     fn feed(&mut self, piece: &[u8]) -> usize {
@@ -58,16 +67,21 @@ impl Reader {
         if held.len() < HEADER_LEN {
             return Next::NotYet;
         }
-        let header = Header {
-            kind: u32::from_le_bytes(held[0..4].try_into().unwrap()),
-            len: u16::from_le_bytes(held[4..6].try_into().unwrap()),
-            flags: u16::from_le_bytes(held[6..8].try_into().unwrap()),
-            peerid: u32::from_le_bytes(held[8..12].try_into().unwrap()),
-            pid: u32::from_le_bytes(held[12..16].try_into().unwrap()),
+        let number = u32_at(held, 4);
+        let (len, flags) = match self.width {
+            Width::Narrow => (number & 0xffff, (number >> 16) as u16),
+            Width::Wide => (number & 0x7fff_ffff, (number >> 31) as u16),
         };
-        let len = header.len as usize;
+        let header = Header {
+            kind: u32_at(held, 0),
+            len,
+            flags,
+            peerid: u32_at(held, 8),
+            pid: u32_at(held, 12),
+        };
+        let len = len as usize;
         if len < HEADER_LEN || len > self.max {
-            return Next::Bad { len: header.len };
+            return Next::Bad { len: len.min(65_535) as u16 };
         }
         if held.len() < len {
             return Next::NotYet;
@@ -78,38 +92,39 @@ impl Reader {
     }
 }
 
-fn round_of(body_len: usize) -> Vec<u8> {
-    let len = (HEADER_LEN + body_len) as u16;
+fn round_of(frame_len: usize) -> Vec<u8> {
     let mut stream = Vec::new();
     while stream.len() < ROUND_LEN {
-        stream.extend_from_slice(&8u32.to_le_bytes());
-        stream.extend_from_slice(&len.to_le_bytes());
-        stream.extend_from_slice(&0u16.to_le_bytes());
-        stream.extend_from_slice(&9u32.to_le_bytes());
-        stream.extend_from_slice(&10u32.to_le_bytes());
-        stream.extend_from_slice(&vec![7; body_len]);
+        for number in [8, frame_len as u32, 9, 10] {
+            stream.extend_from_slice(&number.to_le_bytes());
+        }
+        stream.extend_from_slice(&vec![7; frame_len - HEADER_LEN]);
     }
     stream
 }
 
 #[inline(never)]
-fn read_all(reader: &mut Reader, stream: &[u8]) -> (u64, u64) {
+fn read_all(reader: &mut Reader, stream: &[u8], piece_len: usize, rounds: u64) -> (u64, u64) {
     let mut frames = 0u64;
     let mut sum = 0u64;
-    for _ in 0..ROUNDS {
-        for piece in stream.chunks(PIECE_LEN) {
-            reader.feed(piece);
-            loop {
-                match reader.next() {
-                    Next::Frame(frame) => {
-                        let last = frame.body.last().copied().unwrap_or(0);
-                        frames = frames.wrapping_add(1);
-                        sum = sum.wrapping_add(frame.header.kind as u64 + last as u64);
-                    }
-                    Next::NotYet => break,
-                    Next::Bad { len } => {
-                        black_box(len);
-                        break;
+    for _ in 0..rounds {
+        for piece in stream.chunks(piece_len) {
+            let mut rest = piece;
+            while !rest.is_empty() {
+                let taken = reader.feed(rest);
+                rest = &rest[taken..];
+                loop {
+                    match reader.next() {
+                        Next::Frame(frame) => {
+                            let last = frame.body.last().copied().unwrap_or(0);
+                            frames = frames.wrapping_add(1);
+                            sum = sum.wrapping_add(frame.header.kind as u64 + last as u64);
+                        }
+                        Next::NotYet => break,
+                        Next::Bad { len } => {
+                            black_box(len);
+                            break;
+                        }
                     }
                 }
             }
@@ -119,15 +134,16 @@ fn read_all(reader: &mut Reader, stream: &[u8]) -> (u64, u64) {
 }
 
 fn main() {
-    for body_len in [8, 16368] {
-        let stream = round_of(body_len);
-        let mut reader = Reader::new(MAX_LEN);
-        for _ in 0..7 {
-            let start = Instant::now();
-            let (frames, sum) = read_all(&mut reader, black_box(&stream));
-            let nanos = start.elapsed().as_nanos();
-            let bytes = stream.len() as u64 * ROUNDS;
-            println!("{} {frames} {bytes} {nanos} {sum}", body_len + 16);
-        }
-    }
+    let words: Vec<String> = env::args().collect();
+    let number_of = |i: usize| words[i].parse::<usize>().unwrap();
+    let (width, max) = match words[1].as_str() {
+        "wide" => (Width::Wide, 65_536),
+        _ => (Width::Narrow, 16_384),
+    };
+    let stream = round_of(number_of(2));
+    let mut reader = Reader::new(width, max);
+    let start = Instant::now();
+    let (frames, sum) = read_all(&mut reader, black_box(&stream), number_of(3), number_of(4) as u64);
+    let nanos = start.elapsed().as_nanos();
+    println!("{frames} {nanos} {sum}");
 }

@@ -28,7 +28,7 @@ use Rattle.session_model.specs.Places.{Step, place_of, places_of}
 use Rattle.session_model.specs.Acts.{Sends, asked, has_connection_fault, operations_by, operations_of, write_operations, written_bytes, written_by}
 use Rattle.session_model.specs.Answers.{answer_value, outcome_value, reply_bytes, reply_to}
 use Rattle.session_model.specs.Parts.{IsRequestStep, why_of}
-use Rattle.session_model.specs.Requests.{Asks, IsAskOf}
+use Rattle.session_model.specs.Requests.{Asks, IsAskOf, frame_width, max_len}
 use Rattle.session_model.proofs.Ends.{no_begin}
 use Rattle.session_model.proofs.Places.{places_of-other, places_of-own}
 use Rattle.monitor_server.specs.Asking.{IsEndOf, answered, read_value}
@@ -57,7 +57,7 @@ by_handle e zero offset bytes (decisions.Deny rule detail) message is = refl
 by_handle e zero offset bytes decisions.Lost message is = refl
 by_handle e (suc handle) offset bytes d message is = refl
 
-by_value : (e : Event) (message : Message) (value : RequestValue) → request_of message.header.kind message.header.flags message.body ≡ Ok value → Asks value e.ask → operations_by e e.ask (Some message) ≡ request_operations (Ok value) e.decision
+by_value : (e : Event) (message : Message) (value : RequestValue) → request_of frame_width message.header.kind message.header.flags message.body ≡ Ok value → Asks value e.ask → operations_by e e.ask (Some message) ≡ request_operations (Ok value) e.decision
 by_value e message requests.Banner read a = ap (λ ask. operations_by e ask (Some message)) a
 by_value e message (requests.Challenge user) read a = ap (λ ask. operations_by e ask (Some message)) a.2
 by_value e message (requests.Reply text) read a = ap (λ ask. operations_by e ask (Some message)) a
@@ -74,7 +74,7 @@ by_value e message requests.Finish read a = ap (λ ask. operations_by e ask (Som
 
 -- what a message's reading says of it: its request or its fault, and the ask that it makes
 pub record IsRead (message : Message) (read : Result Request Bad) (ask : Ask) : Type 0 where
-  pub exact : MatchResult read (λ r. request_of message.header.kind message.header.flags message.body ≡ Ok (value_of r)) (λ bad. request_of message.header.kind message.header.flags message.body ≡ Err bad)
+  pub exact : MatchResult read (λ r. request_of frame_width message.header.kind message.header.flags message.body ≡ Ok (value_of r)) (λ bad. request_of frame_width message.header.kind message.header.flags message.body ≡ Err bad)
   pub asks : MatchResult read (λ r. Asks (value_of r) ask) (λ bad. ask ≡ asks.Bad bad.rule bad.detail)
 
 -- the operations of an event, by the request that was read
@@ -87,7 +87,7 @@ ask_read message (Ok request) ask is = rw is.exact is.asks
 ask_read message (Err bad) ask is = rw is.exact is.asks
 
 -- an event that came by a message is a request's step, whose acts are those of the request that was read
-pub is_step : (setup : Settings) (worker : ℕ) (ask : Ask) (old new : List Event) (e : Event) (message : Message) (read : Result Request Bad) (acts : List Act) → Joins setup worker ask old new e → came_by_frame ask ≡ true → IsMessage 16384 message → IsRead message read ask → map asked acts ≡ request_operations (read_value read) e.decision → IsRequestStep (step_of old e message acts)
+pub is_step : (setup : Settings) (worker : ℕ) (ask : Ask) (old new : List Event) (e : Event) (message : Message) (read : Result Request Bad) (acts : List Act) → Joins setup worker ask old new e → came_by_frame ask ≡ true → IsMessage frame_width max_len message → IsRead message read ask → map asked acts ≡ request_operations (read_value read) e.decision → IsRequestStep (step_of old e message acts)
 unfolding operations_of
 is_step setup worker ask old new e message read acts joins request right is are =
     let is' : IsRead message read e.ask = subst (IsRead message read) (sym joins.asks) is in
@@ -110,7 +110,7 @@ same_answer (decisions.Deny rule detail) acts well fault = refl
 same_answer decisions.Lost acts well fault = refl
 
 -- the reply that was made is the answer to the event
-pub is_answer : (message : Message) (e : Event) (acts : List Act) (session : ℕ) (answer : AnswerValue) (well : Bool) → e.session ≡ session → Some answer ≡ answered e.decision well → has_connection_fault acts ≡ not well → spelling_of (composed_of (reply_kind_of message.header.kind message.header.flags) message.header.peerid session (reply_of answer)) ≡ reply_to message e acts
+pub is_answer : (message : Message) (e : Event) (acts : List Act) (session : ℕ) (answer : AnswerValue) (well : Bool) → e.session ≡ session → Some answer ≡ answered e.decision well → has_connection_fault acts ≡ not well → spelling_of frame_width (composed_of (reply_kind_of message.header.kind message.header.flags) message.header.peerid session (reply_of answer)) ≡ reply_to message e acts
 unfolding reply_to
 is_answer message e acts session answer well same gives fault =
     let value : Some answer ≡ answer_value e.decision acts = gives ∙ sym (same_answer e.decision acts well fault) in

@@ -3,7 +3,7 @@ use Rattle.std.proofs.Common.{◌≡◌, ℕ, ◌+◌, ◌<◌, ◌≤◌, List,
 use Rattle.std.specs.Prelude.{IfNone}
 use Rattle.std.specs.List.{AllByRecursion}
 use Rattle.std.proofs.lemmas.List.Concat.{flat_map-append}
-use Rattle.imsg_frame.specs.Cut.{IsBadFront}
+use Rattle.imsg_frame.specs.Cut.{IsBadFront, IsPartialFront}
 use Rattle.imsg_frame.specs.declared.frame.Frame.{Frame}
 use Rattle.imsg_frame.specs.declared.reader.Next.{Next}
 use Rattle.imsg_frame.specs.declared.reader.Next.TheVariants as next
@@ -20,11 +20,13 @@ use Rattle.policy_model.specs.declared.event.Why.{Why}
 use Rattle.policy_model.specs.declared.event.Why.TheVariants as whys
 use Rattle.policy_model.specs.Journal.{ask_count}
 use Rattle.policy_model.specs.Settings.{Settings}
+use Rattle.session_model.specs.Requests.{frame_width, max_len}
 use Rattle.session_model.specs.Places.{Step, places_of, step_acts, step_places}
 use Rattle.session_model.specs.Answers.{answer_to, answers}
 use Rattle.session_model.specs.Parts.{GoesOn, IsRequestStep, LastSent, message_bytes, step_bytes}
 use Rattle.session_model.proofs.Lists.{All-append}
 use Rattle.session_model.proofs.Stories.{acts-append, places-append}
+use Rattle.monitor_server.specs.Frames.{IsForSessions}
 use Rattle.monitor_server.specs.Serving.{Advances, Concludes, HasServed, Proceeds, Receives, Steps, Turns}
 use Rattle.monitor_server.specs.Session as Sessions
 
@@ -104,7 +106,7 @@ Concludes-after worker why a b c s t u k l m h i first second =
     }
 
 -- a message that was held is served
-pub turn_message : (worker : ℕ) (message : Message) (end : Option Why) (a b : List Event) (s t : Option Scene) (k l : Option Link) (held rest : List ℕ) → held ≡ spelling_of message ++ rest → HasServed worker message end a b s t k l → Turns worker end a b s t k l held rest
+pub turn_message : (worker : ℕ) (message : Message) (end : Option Why) (a b : List Event) (s t : Option Scene) (k l : Option Link) (held rest : List ℕ) → held ≡ spelling_of frame_width message ++ rest → HasServed worker message end a b s t k l → Turns worker end a b s t k l held rest
 turn_message worker message None a b s t k l held rest is served = record {
   served = served.step ∷ [];
   steps = served.steps;
@@ -162,7 +164,7 @@ turn_received worker (Some why) a s k l held_old held_new received = record {
 }
 
 -- a header of wrong length stands in front
-pub turn_bad : (worker len : ℕ) (a : List Event) (s : Option Scene) (k : Option Link) (held : List ℕ) → IsBadFront 16384 held len → Concludes worker (whys.BadFrame len) a a s s k k held
+pub turn_bad : (worker len : ℕ) (a : List Event) (s : Option Scene) (k : Option Link) (held : List ℕ) → IsBadFront frame_width max_len held len → Concludes worker (whys.BadFrame len) a a s s k k held
 turn_bad worker len a s k held bad = record {
   served = [];
   final = None;
@@ -189,20 +191,33 @@ advances_received requests asks len held_old held_new below more within =
     record { below = below; len = refl; less = omega arith }
 
 -- the message of a frame that was given stood in front, and what follows it is held
-pub front_right : (max : ℕ) (bytes : List ℕ) (answer : Next) (frame : Frame) → answer ≡ next.Frame frame → max ≡ 16384 → IsAnswer max bytes answer → IsMessage 16384 (message_of frame)
-front_right max bytes answer frame is limit tells =
+pub front_right : (reader : Held) (answer : Next) (frame : Frame) → answer ≡ next.Frame frame → IsForSessions reader → IsAnswer reader.width reader.max reader.bytes answer → IsMessage frame_width max_len (message_of frame)
+front_right reader answer frame is frames tells =
     let given : IsFrameOf (message_of frame) answer = subst (IsFrameOf (message_of frame)) (sym is) refl in
-    subst (λ m. IsMessage m (message_of frame)) limit ((tells.frame (message_of frame)).0 given).right
+    subst (λ w. IsMessage w max_len (message_of frame)) frames.width (subst (λ m. IsMessage reader.width m (message_of frame)) frames.max ((tells.frame (message_of frame)).0 given).right)
 
-pub front_taken : (old new : Held) (answer : Next) (frame : Frame) → answer ≡ next.Frame frame → AfterNext old answer new → old.bytes ≡ spelling_of (message_of frame) ++ new.bytes
-front_taken old new answer frame is after =
-    let taken : AfterNext old (next.Frame frame) new = subst (λ a. AfterNext old a new) is after in taken.1
+pub front_taken : (old new : Held) (answer : Next) (frame : Frame) → answer ≡ next.Frame frame → IsForSessions old → AfterNext old answer new → old.bytes ≡ spelling_of frame_width (message_of frame) ++ new.bytes
+front_taken old new answer frame is frames after =
+    let taken : AfterNext old (next.Frame frame) new = subst (λ a. AfterNext old a new) is after in
+    taken.bytes ∙ ap (λ w. spelling_of w (message_of frame) ++ new.bytes) frames.width
+
+-- the reader is still for sessions
+pub frames_kept : (old new : Held) (answer : Next) → AfterNext old answer new → IsForSessions old → IsForSessions new
+frames_kept old new (next.Frame frame) after frames = record { width = after.width ∙ frames.width; max = after.max ∙ frames.max }
+frames_kept old new next.NotYet after frames = record { width = ap (λ r. r.width) after ∙ frames.width; max = ap (λ r. r.max) after ∙ frames.max }
+frames_kept old new (next.Bad len) after frames = record { width = ap (λ r. r.width) after ∙ frames.width; max = ap (λ r. r.max) after ∙ frames.max }
 
 pub nothing_taken : (old new : Held) (answer : Next) → answer ≡ next.NotYet → AfterNext old answer new → new ≡ old
 nothing_taken old new answer is after = subst (λ a. AfterNext old a new) is after
 
-pub bad_front : (max len : ℕ) (bytes : List ℕ) (answer : Next) → answer ≡ next.Bad len → max ≡ 16384 → IsAnswer max bytes answer → IsBadFront 16384 bytes len
-bad_front max len bytes answer is limit tells = subst (λ m. IsBadFront m bytes len) limit ((tells.bad len).0 is)
+pub bad_front : (reader : Held) (len : ℕ) (answer : Next) → answer ≡ next.Bad len → IsForSessions reader → IsAnswer reader.width reader.max reader.bytes answer → IsBadFront frame_width max_len reader.bytes len
+bad_front reader len answer is frames tells =
+    subst (λ w. IsBadFront w max_len reader.bytes len) frames.width (subst (λ m. IsBadFront reader.width m reader.bytes len) frames.max ((tells.bad len).0 is))
+
+-- less than a frame stands in front
+pub partial_front : (reader same : Held) (answer : Next) → answer ≡ next.NotYet → same ≡ reader → IsForSessions reader → IsAnswer reader.width reader.max reader.bytes answer → IsPartialFront frame_width max_len same.bytes
+partial_front reader same answer is kept frames tells =
+    subst (λ r. IsPartialFront frame_width max_len r.bytes) (sym kept) (subst (λ w. IsPartialFront w max_len reader.bytes) frames.width (subst (λ m. IsPartialFront reader.width m reader.bytes) frames.max (tells.not_yet.0 is)))
 
 -- the same of a turn that may have ended the session
 pub message_advances : (setup : Settings) (session : ℕ) (old new : List Event) (end : Option Why) (len_old len_new held_old held_new : ℕ) → IfNone end (Sessions.GoesOn setup session old new) → len_new ≡ len_old + 1 → IfNone end (Advances setup.requests (ask_count old session) (ask_count new session) len_old len_new held_old held_new)

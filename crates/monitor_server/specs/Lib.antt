@@ -8,3 +8,4 @@ pub mod Ran
 pub mod Room
 pub mod Serving
 pub mod Session
+pub mod Frames

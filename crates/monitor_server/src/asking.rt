@@ -5,7 +5,7 @@ ghost use Rattle.request_catalogue.specs.Catalogue.{IsInRange, value_of};
 ghost use Rattle.request_catalogue.specs.Replies as replies;
 ghost use Rattle.policy_model.specs.Asks.{ends_session, is_lost, is_proper, is_proper_why, came_by_frame};
 ghost use Rattle.monitor_server.specs.Asking.{IsEndOf, IsRuleOfBad, answered};
-ghost use Rattle.session_model.specs.Requests.{Asks};
+ghost use Rattle.session_model.specs.Requests.{Asks, frame_width};
 
 use outside::Failed;
 use policy_model::{Ask, Decision, Event, Why};
@@ -16,7 +16,7 @@ const CONNECTION: u8 = 1;
 
 /// The ask that a message makes: that of its request, or the rule that it breaks.
 pub(crate) fn ask_of(read: &Result<Request<'_>, Bad>) -> Ask
-    requires ranges { IfOk read.now (λ request. IsInRange (value_of request)) }
+    requires ranges { IfOk read.now (λ request. IsInRange frame_width (value_of request)) }
     requires rules { IfErr read.now IsRuleOfBad }
     ensures asks { MatchResult read.now (λ request. Asks (value_of request) result) (λ bad. result ≡ Ask.Bad bad.rule bad.detail) }
     ensures request { came_by_frame result ≡ true }

@@ -3,10 +3,14 @@
 ghost use Rattle.std.specs.Prelude.{◌≡◌, ◌≤◌, length, vec_len, IfOk};
 ghost use Rattle.imsg_frame.specs.Message.{composed_of, spelling_of};
 ghost use Rattle.request_catalogue.specs.Replies as replies;
+ghost use Rattle.session_model.specs.Requests.{frame_width};
 
 use imsg_frame::{Header, compose};
-use request_catalogue::{Answer, reply_kind, write_reply};
+use request_catalogue::{Answer, Width, reply_kind, write_reply};
 use std::alloc::{AllocError, Global};
+
+/// The width of the frames of a session.
+pub(crate) const FRAMES: Width = Width::Narrow;
 
 /// The most bytes of a message's body.
 const BODY_LEN: usize = 16_368;
@@ -33,14 +37,14 @@ impl Buffers {
 
     /// The frame of the reply to a message in a session.
     pub fn reply(&mut self, message: &Header, session: u32, answer: &Answer<'_>) -> &[u8]
-        requires { replies.IsSendable (replies.answer_of answer.now) }
-        ensures { result.now ≡ spelling_of (composed_of (replies.reply_kind_of message.now.kind message.now.flags)
+        requires { replies.IsSendable frame_width (replies.answer_of answer.now) }
+        ensures { result.now ≡ spelling_of frame_width (composed_of (replies.reply_kind_of message.now.kind message.now.flags)
             message.now.peerid session (replies.reply_of (replies.answer_of answer.now))) }
     {
-        let len = write_reply(answer, &mut self.body);
+        let len = write_reply(FRAMES, answer, &mut self.body);
         let kind = reply_kind(message.kind, message.flags);
         let body = &self.body[..len];
-        let Ok(len) = compose(kind, message.peerid, session, body, &mut self.frame) else {
+        let Ok(len) = compose(FRAMES, kind, message.peerid, session, body, &mut self.frame) else {
             unreachable!()
         };
         &self.frame[..len]

@@ -5,16 +5,17 @@ ghost use Rattle.policy_model.specs.Settings.{events_max, plain_settings};
 ghost use Rattle.outside.specs.Scene.{IsFresh};
 ghost use Rattle.outside.specs.Told.{Rose};
 ghost use Rattle.policy_model.specs.Journal.{has_lost};
+ghost use Rattle.monitor_server.specs.Frames.{IsForSessions};
 ghost use Rattle.monitor_server.specs.Book.{Logged};
 ghost use Rattle.monitor_server.specs.Ran.{Promises, RunEnded, status_by};
 ghost use Rattle.monitor_server.specs.Commands.{serve_words};
 ghost use Rattle.monitor_server.specs.Headline.{IsUnused, JournalIsLegal};
 
 use crate::book::Book;
-use crate::buffers::Buffers;
+use crate::buffers::{Buffers, FRAMES};
 use crate::report::{Detail, NO_MEMORY, Report, unused};
 use crate::worker::serve_worker;
-use imsg_frame::{MAX_LEN, Reader};
+use imsg_frame::Reader;
 use outside::{Failed, Place, Post, Sink, Site, Word};
 use policy_model::{Event, Setup, has_lost};
 use std::alloc::{AllocError, Global};
@@ -42,7 +43,7 @@ struct Prepared {
 fn prepare(alloc: Global) -> Result<Prepared, AllocError>
     ensures setup { IfOk result (λ p. p.setup ≡ plain_settings) }
     ensures workers { IfOk result (λ p. p.place.workers ≡ 1) }
-    ensures reader { IfOk result (λ p. p.reader.max ≡ 16384) }
+    ensures reader { IfOk result (λ p. IsForSessions p.reader) }
     ensures journal { IfOk result (λ p. p.journal.items ≡ []) }
     ensures room { IfOk result (λ p. vec_capacity p.journal ≡ events_max plain_settings) }
 {
@@ -57,7 +58,7 @@ fn prepare(alloc: Global) -> Result<Prepared, AllocError>
     Ok(Prepared {
         setup,
         place,
-        reader: Reader::new(alloc, MAX_LEN)?,
+        reader: Reader::new(alloc, FRAMES, FRAMES.frame_max())?,
         buffers: Buffers::new(alloc)?,
         journal,
     })
@@ -80,7 +81,7 @@ fn status_of(lost: bool, accept_failed: bool) -> u8
 fn serve<P: Post, K: Sink>(prepared: Prepared, mut posts: Vec<P>, log: K) -> Report<P, K>
     requires setup { prepared.setup ≡ plain_settings }
     requires workers { vec_len posts ≡ prepared.setup.workers }
-    requires reader { prepared.reader.max ≡ 16384 }
+    requires reader { IsForSessions prepared.reader }
     requires journal { prepared.journal.items ≡ [] }
     requires room { vec_capacity prepared.journal ≡ events_max prepared.setup }
     requires fresh { All (IsFresh P.scene P.accept_faults P.keeper_faults P.link_faults P.conn_faults) posts.items }

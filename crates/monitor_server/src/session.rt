@@ -9,15 +9,17 @@ ghost use Rattle.policy_model.specs.Journal.{ask_count, has_lost, open_session_o
 ghost use Rattle.policy_model.specs.Narrow.{IsAfter, IsRun, IsServing};
 ghost use Rattle.policy_model.specs.Runs.{IsIdle, OthersStay};
 ghost use Rattle.policy_model.specs.Settings.{IsInRange};
+ghost use Rattle.session_model.specs.Requests.{frame_width, max_len};
 ghost use Rattle.monitor_server.specs.Asking.{read_value};
 ghost use Rattle.monitor_server.specs.Book.{Logged};
+ghost use Rattle.monitor_server.specs.Frames.{IsForSessions};
 ghost use Rattle.monitor_server.specs.Room.{HasRoom};
 ghost use Rattle.monitor_server.specs.Serving.{Advances, Concludes, EndHasCause, HasPart, HasRest, HasServed, HasSitting, NoFewer, Performs, Receives, Turns, request_operations};
 ghost use Rattle.monitor_server.specs.Session.{Ended, GoesOn};
 
 use crate::asking::{answer_of, ask_of, end_of};
 use crate::book::Book;
-use crate::buffers::Buffers;
+use crate::buffers::{Buffers, FRAMES};
 use imsg_frame::{Frame, Next, Reader};
 use outside::{Failed, Post, Role, Sink, Stream};
 use policy_model::{Ask, Decision, Setup, Why};
@@ -68,7 +70,7 @@ fn serve_message<P: Post, K: Sink>(
     requires below { worker < setup.now.workers }
     requires serving { IsServing setup.now book.old.journal.items worker session }
     requires room { HasRoom setup.now (vec_len book.old.journal) (vec_capacity book.old.journal) 1 }
-    requires right { IsMessage 16384 (message_of message.now) }
+    requires right { IsMessage frame_width max_len (message_of message.now) }
     ensures after { IsAfter setup.now worker session book.old.journal.items book.new.journal.items }
     ensures goes_on { IfNone result (GoesOn setup.now session book.old.journal.items book.new.journal.items) }
     ensures proper { IfSome result (λ why. is_proper_why why ≡ true) }
@@ -81,7 +83,7 @@ fn serve_message<P: Post, K: Sink>(
     ensures kept { NoFewer (P.link_faults post.old) (P.keeper_faults post.old) (P.link_faults post.new) (P.keeper_faults post.new) }
 {
     let header = message.header;
-    let request = read_request(header.kind, header.flags, message.body);
+    let request = read_request(FRAMES, header.kind, header.flags, message.body);
     let ask = ask_of(&request);
     let event = book.apply(setup, worker, &ask);
     if event.decision.is_lost() {
@@ -99,7 +101,8 @@ fn serve_message<P: Post, K: Sink>(
 /// Receives the next piece of the child's bytes. Why the session ends, if it does.
 fn receive<C: Stream>(child: &mut C, reader: &mut Reader) -> Option<Why>
     requires room { length reader.old.bytes < reader.old.max }
-    requires front { IsPartialFront 16384 reader.old.bytes }
+    requires front { IsPartialFront frame_width max_len reader.old.bytes }
+    ensures width { reader.new.width ≡ reader.old.width }
     ensures max { reader.new.max ≡ reader.old.max }
     ensures more { IfNone result (length reader.old.bytes < length reader.new.bytes) }
     ensures within { length reader.new.bytes ≤ reader.new.max }
@@ -138,14 +141,14 @@ fn serve_turn<P: Post, K: Sink>(
     requires below { worker < setup.now.workers }
     requires serving { IsServing setup.now book.old.journal.items worker session }
     requires room { HasRoom setup.now (vec_len book.old.journal) (vec_capacity book.old.journal) 1 }
-    requires max { reader.old.max ≡ 16384 }
+    requires frames { IsForSessions reader.old }
     ensures after { IsAfter setup.now worker session book.old.journal.items book.new.journal.items }
     ensures advances { IfNone result (Advances setup.now.requests (ask_count book.old.journal.items session) (ask_count book.new.journal.items session) (vec_len book.old.journal) (vec_len book.new.journal) (length reader.old.bytes) (length reader.new.bytes)) }
     ensures proper { IfSome result (λ why. is_proper_why why ≡ true) }
     ensures len { vec_len book.new.journal ≤ vec_len book.old.journal + 1 }
     ensures capacity { vec_capacity book.new.journal ≡ vec_capacity book.old.journal }
     ensures logged { Logged setup.now book.old.journal.items book.new.journal.items (K.held book.old.log) (K.held book.new.log) (K.faults book.old.log) (K.faults book.new.log) }
-    ensures max { reader.new.max ≡ reader.old.max }
+    ensures frames { IsForSessions reader.new }
     ensures turns { Turns worker result book.old.journal.items book.new.journal.items (P.scene post.old) (P.scene post.new) (P.Child.link child.old) (P.Child.link child.new) reader.old.bytes reader.new.bytes }
     ensures fault { result ≡ Some Why.LinkFault → 0 < P.Child.faults child.new }
     ensures role { P.Child.role child.new ≡ P.Child.role child.old }
@@ -177,13 +180,13 @@ fn serve_child<P: Post, K: Sink>(
     requires serving { IsServing setup.now book.old.journal.items worker session }
     requires unasked { ask_count book.old.journal.items session ≡ 0 }
     requires room { HasRoom setup.now (vec_len book.old.journal) (vec_capacity book.old.journal) (setup.now.requests + 2) }
-    requires max { reader.old.max ≡ 16384 }
+    requires frames { IsForSessions reader.old }
     ensures after { IsAfter setup.now worker session book.old.journal.items book.new.journal.items }
     ensures proper { is_proper_why result ≡ true }
     ensures len { vec_len book.new.journal ≤ vec_len book.old.journal + setup.now.requests + 1 }
     ensures capacity { vec_capacity book.new.journal ≡ vec_capacity book.old.journal }
     ensures logged { Logged setup.now book.old.journal.items book.new.journal.items (K.held book.old.log) (K.held book.new.log) (K.faults book.old.log) (K.faults book.new.log) }
-    ensures max { reader.new.max ≡ reader.old.max }
+    ensures frames { IsForSessions reader.new }
     ensures concludes { Concludes worker result book.old.journal.items book.new.journal.items (P.scene post.old) (P.scene post.new) (P.Child.link child.old) (P.Child.link child.new) reader.old.bytes }
     ensures fault { result ≡ Why.LinkFault → 0 < P.Child.faults child.new }
     ensures role { P.Child.role child.new ≡ P.Child.role child.old }
@@ -217,7 +220,7 @@ fn serve_started<P: Post, K: Sink>(
     requires serving { IsServing setup.now book.old.journal.items worker session }
     requires unasked { ask_count book.old.journal.items session ≡ 0 }
     requires room { HasRoom setup.now (vec_len book.old.journal) (vec_capacity book.old.journal) (setup.now.requests + 2) }
-    requires max { reader.old.max ≡ 16384 }
+    requires frames { IsForSessions reader.old }
     requires role { P.Child.role child ≡ Role.Pre session }
     requires unused { IfSome (P.Child.link child) IsUnused }
     requires planned { IfSome (P.scene post.old) (λ s. IfSome (P.Child.link child) (λ l. l.left ≡ planned_bytes s (Role.Pre session))) }
@@ -225,7 +228,7 @@ fn serve_started<P: Post, K: Sink>(
     ensures len { vec_len book.new.journal ≤ vec_len book.old.journal + setup.now.requests + 2 }
     ensures capacity { vec_capacity book.new.journal ≡ vec_capacity book.old.journal }
     ensures logged { Logged setup.now book.old.journal.items book.new.journal.items (K.held book.old.log) (K.held book.new.log) (K.faults book.old.log) (K.faults book.new.log) }
-    ensures max { reader.new.max ≡ reader.old.max }
+    ensures frames { IsForSessions reader.new }
     ensures part { HasPart worker session result book.old.journal.items book.new.journal.items (P.scene post.old) (P.scene post.new) }
     ensures cause { EndHasCause result (P.link_faults post.old) (P.keeper_faults post.old) (P.link_faults post.new) (P.keeper_faults post.new) }
 {
@@ -255,12 +258,12 @@ fn serve_opened<P: Post, K: Sink>(
     requires serving { IsServing setup.now book.old.journal.items worker session }
     requires unasked { ask_count book.old.journal.items session ≡ 0 }
     requires room { HasRoom setup.now (vec_len book.old.journal) (vec_capacity book.old.journal) (setup.now.requests + 2) }
-    requires max { reader.old.max ≡ 16384 }
+    requires frames { IsForSessions reader.old }
     ensures ended { Ended setup.now worker book.old.journal.items book.new.journal.items }
     ensures len { vec_len book.new.journal ≤ vec_len book.old.journal + setup.now.requests + 2 }
     ensures capacity { vec_capacity book.new.journal ≡ vec_capacity book.old.journal }
     ensures logged { Logged setup.now book.old.journal.items book.new.journal.items (K.held book.old.log) (K.held book.new.log) (K.faults book.old.log) (K.faults book.new.log) }
-    ensures max { reader.new.max ≡ reader.old.max }
+    ensures frames { IsForSessions reader.new }
     ensures rest { HasRest worker session result book.old.journal.items book.new.journal.items (P.scene post.old) (P.scene post.new) }
     ensures cause { EndHasCause result (P.link_faults post.old) (P.keeper_faults post.old) (P.link_faults post.new) (P.keeper_faults post.new) }
 {
@@ -293,12 +296,12 @@ pub(crate) fn run_session<P: Post, K: Sink>(
     requires run { IsRun setup.now book.old.journal.items }
     requires idle { IsIdle book.old.journal.items worker }
     requires room { HasRoom setup.now (vec_len book.old.journal) (vec_capacity book.old.journal) (setup.now.requests + 3) }
-    requires max { reader.old.max ≡ 16384 }
+    requires frames { IsForSessions reader.old }
     ensures ended { Ended setup.now worker book.old.journal.items book.new.journal.items }
     ensures len { vec_len book.new.journal ≤ vec_len book.old.journal + setup.now.requests + 3 }
     ensures capacity { vec_capacity book.new.journal ≡ vec_capacity book.old.journal }
     ensures logged { Logged setup.now book.old.journal.items book.new.journal.items (K.held book.old.log) (K.held book.new.log) (K.faults book.old.log) (K.faults book.new.log) }
-    ensures max { reader.new.max ≡ reader.old.max }
+    ensures frames { IsForSessions reader.new }
     ensures sitting { HasSitting worker result book.old.journal.items book.new.journal.items (P.scene post.old) (P.scene post.new) }
     ensures cause { EndHasCause result (P.link_faults post.old) (P.keeper_faults post.old) (P.link_faults post.new) (P.keeper_faults post.new) }
 {

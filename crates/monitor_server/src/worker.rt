@@ -4,6 +4,7 @@ ghost use Rattle.std.specs.Prelude.{◌≡◌, ◌<◌, ◌≤◌, ◌+◌, ◌*
 ghost use Rattle.policy_model.specs.Narrow.{IsRun};
 ghost use Rattle.policy_model.specs.Runs.{IsIdle, OthersStay};
 ghost use Rattle.policy_model.specs.Settings.{IsInRange, quota_of};
+ghost use Rattle.monitor_server.specs.Frames.{IsForSessions};
 ghost use Rattle.monitor_server.specs.Book.{Logged};
 ghost use Rattle.monitor_server.specs.Room.{HasRoom};
 ghost use Rattle.monitor_server.specs.Serving.{HasStory, is_accept_fault};
@@ -52,12 +53,12 @@ pub(crate) fn serve_worker<P: Post, K: Sink>(
     requires run { IsRun setup.now book.old.journal.items }
     requires idle { IsIdle book.old.journal.items worker }
     requires room { HasRoom setup.now (vec_len book.old.journal) (vec_capacity book.old.journal) (quota_of setup.now) }
-    requires max { reader.old.max ≡ 16384 }
+    requires frames { IsForSessions reader.old }
     ensures ended { Ended setup.now worker book.old.journal.items book.new.journal.items }
     ensures len { vec_len book.new.journal ≤ vec_len book.old.journal + quota_of setup.now }
     ensures capacity { vec_capacity book.new.journal ≡ vec_capacity book.old.journal }
     ensures logged { Logged setup.now book.old.journal.items book.new.journal.items (K.held book.old.log) (K.held book.new.log) (K.faults book.old.log) (K.faults book.new.log) }
-    ensures max { reader.new.max ≡ reader.old.max }
+    ensures frames { IsForSessions reader.new }
     ensures story { HasStory worker setup.now.connections result book.old.journal.items book.new.journal.items (P.scene post.old) (P.scene post.new) (P.link_faults post.old) (P.keeper_faults post.old) (P.link_faults post.new) (P.keeper_faults post.new) }
     ensures accept_fault { result ≡ WorkerEnd.AcceptFault → 0 < P.accept_faults post.new }
 {

@@ -20,6 +20,7 @@ use Rattle.policy_model.specs.declared.event.Decision.{Decision}
 use Rattle.policy_model.specs.declared.event.Decision.TheVariants as decisions
 use Rattle.policy_model.specs.declared.event.Event.{Event}
 use Rattle.session_model.specs.Places.{Place}
+use Rattle.session_model.specs.Requests.{frame_width}
 
 -- what is asked of the outside, without what comes of it
 pub data Operation : Type 0 where
@@ -43,7 +44,7 @@ written_by _ = []
 
 abbrev pub written_bytes : Option Message → List ℕ
 written_bytes None = []
-written_bytes (Some message) = written_by (request_of message.header.kind message.header.flags message.body)
+written_bytes (Some message) = written_by (request_of frame_width message.header.kind message.header.flags message.body)
 
 -- the child that serves a session
 abbrev pub live_role : Event → Role

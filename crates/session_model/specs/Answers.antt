@@ -9,6 +9,7 @@ use Rattle.policy_model.specs.declared.event.Decision.TheVariants as decisions
 use Rattle.policy_model.specs.declared.event.Event.{Event}
 use Rattle.session_model.specs.Acts.{has_connection_fault}
 use Rattle.session_model.specs.Places.{Step}
+use Rattle.session_model.specs.Requests.{frame_width}
 
 -- the device that stands for the client's connection in a reply
 abbrev pub connection_device : ℕ
@@ -31,7 +32,7 @@ reply_message message session answer = composed_of (reply_kind_of message.header
 
 abbrev pub reply_bytes : Message → ℕ → Option AnswerValue → List ℕ
 reply_bytes message session None = []
-reply_bytes message session (Some answer) = spelling_of (reply_message message session answer)
+reply_bytes message session (Some answer) = spelling_of frame_width (reply_message message session answer)
 
 -- the answer to an event that came by a message
 unfoldable pub reply_to : Message → Event → List Act → List ℕ

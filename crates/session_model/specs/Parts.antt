@@ -11,7 +11,7 @@ use Rattle.policy_model.specs.declared.event.Decision.{Decision}
 use Rattle.policy_model.specs.declared.event.Decision.TheVariants as decisions
 use Rattle.policy_model.specs.Asks.{came_by_frame, ends_session}
 use Rattle.session_model.specs.Places.{Step}
-use Rattle.session_model.specs.Requests.{CameBy, max_len}
+use Rattle.session_model.specs.Requests.{CameBy, frame_width, max_len}
 use Rattle.session_model.specs.Acts.{AreActsOf}
 use Rattle.session_model.specs.Answers.{answers}
 
@@ -32,7 +32,7 @@ requests_of part = part.served ++ option_to_list part.final
 
 abbrev pub message_bytes : Option Message → List ℕ
 message_bytes None = []
-message_bytes (Some message) = spelling_of message
+message_bytes (Some message) = spelling_of frame_width message
 
 -- the bytes by which the steps came
 abbrev pub step_bytes : List Step → List ℕ
@@ -61,8 +61,8 @@ why_of decisions.Lost = whys.LogLost
 -- why a session ends where no request ended it: by what its child's bytes ended with
 abbrev pub EndsAlone : Why → List ℕ → List ℕ → Type 0
 EndsAlone whys.ChildEnded rest unread = (rest ≡ []) × (unread ≡ [])
-EndsAlone whys.Truncated rest unread = (rest ≢ []) × (unread ≡ []) × IsPartialFront max_len rest
-EndsAlone (whys.BadFrame len) rest unread = IsBadFront max_len rest len
+EndsAlone whys.Truncated rest unread = (rest ≢ []) × (unread ≡ []) × IsPartialFront frame_width max_len rest
+EndsAlone (whys.BadFrame len) rest unread = IsBadFront frame_width max_len rest len
 EndsAlone _ rest unread = ⊥
 
 -- the end of a part that no fault of its link ended

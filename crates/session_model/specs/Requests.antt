@@ -1,6 +1,8 @@
 -- Which ask a child makes by a message.
 use Rattle.std.specs.Prelude.{◌≡◌, ℕ, length, None, MatchResult}
 use Rattle.imsg_frame.specs.Message.{Message, IsMessage}
+use Rattle.request_catalogue.specs.declared.width.Width.{Width}
+use Rattle.request_catalogue.specs.declared.width.Width.TheVariants as widths
 use Rattle.request_catalogue.specs.declared.texts.Name.{Name}
 use Rattle.request_catalogue.specs.declared.texts.Label.{Label}
 use Rattle.request_catalogue.specs.declared.texts.Note.{Note}
@@ -27,9 +29,13 @@ Asks (requests.Info number) ask = ask ≡ asks.Info number
 Asks (requests.Note bytes) ask = (text : Note) × (note_bytes text ≡ bytes) × (ask ≡ asks.Note text)
 Asks requests.Finish ask = ask ≡ asks.Finish
 
+-- the width of the frames of a session
+abbrev pub frame_width : Width
+frame_width = widths.Narrow
+
 -- the ask of a message: that of the request that it is, or the rule that it breaks
 abbrev pub IsAskOf : Message → Ask → Type 0
-IsAskOf message ask = MatchResult (request_of message.header.kind message.header.flags message.body) (λ value. Asks value ask) (λ bad. ask ≡ asks.Bad bad.rule bad.detail)
+IsAskOf message ask = MatchResult (request_of frame_width message.header.kind message.header.flags message.body) (λ value. Asks value ask) (λ bad. ask ≡ asks.Bad bad.rule bad.detail)
 
 -- the greatest length of a frame
 abbrev pub max_len : ℕ
@@ -37,5 +43,5 @@ max_len = 16384
 
 -- an ask came by a message, which has a right length
 pub record CameBy (message : Message) (ask : Ask) : Type 0 where
-  pub framed : IsMessage max_len message
+  pub framed : IsMessage frame_width max_len message
   pub asked : IsAskOf message ask

@@ -1,5 +1,6 @@
 use Rattle.std.proofs.Common.{refl}
 use Rattle.std.specs.Fmt.{digits}
+use Rattle.imsg_frame.specs.Fields.{len_bytes}
 use Rattle.imsg_frame.specs.Message.{header_bytes, spelling_of}
 use Rattle.request_catalogue.specs.Fields.{number_at}
 use Rattle.request_catalogue.specs.Kinds.{kind_numbered}
@@ -14,7 +15,7 @@ use Rattle.session_model.specs.Log.{line_of}
 use Rattle.session_model.proofs.smallest_run.Goals as goal
 
 pub returns : goal.returns
-unfolding verdict_by phase_of kind_verdict handle_verdict session_of operations_of reply_to spelling_of header_bytes reply_of request_of asked_by kind_numbered number_at line_of digits
+unfolding verdict_by phase_of kind_verdict handle_verdict session_of operations_of reply_to spelling_of header_bytes len_bytes reply_of request_of asked_by kind_numbered number_at line_of digits
 returns c = record {
   opens = refl;
   writes = refl;

@@ -31,7 +31,7 @@ loop-post-preserved g c =
       workers = kept.workers;
       between = IsBetween-next c.args.prepared.setup c.loop-post.worker c.loop-post.book.journal.items end.new.book.journal.items (vec_len c.loop-post.book.journal) (vec_len end.new.book.journal) kept.between end.ensures.ended end.ensures.len;
       capacity = end.ensures.capacity ∙ kept.capacity;
-      max = end.ensures.max ∙ kept.max;
+      frames = end.ensures.frames;
       ran = ran_next g c;
       fresh = fresh_next c.loop-post.post-items c.loop-post.post-index end.new.post g.P.Post.scene g.P.Post.accept_faults g.P.Post.keeper_faults g.P.Post.link_faults g.P.Post.conn_faults kept.fresh;
       logged = Logged-then kept.logged end.ensures.logged;
@@ -43,7 +43,7 @@ loop-post-init g c = record {
   workers = search rules;
   between = search rules;
   capacity = search rules;
-  max = search rules;
+  frames = search rules;
   ran = subst (λ journal. WorkersRan 1 false 0 journal c.deref_mut-post-items.result.now g.P.Post.scene g.P.Post.accept_faults g.P.Post.link_faults g.P.Post.keeper_faults) (sym c.requires.journal)
       (workers_none 1 c.deref_mut-post-items.result.now g.P.Post.scene g.P.Post.accept_faults g.P.Post.link_faults g.P.Post.keeper_faults);
   fresh = subst (λ posts. AreFresh 0 posts g.P.Post.scene g.P.Post.accept_faults g.P.Post.keeper_faults g.P.Post.link_faults g.P.Post.conn_faults) (sym c.deref_mut-post-items.ensures.value)

@@ -9,7 +9,7 @@ pub loop-why-init : goal.loop-why-init
 loop-why-init g c = record {
   underway = search rules;
   capacity = search rules;
-  max = search rules;
+  frames = search rules;
   logged = search rules;
   proceeds = Proceeds-none c.args.worker c.args.book.now.journal.items (g.P.Post.scene c.args.post.now) (g.P.Child.Stream.link c.args.child.now) c.args.reader.now.bytes;
   role = search rules;
@@ -40,7 +40,7 @@ loop-why-preserved g c =
         len = omega (arith, kept.underway.len, c.in_default.ensures.advances.len);
       };
       capacity = turn.ensures.capacity ∙ kept.capacity;
-      max = turn.ensures.max ∙ kept.max;
+      frames = turn.ensures.frames;
       logged = Logged-then kept.logged turn.ensures.logged;
       proceeds = Proceeds-then c.args.worker c.args.book.now.journal.items c.loop-why.book.journal.items turn.new.book.journal.items (g.P.Post.scene c.args.post.now) (g.P.Post.scene c.loop-why.post) (g.P.Post.scene turn.new.post)
           (g.P.Child.Stream.link c.args.child.now) (g.P.Child.Stream.link c.loop-why.child) (g.P.Child.Stream.link turn.new.child) c.args.reader.now.bytes c.loop-why.reader.bytes turn.new.reader.bytes kept.proceeds c.in_default.ensures.turns;

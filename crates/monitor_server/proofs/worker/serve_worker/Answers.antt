@@ -17,7 +17,7 @@ loop-init g c = record {
   ended = search rules;
   len = search rules;
   capacity = search rules;
-  max = search rules;
+  frames = search rules;
   story = ([], sittings_none c.args.worker c.args.book.now.journal.items (g.P.Post.scene c.args.post.now), refl, counted_none (g.P.Post.link_faults c.args.post.now) (g.P.Post.keeper_faults c.args.post.now), tt);
   logged = search rules;
 }
@@ -95,7 +95,7 @@ loop-preserved g c =
       ended = Ended-then c.args.setup.now c.args.worker c.args.book.now.journal.items c.loop.book.journal.items run.new.book.journal.items c.loop.invariant.ended.others run.ensures.ended;
       len = grind (arith, common_steps);
       capacity = search rules;
-      max = search rules;
+      frames = search rules;
       story = (
         story.0 ++ one.sitting ∷ [],
         sittings_more c.args.worker story.0 run.result c.args.book.now.journal.items c.loop.book.journal.items run.new.book.journal.items (g.P.Post.scene c.args.post.now) (g.P.Post.scene c.loop.post) (g.P.Post.scene c.accept.new.self) (g.P.Post.scene run.new.post) story.1 came one,

@@ -1,4 +1,5 @@
 use Rattle.std.proofs.Common.{◌≡◌, ◌+◌, ◌*◌, ◌≤◌, List, length, vec_len, vec_capacity}
+use Rattle.monitor_server.specs.Frames.{IsForSessions}
 use Rattle.std.specs.List.{AllByRecursion}
 use Rattle.monitor_server.specs.Book.{Logged}
 use Rattle.monitor_server.specs.Serving.{EndsCounted, HasSittings}
@@ -13,7 +14,7 @@ invariant-loop g l = record {
   ended : Ended l.setup l.worker l.fn.book.journal.items l.book.journal.items;
   len : vec_len l.book.journal ≤ vec_len l.fn.book.journal + l.counter * (l.setup.requests + 3);
   capacity : vec_capacity l.book.journal ≡ vec_capacity l.fn.book.journal;
-  max : l.reader.max ≡ 16384;
+  frames : IsForSessions l.reader;
   story : (sittings : List Sitting) × HasSittings l.worker sittings Unasked l.fn.book.journal.items l.book.journal.items (g.P.Post.scene l.fn.post) (g.P.Post.scene l.post)
       × (length sittings ≡ l.counter) × EndsCounted sittings (g.P.Post.link_faults l.fn.post) (g.P.Post.keeper_faults l.fn.post) (g.P.Post.link_faults l.post) (g.P.Post.keeper_faults l.post)
       × AllByRecursion GoesOnBehind sittings;
