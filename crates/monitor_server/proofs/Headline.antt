@@ -19,7 +19,8 @@ use Rattle.policy_model.specs.Phases.{narrow_row}
 use Rattle.policy_model.proofs.Legal.{IsLegal-none}
 use Rattle.policy_model.proofs.Lists.{last_or-push}
 use Rattle.session_model.specs.Ends.{is_fault_end, is_keeper_end, is_link_end, is_lost_end}
-use Rattle.session_model.specs.Places.{Place, places_of, step_acts}
+use Rattle.session_model.specs.Places.{worker_places, step_acts}
+use Rattle.policy_model.specs.Journal.{Place}
 use Rattle.session_model.specs.Parts.{IsAnswered}
 use Rattle.session_model.specs.Sittings.{AreSittingsOf, IsSitting, Sitting, all_steps}
 use Rattle.session_model.specs.Stories.{AcceptFailed, IsStory, LastAccept, NoAcceptBehindLoss, NoneLeft, Unasked, is_stop, parts_of, story_acts}
@@ -46,7 +47,7 @@ IfSome-weaker None P Q weaker h = tt
 IfSome-weaker (Some x) P Q weaker h = weaker x h
 
 -- what a worker did is some sessions, which are all its events
-sittings_of : (connections : ℕ) (last : LastAccept) (journal : List Event) (worker : ℕ) (scene : Option Scene) (a l k : ℕ) → (ran : WorkerRan connections last (places_of journal worker) scene a l k) → AreSittingsOf journal worker ran.sittings
+sittings_of : (connections : ℕ) (last : LastAccept) (journal : List Event) (worker : ℕ) (scene : Option Scene) (a l k : ℕ) → (ran : WorkerRan connections last (worker_places journal worker) scene a l k) → AreSittingsOf journal worker ran.sittings
 sittings_of connections last journal worker scene a l k ran = record { places = ran.all; each = ran.each; alone = ran.alone }
 
 pub sessions_in_order : {P : Type 0} (status : ℕ) (journal : List Event) (posts : List P) (scene : P → Option Scene) (accept_faults link_faults keeper_faults : P → ℕ) → RunEnded status journal posts scene accept_faults link_faults keeper_faults → SessionsInOrder journal
@@ -116,11 +117,11 @@ failed_accept sittings s is =
 
 -- ---- the length of the run
 
-lost_none : (journal : List Event) (worker : ℕ) → lost_by journal worker ≡ false → lost_places (places_of journal worker) ≡ 0
+lost_none : (journal : List Event) (worker : ℕ) → lost_by journal worker ≡ false → lost_places (worker_places journal worker) ≡ 0
 lost_none journal worker none =
     sym (count_of-places (λ e. is_lost e.decision) worker journal) ∙ count-any (λ e. eqb e.worker worker && is_lost e.decision) journal none
 
-quota_told : (journal : List Event) (worker : ℕ) (last : LastAccept) (scene : Option Scene) (a l k : ℕ) (s : Scene) → (ran : WorkerRan 1 last (places_of journal worker) scene a l k) → IsStory ran.sittings last s → list_any is_stop s.acts ≡ false → lost_by journal worker ≡ false → openings_by journal worker ≡ 1
+quota_told : (journal : List Event) (worker : ℕ) (last : LastAccept) (scene : Option Scene) (a l k : ℕ) (s : Scene) → (ran : WorkerRan 1 last (worker_places journal worker) scene a l k) → IsStory ran.sittings last s → list_any is_stop s.acts ≡ false → lost_by journal worker ≡ false → openings_by journal worker ≡ 1
 quota_told journal worker last scene a l k s ran story unstop kept =
     let none = lost_none journal worker kept in
     let all = ran.quota (unstopped ran.sittings last s.acts story.acts unstop) none in
@@ -191,9 +192,9 @@ run_causes words status journal posts scene accept_faults link_faults keeper_fau
 
 -- ---- the ends by a fault
 
-ends_counted : (test : Ask → Bool) (journal : List Event) (worker count : ℕ) → RoseBy (asks_among test (places_of journal worker)) 0 count → length journal ≤ 1048576 → ends_by test journal worker ≤ count
+ends_counted : (test : Ask → Bool) (journal : List Event) (worker count : ℕ) → RoseBy (asks_among test (worker_places journal worker)) 0 count → length journal ≤ 1048576 → ends_by test journal worker ≤ count
 ends_counted test journal worker count rose few =
-    let same : ends_by test journal worker ≡ asks_among test (places_of journal worker) = count_of-places (λ e. test e.ask) worker journal in
+    let same : ends_by test journal worker ≡ asks_among test (worker_places journal worker) = count_of-places (λ e. test e.ask) worker journal in
     let le : ends_by test journal worker ≤ length journal = count_by-le-length (λ e. eqb e.worker worker && test e.ask) journal in
     omega (arith, same, le, few, rose.by)
 
@@ -233,7 +234,7 @@ faults_split (p ∷ ps) =
       go false false true = omega arith
       go false false false = omega arith
 
-lost_all : (journal : List Event) (worker : ℕ) → has_lost journal ≡ false → lost_places (places_of journal worker) ≡ 0
+lost_all : (journal : List Event) (worker : ℕ) → has_lost journal ≡ false → lost_places (worker_places journal worker) ≡ 0
 lost_all journal worker none =
     sym (count_of-places (λ e. is_lost e.decision) worker journal)
     ∙ count-none (λ e. eqb e.worker worker && is_lost e.decision) (λ e. is_lost e.decision) journal (λ e. weaker (eqb e.worker worker) (is_lost e.decision)) (count-any (λ e. is_lost e.decision) journal none) where
@@ -244,17 +245,17 @@ lost_all journal worker none =
 none_rose : (n : ℕ) (count : ℕ) → RoseBy n 0 count → count ≡ 0 → n ≡ 0
 none_rose n count rose none = omega (arith, rose.by, none)
 
-no_fault_ends : {P : Type 0} (status : ℕ) (journal : List Event) (posts : List P) (scene : P → Option Scene) (accept_faults link_faults keeper_faults : P → ℕ) → RunEnded status journal posts scene accept_faults link_faults keeper_faults → has_lost journal ≡ false → ((worker : ℕ) (post : P) → slice_get posts worker ≡ Some post → IsFaultless accept_faults keeper_faults link_faults post) → (worker : ℕ) → asks_among is_fault_end (places_of journal worker) ≡ 0
+no_fault_ends : {P : Type 0} (status : ℕ) (journal : List Event) (posts : List P) (scene : P → Option Scene) (accept_faults link_faults keeper_faults : P → ℕ) → RunEnded status journal posts scene accept_faults link_faults keeper_faults → has_lost journal ≡ false → ((worker : ℕ) (post : P) → slice_get posts worker ≡ Some post → IsFaultless accept_faults keeper_faults link_faults post) → (worker : ℕ) → asks_among is_fault_end (worker_places journal worker) ≡ 0
 no_fault_ends {P} status journal posts scene accept_faults link_faults keeper_faults run kept faultless worker = go (slice_get posts worker) refl where
-  go : (o : Option P) → slice_get posts worker ≡ o → asks_among is_fault_end (places_of journal worker) ≡ 0
+  go : (o : Option P) → slice_get posts worker ≡ o → asks_among is_fault_end (worker_places journal worker) ≡ 0
   go None is = ap (asks_among is_fault_end) (run.ran.unbegun worker (get_past posts worker is))
   go (Some post) is =
       let did = (run.ran.each worker post (slice_get_within posts worker post is) is).2 in
       let none = faultless worker post is in
-      let link = none_rose (asks_among is_link_end (places_of journal worker)) (link_faults post) did.link none.no_link_fault in
-      let keeper = none_rose (asks_among is_keeper_end (places_of journal worker)) (keeper_faults post) did.keeper none.no_keeper_fault in
-      let lost : asks_among is_lost_end (places_of journal worker) ≤ lost_places (places_of journal worker) = subst (λ ps. asks_among is_lost_end ps ≤ lost_places ps) (sym did.all) (all_lost_ends did.sittings did.each) in
-      omega (arith, faults_split (places_of journal worker), link, keeper, lost, lost_all journal worker kept)
+      let link = none_rose (asks_among is_link_end (worker_places journal worker)) (link_faults post) did.link none.no_link_fault in
+      let keeper = none_rose (asks_among is_keeper_end (worker_places journal worker)) (keeper_faults post) did.keeper none.no_keeper_fault in
+      let lost : asks_among is_lost_end (worker_places journal worker) ≤ lost_places (worker_places journal worker) = subst (λ ps. asks_among is_lost_end ps ≤ lost_places ps) (sym did.all) (all_lost_ends did.sittings did.each) in
+      omega (arith, faults_split (worker_places journal worker), link, keeper, lost, lost_all journal worker kept)
 
 pub run_complete : {P : Type 0} (words : List (List ℕ)) (status : ℕ) (journal : List Event) (posts : List P) (scene : P → Option Scene) (accept_faults link_faults keeper_faults : P → ℕ) (ListenRose LogRose : Type 0)
     → (status ≡ 0) ⊎ (status ≡ 7) ⊎ (status ≡ 10) → RunEnded status journal posts scene accept_faults link_faults keeper_faults → StatusHasCause words status plain_settings journal posts scene accept_faults ListenRose LogRose → IsComplete words status scene journal posts (NoFault ListenRose LogRose accept_faults keeper_faults link_faults posts)
@@ -264,7 +265,7 @@ run_complete words status journal posts scene accept_faults link_faults keeper_f
   ended = λ none zero_is. none_by_worker (λ e. is_fault_end e.ask) journal (λ worker. count_of-places (λ e. is_fault_end e.ask) worker journal ∙ no_fault_ends status journal posts scene accept_faults link_faults keeper_faults run (causes.success zero_is).0 none.each worker);
   answered = λ none zero_is worker post is.
       let did = run.ran.each worker post (slice_get_within posts worker post is) is in
-      let link = none_rose (asks_among is_link_end (places_of journal worker)) (link_faults post) did.2.link (none.each worker post is).no_link_fault in
+      let link = none_rose (asks_among is_link_end (worker_places journal worker)) (link_faults post) did.2.link (none.each worker post is).no_link_fault in
       let answered = all_answered did.2.sittings did.2.each (sym (ap (asks_among is_link_end) did.2.all) ∙ link) in
       IfSome-weaker (scene post) (IsStory did.2.sittings did.0) (λ s. (sittings : List Sitting) × (last : LastAccept) × AreSittingsOf journal worker sittings × IsStory sittings last s × AllByRecursion IsAnswered (parts_of sittings))
       (λ s story. (did.2.sittings, did.0, sittings_of 1 did.0 journal worker (scene post) (accept_faults post) (link_faults post) (keeper_faults post) did.2, story, answered)) did.2.story;
@@ -282,7 +283,7 @@ no_post : {P : Type 0} {X : Type 0} (posts : List P) (worker : ℕ) (post : P) �
 no_post posts worker post none is = absurd (let e : None ≡ Some post = sym (ap (λ ps. slice_get ps worker) none) ∙ is in cc)
 
 pub unused_sessions : (journal : List Event) → journal ≡ [] → SessionsInOrder journal
-unused_sessions journal events = record { in_order = λ worker. ([], record { places = ap (λ j. places_of j worker) events; each = tt; alone = tt }) }
+unused_sessions journal events = record { in_order = λ worker. ([], record { places = ap (λ j. worker_places j worker) events; each = tt; alone = tt }) }
 
 unused_legal : (journal : List Event) → journal ≡ [] → JournalIsLegal plain_settings journal
 unused_legal journal events = subst (JournalIsLegal plain_settings) (sym events) (record { legal = IsLegal-none {table = narrow_row} plain_settings; proper = tt; workers = tt; few = omega arith })

@@ -10,7 +10,7 @@ use Rattle.outside.specs.Scene.{IsFresh, IsUnplayed, Played, Scene, came_count}
 use Rattle.outside.specs.Told.{Goes}
 use Rattle.policy_model.specs.declared.event.Event.{Event}
 use Rattle.session_model.specs.Ends.{is_keeper_end, is_link_end}
-use Rattle.session_model.specs.Places.{places_of, step_places}
+use Rattle.session_model.specs.Places.{worker_places, step_places}
 use Rattle.session_model.specs.Sittings.{Sitting, all_steps}
 use Rattle.session_model.specs.Stories.{AcceptFailed, ArePlanned, IsStory, LastAccept, NoAcceptBehindLoss, Unasked, parts_of, story_acts, talk_of}
 use Rattle.session_model.proofs.Ends.{lost_places}
@@ -92,10 +92,10 @@ no_fault_end ends.NoMore h e = absurd cc
 no_fault_end ends.LogLost h e = absurd cc
 
 -- what one worker did, from a fresh post on
-pub worker_ran : (worker connections : ℕ) (end : WorkerEnd) (old new : List Event) (before after : Option Scene) (link_old keeper_old link_new keeper_new accept_faults : ℕ) → HasStory worker connections end old new before after link_old keeper_old link_new keeper_new → places_of old worker ≡ [] → IfSome before IsUnplayed → link_old ≡ 0 → keeper_old ≡ 0 → (end ≡ ends.AcceptFault → 0 < accept_faults) → WorkerRan connections (last_of end) (places_of new worker) after accept_faults link_new keeper_new
+pub worker_ran : (worker connections : ℕ) (end : WorkerEnd) (old new : List Event) (before after : Option Scene) (link_old keeper_old link_new keeper_new accept_faults : ℕ) → HasStory worker connections end old new before after link_old keeper_old link_new keeper_new → worker_places old worker ≡ [] → IfSome before IsUnplayed → link_old ≡ 0 → keeper_old ≡ 0 → (end ≡ ends.AcceptFault → 0 < accept_faults) → WorkerRan connections (last_of end) (worker_places new worker) after accept_faults link_new keeper_new
 worker_ran worker connections end old new before after link_old keeper_old link_new keeper_new accept_faults story unbegun fresh no_link no_keeper failed =
     let steps = step_places (flat_map all_steps story.sittings) in
-    let places : places_of new worker ≡ steps = story.are.steps.own ∙ ap (λ ps. ps ++ steps) unbegun in
+    let places : worker_places new worker ≡ steps = story.are.steps.own ∙ ap (λ ps. ps ++ steps) unbegun in
     record {
       sittings = story.sittings;
       each = story.are.each;

@@ -24,13 +24,13 @@ use Rattle.policy_model.specs.Journal.{open_session_of}
 use Rattle.policy_model.specs.Settings.{Settings}
 use Rattle.policy_model.proofs.Runs.{next_session}
 use Rattle.policy_model.proofs.Verdicts.{session_of-other}
-use Rattle.session_model.specs.Places.{Step, place_of, places_of}
+use Rattle.session_model.specs.Places.{Step, place_of, worker_places}
 use Rattle.session_model.specs.Acts.{Sends, asked, has_connection_fault, operations_by, operations_of, write_operations, written_bytes, written_by}
 use Rattle.session_model.specs.Answers.{answer_value, outcome_value, reply_bytes, reply_to}
 use Rattle.session_model.specs.Parts.{IsRequestStep, why_of}
 use Rattle.session_model.specs.Requests.{Asks, IsAskOf, frame_width, max_len}
 use Rattle.session_model.proofs.Ends.{no_begin}
-use Rattle.session_model.proofs.Places.{places_of-other, places_of-own}
+use Rattle.session_model.proofs.Places.{worker_places-other, worker_places-own}
 use Rattle.monitor_server.specs.Asking.{IsEndOf, answered, read_value}
 use Rattle.monitor_server.specs.Book.{Joins}
 use Rattle.monitor_server.specs.Serving.{Answers, Steps, request_operations}
@@ -47,8 +47,8 @@ step_of old e message acts = record { place = place_of old e; message = Some mes
 -- an event that joins the journal is one step of its worker
 pub Steps-join : (setup : Settings) (worker : ℕ) (ask : Ask) (old new : List Event) (e : Event) (message : Option Message) (acts : List Act) → Joins setup worker ask old new e → Steps worker (record { place = place_of old e; message = message; acts = acts } ∷ []) old new
 Steps-join setup worker ask old new e message acts joins = record {
-  own = ap (λ j. places_of j worker) joins.grown ∙ places_of-own worker old e joins.its;
-  others = λ other ne. ap (λ j. places_of j other) joins.grown ∙ places_of-other other old e (λ same. ne (sym same ∙ joins.its));
+  own = ap (λ j. worker_places j worker) joins.grown ∙ worker_places-own worker old e joins.its;
+  others = λ other ne. ap (λ j. worker_places j other) joins.grown ∙ worker_places-other other old e (λ same. ne (sym same ∙ joins.its));
 }
 
 by_handle : (e : Event) (handle offset : ℕ) (bytes : List ℕ) (d : Decision) → (message : Option Message) → written_bytes message ≡ bytes → write_operations handle d message ≡ request_operations (Ok (requests.WriteAt handle offset bytes)) d

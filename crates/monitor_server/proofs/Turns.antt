@@ -21,7 +21,7 @@ use Rattle.policy_model.specs.declared.event.Why.TheVariants as whys
 use Rattle.policy_model.specs.Journal.{ask_count}
 use Rattle.policy_model.specs.Settings.{Settings}
 use Rattle.session_model.specs.Requests.{frame_width, max_len}
-use Rattle.session_model.specs.Places.{Step, places_of, step_acts, step_places}
+use Rattle.session_model.specs.Places.{Step, worker_places, step_acts, step_places}
 use Rattle.session_model.specs.Answers.{answer_to, answers}
 use Rattle.session_model.specs.Parts.{GoesOn, IsRequestStep, LastSent, message_bytes, step_bytes}
 use Rattle.session_model.proofs.Lists.{All-append}
@@ -32,11 +32,11 @@ use Rattle.monitor_server.specs.Session as Sessions
 
 -- no step, and steps one after the other
 pub Steps-none : (worker : ℕ) (journal : List Event) → Steps worker [] journal journal
-Steps-none worker journal = record { own = sym (append-nil (places_of journal worker)); others = λ other ne. refl }
+Steps-none worker journal = record { own = sym (append-nil (worker_places journal worker)); others = λ other ne. refl }
 
 pub Steps-then : (worker : ℕ) (xs ys : List Step) (a b c : List Event) → Steps worker xs a b → Steps worker ys b c → Steps worker (xs ++ ys) a c
 Steps-then worker xs ys a b c first second = record {
-  own = second.own ∙ ap (λ ps. ps ++ step_places ys) first.own ∙ append_assoc (places_of a worker) (step_places xs) (step_places ys) ∙ ap (λ ps. places_of a worker ++ ps) (sym (places-append xs ys));
+  own = second.own ∙ ap (λ ps. ps ++ step_places ys) first.own ∙ append_assoc (worker_places a worker) (step_places xs) (step_places ys) ∙ ap (λ ps. worker_places a worker ++ ps) (sym (places-append xs ys));
   others = λ other ne. second.others other ne ∙ first.others other ne;
 }
 

@@ -8,7 +8,8 @@ use Rattle.policy_model.specs.declared.event.Event.{Event}
 use Rattle.policy_model.specs.Asks.{is_lost}
 use Rattle.policy_model.specs.Settings.{plain_settings}
 use Rattle.session_model.specs.Ends.{is_keeper_end, is_link_end}
-use Rattle.session_model.specs.Places.{Place, places_of, step_places}
+use Rattle.session_model.specs.Places.{worker_places, step_places}
+use Rattle.policy_model.specs.Journal.{Place}
 use Rattle.session_model.specs.Sittings.{IsSitting, NoneBehindLoss, Sitting, all_steps}
 use Rattle.session_model.specs.Stories.{AcceptFailed, IsStory, LastAccept, Unasked}
 use Rattle.monitor_server.specs.declared.report.Detail.{Detail}
@@ -30,13 +31,13 @@ pub record WorkerRan (connections : ℕ) (last : LastAccept) (places : List Plac
 
 -- what the worker with this number did, and what its post tells and counts
 abbrev pub Ran : {P : Type 0} → ℕ → List Event → (P → Option Scene) → (P → ℕ) → (P → ℕ) → (P → ℕ) → LastAccept → ℕ → P → Type 0
-Ran connections journal scene accept_faults link_faults keeper_faults last worker post = WorkerRan connections last (places_of journal worker) (scene post) (accept_faults post) (link_faults post) (keeper_faults post)
+Ran connections journal scene accept_faults link_faults keeper_faults last worker post = WorkerRan connections last (worker_places journal worker) (scene post) (accept_faults post) (link_faults post) (keeper_faults post)
 
 -- the workers below this one have run, one of them to a failed accept or none, and no other one has begun
 pub record WorkersRan {P : Type 0} (connections : ℕ) (failed : Bool) (count : ℕ) (journal : List Event) (posts : List P) (scene : P → Option Scene) (accept_faults link_faults keeper_faults : P → ℕ) : Type 0 where
   pub each : (worker : ℕ) (post : P) → worker < count → slice_get posts worker ≡ Some post → (last : LastAccept) × (failed ≡ false → last ≢ AcceptFailed) × Ran connections journal scene accept_faults link_faults keeper_faults last worker post
   pub one : failed ≡ true → (worker : ℕ) × (post : P) × (worker < count) × (slice_get posts worker ≡ Some post) × Ran connections journal scene accept_faults link_faults keeper_faults AcceptFailed worker post
-  pub unbegun : (worker : ℕ) → count ≤ worker → places_of journal worker ≡ []
+  pub unbegun : (worker : ℕ) → count ≤ worker → worker_places journal worker ≡ []
 
 -- nothing was asked yet of the posts from this one on
 pub record AreFresh {P : Type 0} (count : ℕ) (posts : List P) (scene : P → Option Scene) (accept_faults keeper_faults link_faults conn_faults : P → ℕ) : Type 0 where

@@ -22,7 +22,8 @@ use Rattle.policy_model.specs.declared.event.Why.{Why}
 use Rattle.policy_model.specs.declared.event.Why.TheVariants as whys
 use Rattle.policy_model.specs.Asks.{is_lost}
 use Rattle.session_model.specs.Ends.{is_keeper_end, is_link_end}
-use Rattle.session_model.specs.Places.{Place, Step, places_of, step_acts, step_places}
+use Rattle.session_model.specs.Places.{Step, worker_places, step_acts, step_places}
+use Rattle.policy_model.specs.Journal.{Place}
 use Rattle.session_model.specs.Acts.{Operation, Sends, Starts, asked, has_connection_fault, is_failed_start}
 use Rattle.session_model.specs.Answers.{answer_to, answers}
 use Rattle.session_model.specs.Parts.{EndsSo, GoesOn, IsPart, IsRequestStep, LastSent, Part, requests_of, step_bytes}
@@ -33,8 +34,8 @@ use Rattle.monitor_server.specs.declared.worker.WorkerEnd.TheVariants as ends
 
 -- a worker took these steps, and no other worker any
 pub record Steps (worker : ℕ) (steps : List Step) (old new : List Event) : Type 0 where
-  pub own : places_of new worker ≡ places_of old worker ++ step_places steps
-  pub others : (other : ℕ) → other ≢ worker → places_of new other ≡ places_of old other
+  pub own : worker_places new worker ≡ worker_places old worker ++ step_places steps
+  pub others : (other : ℕ) → other ≢ worker → worker_places new other ≡ worker_places old other
 
 -- counts of faults of links and of starts did not fall
 pub record NoFewer (link_old keeper_old link_new keeper_new : ℕ) : Type 0 where

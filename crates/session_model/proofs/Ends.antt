@@ -10,7 +10,8 @@ use Rattle.policy_model.specs.declared.event.Decision.{Decision}
 use Rattle.policy_model.specs.declared.event.Decision.TheVariants as decisions
 use Rattle.policy_model.specs.Asks.{is_begin, is_lost, is_permit, came_by_frame, opens}
 use Rattle.session_model.specs.Ends.{is_keeper_end, is_link_end, is_lost_end}
-use Rattle.session_model.specs.Places.{Place, Step, step_places}
+use Rattle.session_model.specs.Places.{Step, step_places}
+use Rattle.policy_model.specs.Journal.{Place}
 use Rattle.session_model.specs.Parts.{EndsSo, IsPart, Part, requests_of, why_of}
 use Rattle.session_model.specs.Sittings.{AreParts, Follows, IsSitting, Sitting, all_steps}
 use Rattle.session_model.proofs.Lists.{count-append, count-cons}

@@ -3,7 +3,8 @@ use Rattle.std.proofs.Common.{◌≡◌, ◌≢◌, ℕ, ◌+◌, Bool, true, fa
 use Rattle.std.proofs.lemmas.Bool.Decides.{nat_tests}
 use Rattle.std.proofs.lemmas.List.{append-nil}
 use Rattle.policy_model.specs.declared.event.Event.{Event}
-use Rattle.session_model.specs.Places.{Place, place_of, places_after, places_of}
+use Rattle.session_model.specs.Places.{place_of, places_after, worker_places}
+use Rattle.policy_model.specs.Journal.{Place}
 use Rattle.session_model.proofs.Lists.{count-append, count-cons}
 
 pub places_after-append : (worker : ℕ) (before xs ys : List Event) → places_after worker before (xs ++ ys) ≡ places_after worker before xs ++ places_after worker (before ++ xs) ys
@@ -14,20 +15,20 @@ places_after-append worker before (x ∷ xs) ys =
     ap (λ ps. front ++ ps) (places_after-append worker mid xs ys ∙ ap (λ b. places_after worker mid xs ++ places_after worker b ys) (append_assoc before (x ∷ []) xs))
     ∙ sym (append_assoc front (places_after worker mid xs) (places_after worker (before ++ (x ∷ xs)) ys))
 
-one_place : (worker : ℕ) (before : List Event) (e : Event) → places_of (before ++ e ∷ []) worker ≡ places_of before worker ++ cond (eqb e.worker worker) (place_of before e ∷ []) []
-one_place worker before e = places_after-append worker [] before (e ∷ []) ∙ ap (λ ps. places_of before worker ++ ps) (append-nil (cond (eqb e.worker worker) (place_of before e ∷ []) []))
+one_place : (worker : ℕ) (before : List Event) (e : Event) → worker_places (before ++ e ∷ []) worker ≡ worker_places before worker ++ cond (eqb e.worker worker) (place_of before e ∷ []) []
+one_place worker before e = places_after-append worker [] before (e ∷ []) ∙ ap (λ ps. worker_places before worker ++ ps) (append-nil (cond (eqb e.worker worker) (place_of before e ∷ []) []))
 
 -- an event of the worker is one place more
-pub places_of-own : (worker : ℕ) (before : List Event) (e : Event) → e.worker ≡ worker → places_of (before ++ e ∷ []) worker ≡ places_of before worker ++ place_of before e ∷ []
-places_of-own worker before e its =
+pub worker_places-own : (worker : ℕ) (before : List Event) (e : Event) → e.worker ≡ worker → worker_places (before ++ e ∷ []) worker ≡ worker_places before worker ++ place_of before e ∷ []
+worker_places-own worker before e its =
     let same : eqb e.worker worker ≡ true = eq-eqb e.worker worker its in
-    one_place worker before e ∙ ap (λ b. places_of before worker ++ cond b (place_of before e ∷ []) []) same
+    one_place worker before e ∙ ap (λ b. worker_places before worker ++ cond b (place_of before e ∷ []) []) same
 
 -- an event of another worker is none
-pub places_of-other : (worker : ℕ) (before : List Event) (e : Event) → e.worker ≢ worker → places_of (before ++ e ∷ []) worker ≡ places_of before worker
-places_of-other worker before e other =
+pub worker_places-other : (worker : ℕ) (before : List Event) (e : Event) → e.worker ≢ worker → worker_places (before ++ e ∷ []) worker ≡ worker_places before worker
+worker_places-other worker before e other =
     let apart : eqb e.worker worker ≡ false = grind (arith, nat_tests, other) in
-    one_place worker before e ∙ ap (λ b. places_of before worker ++ cond b (place_of before e ∷ []) []) apart ∙ append-nil (places_of before worker)
+    one_place worker before e ∙ ap (λ b. worker_places before worker ++ cond b (place_of before e ∷ []) []) apart ∙ append-nil (worker_places before worker)
 
 count_after : (f : Event → Bool) (worker : ℕ) (before journal : List Event) → count_by (λ e. eqb e.worker worker && f e) journal ≡ count_by (λ p. f p.event) (places_after worker before journal)
 count_after f worker before [] = refl
@@ -43,5 +44,5 @@ count_after f worker before (e ∷ es) =
       go false = refl
 
 -- the events of a worker that pass a test, by its places
-pub count_of-places : (f : Event → Bool) (worker : ℕ) (journal : List Event) → count_by (λ e. eqb e.worker worker && f e) journal ≡ count_by (λ p. f p.event) (places_of journal worker)
+pub count_of-places : (f : Event → Bool) (worker : ℕ) (journal : List Event) → count_by (λ e. eqb e.worker worker && f e) journal ≡ count_by (λ p. f p.event) (worker_places journal worker)
 count_of-places f worker journal = count_after f worker [] journal

@@ -19,7 +19,7 @@ use Rattle.policy_model.specs.declared.event.Why.TheVariants as whys
 use Rattle.policy_model.specs.declared.event.Decision.{Decision}
 use Rattle.policy_model.specs.declared.event.Decision.TheVariants as decisions
 use Rattle.policy_model.specs.declared.event.Event.{Event}
-use Rattle.session_model.specs.Places.{Place}
+use Rattle.policy_model.specs.Journal.{Place}
 use Rattle.session_model.specs.Requests.{frame_width}
 
 -- what is asked of the outside, without what comes of it

@@ -4,11 +4,7 @@ use Rattle.std.specs.List.{flat_map}
 use Rattle.imsg_frame.specs.Message.{Message}
 use Rattle.outside.specs.declared.act.Act.{Act}
 use Rattle.policy_model.specs.declared.event.Event.{Event}
-
--- an event, with the events before it
-pub record Place : Type 0 where
-  pub before : List Event
-  pub event : Event
+use Rattle.policy_model.specs.Journal.{Place}
 
 -- an event at its place, with the message that it came by, if it is a child's, and the acts that were done for it
 pub record Step : Type 0 where
@@ -25,8 +21,8 @@ places_after worker before [] = []
 places_after worker before (e ∷ events) = (if e.worker == worker then place_of before e ∷ [] else []) ++ places_after worker (before ++ e ∷ []) events
 
 -- the places of a worker's events in a journal
-abbrev pub places_of : List Event → ℕ → List Place
-places_of journal worker = places_after worker [] journal
+abbrev pub worker_places : List Event → ℕ → List Place
+worker_places journal worker = places_after worker [] journal
 
 abbrev pub step_places : List Step → List Place
 step_places steps = map (λ s. s.place) steps

@@ -7,7 +7,7 @@ use Rattle.policy_model.specs.declared.event.Why.{Why}
 use Rattle.policy_model.specs.declared.event.Why.TheVariants as whys
 use Rattle.policy_model.specs.declared.event.Event.{Event}
 use Rattle.policy_model.specs.Asks.{is_permit, is_lost}
-use Rattle.session_model.specs.Places.{Step, step_places, places_of}
+use Rattle.session_model.specs.Places.{Step, step_places, worker_places}
 use Rattle.session_model.specs.Ends.{is_lost_end}
 use Rattle.session_model.specs.Acts.{AreActsOf, has_failed_start}
 use Rattle.session_model.specs.Parts.{Part, IsPart, requests_of}
@@ -67,6 +67,6 @@ NoneBehindLoss (sitting ∷ behind) = (ends_worker sitting ≡ true → behind �
 -- the sessions of a worker, one after the other, are all its events; one that was lost, or ended because a decision was lost, is
 -- the last
 pub record AreSittingsOf (journal : List Event) (worker : ℕ) (sittings : List Sitting) : Type 0 where
-  pub places : places_of journal worker ≡ step_places (flat_map all_steps sittings)
+  pub places : worker_places journal worker ≡ step_places (flat_map all_steps sittings)
   pub each : AllByRecursion IsSitting sittings
   pub alone : NoneBehindLoss sittings
