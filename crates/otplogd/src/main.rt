@@ -1,8 +1,12 @@
 //! The program: it runs with the real outside by the words of its command line. It reads a pass
-//! phrase from standard input, prints to standard output and logs to standard error.
+//! phrase from standard input, prints to standard output and logs to standard error. Where it served
+//! nobody and didn't succeed, it says on standard error why; behind a run the log stands there alone.
 #![tactic(auto)]
 
-use monitor_server::otplogd;
+mod complaint;
+
+use complaint::Complaint;
+use monitor_server::{Detail, otplogd};
 use outside::Word;
 use outside_real::{RealEnds, RealFiles, RealSink, RealSite};
 use std::alloc::{AllocError, Global};
@@ -10,6 +14,9 @@ use std::env;
 use std::env::Args;
 use std::process::ExitCode;
 use std::rt::Env;
+
+#[cfg(test)]
+mod tests;
 
 /// The words are no command.
 const NO_COMMAND: u8 = 2;
@@ -26,13 +33,19 @@ fn words_of(alloc: Global, args: Args) -> Result<Vec<Word>, AllocError> {
     Ok(words)
 }
 
+/// Says why nobody was served, and gives the exit status.
+fn complain(rt: &impl Eprint, status: u8, detail: Detail) -> ExitCode {
+    let _ = rt.eprintln(Complaint { status, detail });
+    ExitCode::from(status)
+}
+
 fn main(rt: HostRuntime) -> ExitCode {
     let alloc = rt.alloc();
     let Ok(args) = env::args(&rt) else {
-        return ExitCode::from(NO_COMMAND);
+        return complain(&rt, NO_COMMAND, Detail::Nothing);
     };
     let Ok(words) = words_of(alloc, args) else {
-        return ExitCode::from(NO_MEMORY);
+        return complain(&rt, NO_MEMORY, Detail::Nothing);
     };
     let log = RealSink::new(rt.stderr());
     let mut ends = RealEnds::new(rt.stdin(), rt.stdout());
@@ -46,5 +59,8 @@ fn main(rt: HostRuntime) -> ExitCode {
         log,
         &mut ends,
     );
+    if report.posts.is_empty() && report.status != 0 {
+        return complain(&rt, report.status, report.detail);
+    }
     ExitCode::from(report.status)
 }

@@ -1,0 +1,70 @@
+//! What the program says where it served nobody.
+
+use account_file::SetupFault;
+use monitor_server::{Detail, FileKind};
+use otp_words::{DictFault, DictRule};
+use std::fmt;
+
+/// Why the program ends with a status, in one line for the one who called it: from the report alone,
+/// and without memory.
+#[derive(Clone, Copy)]
+pub struct Complaint {
+    /// The exit status, not 0.
+    pub status: u8,
+    /// Which file is missing, or what is wrong with it.
+    pub detail: Detail,
+}
+
+impl fmt::Display for Complaint {
+    fn fmt<W: fmt::Write>(&self, f: &mut fmt::Formatter<W>) -> fmt::Result {
+        f.write_str("otplogd: ")?;
+        match self.detail {
+            Detail::Nothing => f.write_str(status_text(self.status)),
+            Detail::Missing { file } => write!(f, "{} is not there", file_text(file)),
+            Detail::SetupBad(SetupFault { key, rule, account }) => write!(
+                f,
+                "the setup is refused: key {}, rule {}, account {account}",
+                key.word(),
+                rule.word()
+            ),
+            Detail::WordsBad(DictFault { line, rule }) => write!(
+                f,
+                "the word list is refused: line {line} {}",
+                list_rule_text(rule)
+            ),
+        }
+    }
+}
+
+/// What a status alone tells.
+fn status_text(status: u8) -> &'static str {
+    match status {
+        2 => "call it as otplogd serve, otplogd check SETUP or otplogd otp md5|sha1 N SEED [WORDS]",
+        3 => "a file could not be read",
+        4 => "a file is not there",
+        5 => "a file is refused",
+        6 => "the socket could not be listened at",
+        9 => "memory was wanted",
+        11 => "standard input could not be read, or standard output not be written",
+        12 => "the pass phrase is not 10 to 63 bytes of printable ASCII",
+        _ => "it failed",
+    }
+}
+
+/// What a file is to the program.
+fn file_text(file: FileKind) -> &'static str {
+    match file {
+        FileKind::Setup => "the setup",
+        FileKind::Words => "the word list",
+    }
+}
+
+/// What a word list has at the line of its first fault.
+fn list_rule_text(rule: DictRule) -> &'static str {
+    match rule {
+        DictRule::Count => "is the last, and 2,048 lines are wanted",
+        DictRule::Length => "has not 1 to 4 letters",
+        DictRule::Letter => "has another character than a letter",
+        DictRule::Twice => "has a word that stands before",
+    }
+}

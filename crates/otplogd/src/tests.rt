@@ -1,0 +1,72 @@
+use crate::complaint::Complaint;
+use account_file::{SetupFault, SetupKey, SetupRule};
+use monitor_server::{Detail, FileKind};
+use otp_words::{DictFault, DictRule};
+use std::test::Fail;
+
+#[test]
+fn each_status_has_its_line(rt: HostRuntime) -> Result<(), Fail> {
+    let twice = SetupFault {
+        key: SetupKey::Uid,
+        rule: SetupRule::Twice,
+        account: 2,
+    };
+    let count = DictFault {
+        line: 2_047,
+        rule: DictRule::Count,
+    };
+    let rows = [
+        (
+            2,
+            Detail::Nothing,
+            "otplogd: call it as otplogd serve, otplogd check SETUP or otplogd otp md5|sha1 N SEED [WORDS]",
+        ),
+        (3, Detail::Nothing, "otplogd: a file could not be read"),
+        (
+            4,
+            Detail::Missing {
+                file: FileKind::Setup,
+            },
+            "otplogd: the setup is not there",
+        ),
+        (
+            4,
+            Detail::Missing {
+                file: FileKind::Words,
+            },
+            "otplogd: the word list is not there",
+        ),
+        (
+            5,
+            Detail::SetupBad(twice),
+            "otplogd: the setup is refused: key uid, rule twice, account 2",
+        ),
+        (
+            5,
+            Detail::WordsBad(count),
+            "otplogd: the word list is refused: line 2047 is the last, and 2,048 lines are wanted",
+        ),
+        (
+            6,
+            Detail::Nothing,
+            "otplogd: the socket could not be listened at",
+        ),
+        (9, Detail::Nothing, "otplogd: memory was wanted"),
+        (
+            11,
+            Detail::Nothing,
+            "otplogd: standard input could not be read, or standard output not be written",
+        ),
+        (
+            12,
+            Detail::Nothing,
+            "otplogd: the pass phrase is not 10 to 63 bytes of printable ASCII",
+        ),
+    ];
+    for (status, detail, line) in rows {
+        let complaint = Complaint { status, detail };
+        let text = format!(in rt.alloc(); "{complaint}")?;
+        assert_eq!(rt; text.as_str(), line);
+    }
+    Ok(())
+}
