@@ -26,7 +26,7 @@ pub returns-in-Frame-clause-frames : goal.returns-in-Frame-clause-frames
 returns-in-Frame-clause-frames g c = frames_kept c.args.reader.now c.next.follows.lender-at-none c.next.result c.next.follows.holds-at-none c.requires.frames
 
 pub receive-requires-clause-front : goal.receive-requires-clause-front
-receive-requires-clause-front g c =
+receive-requires-clause-front g c κs within =
     let same = nothing_taken c.args.reader.now c.next.follows.lender-at-none c.next.result c.in-NotYet.is c.next.follows.holds-at-none in
     partial_front c.args.reader.now c.next.follows.lender-at-none c.next.result c.in-NotYet.is same c.requires.frames c.next.ensures.answer
 
