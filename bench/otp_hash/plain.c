@@ -1,12 +1,13 @@
-/* The chains of main.rt.txt by OpenSSL's one-block digests. Prints the same lines. */
+/* The chains of main.rt.txt by OpenSSL's one-block digests: called with the same words, it prints the same line. */
 #include <inttypes.h>
 #include <openssl/md5.h>
 #include <openssl/sha.h>
 #include <stdio.h>
+#include <stdlib.h>
 #include <string.h>
 #include <time.h>
 
-enum { CHAINS = 100, STEPS = 9999, RUNS = 7, FOLDED = 8 };
+enum { STEPS = 9999, FOLDED = 8 };
 
 typedef void hash(const uint8_t *message, size_t length, uint8_t *folded);
 
@@ -52,24 +53,23 @@ static uint64_t password_at(hash *step, uint8_t phrase)
     return password;
 }
 
-static void run_chains(const char *name, hash *step)
+static void run_chains(const char *name, hash *step, int chains)
 {
     struct timespec start, end;
     uint64_t sum = 0;
 
     clock_gettime(CLOCK_MONOTONIC, &start);
-    for (int phrase = 0; phrase < CHAINS; phrase++)
+    for (int phrase = 0; phrase < chains; phrase++)
         sum += password_at(step, (uint8_t)phrase);
     clock_gettime(CLOCK_MONOTONIC, &end);
-    printf("%s %d %lld %" PRIu64 "\n", name, CHAINS * STEPS,
+    printf("%s %d %lld %" PRIu64 "\n", name, chains * STEPS,
         (end.tv_sec - start.tv_sec) * 1000000000LL + (end.tv_nsec - start.tv_nsec), sum);
 }
 
-int main(void)
+int main(int argc, char **argv)
 {
-    for (int run = 0; run < RUNS; run++)
-        run_chains("md5", hash_md5);
-    for (int run = 0; run < RUNS; run++)
-        run_chains("sha1", hash_sha1);
+    if (argc != 3)
+        return 2;
+    run_chains(argv[1], strcmp(argv[1], "md5") == 0 ? hash_md5 : hash_sha1, atoi(argv[2]));
     return 0;
 }

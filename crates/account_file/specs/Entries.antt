@@ -2,6 +2,7 @@
 use Rattle.std.specs.Prelude.{ℕ, Bool, List, map}
 use Rattle.otp_hash.specs.declared.chain.Algo.{Algo}
 use Rattle.otp_hash.specs.SeedBytes.{seed_bytes}
+use Rattle.request_catalogue.specs.declared.width.Width.{Width}
 use Rattle.request_catalogue.specs.TextBytes.{name_bytes, label_bytes}
 use Rattle.policy_model.specs.declared.account.Grant.{Grant}
 use Rattle.policy_model.specs.declared.account.Account.{Account}
@@ -42,6 +43,8 @@ pub record CountEntries : Type 0 where
 -- a setup
 pub record SetupEntries : Type 0 where
   pub texts : TextEntries
+  pub salt : List ℕ
+  pub frames : Width
   pub counts : CountEntries
   pub info : List ℕ
   pub accounts : List AccountEntry
@@ -67,6 +70,8 @@ account_entry a = record {
 abbrev pub entries_of : Settings → SetupEntries
 entries_of s = record {
   texts = record { socket = s.socket; launcher = s.launcher; vault = s.vault; words = s.words; banner = s.banner };
+  salt = seed_bytes s.salt;
+  frames = s.frames;
   counts = record { workers = s.workers; connections = s.connections; requests = s.requests; tries = s.tries; hold = s.hold };
   info = s.info;
   accounts = map account_entry s.accounts;

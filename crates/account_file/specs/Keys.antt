@@ -11,6 +11,8 @@ use Rattle.toml.specs.Data.{Data, as_str, as_integer, as_bool}
 use Rattle.otp_hash.specs.declared.chain.Algo.{Algo}
 use Rattle.otp_hash.specs.declared.chain.Algo.TheVariants as algos
 use Rattle.otp_hash.specs.Seeds.{is_seed_text}
+use Rattle.request_catalogue.specs.declared.width.Width.{Width}
+use Rattle.request_catalogue.specs.declared.width.Width.TheVariants.{Narrow, Wide}
 use Rattle.policy_model.specs.Settings.{is_text, is_number}
 use Rattle.account_file.specs.declared.fault.SetupRule.TheVariants as rules
 use Rattle.account_file.specs.declared.fault.SetupFault.{SetupFault}
@@ -50,6 +52,16 @@ abbrev pub algo_of : Spot → Option Data → Result Algo SetupFault
 algo_of spot value = do
   bytes ← string_of spot value
   demand spot rules.Text (algo_named bytes)
+
+-- a width's name
+abbrev pub width_named : List ℕ → Option Width
+width_named bytes = option_or (then_some (bytes_eq bytes (codes "narrow")) Narrow) (then_some (bytes_eq bytes (codes "wide")) Wide)
+
+-- a width of frames
+abbrev pub width_of : Spot → Option Data → Result Width SetupFault
+width_of spot value = do
+  bytes ← string_of spot value
+  demand spot rules.Text (width_named bytes)
 
 -- a seed, in lower case
 abbrev pub seed_of : Spot → Option Data → Result (List ℕ) SetupFault

@@ -6,6 +6,8 @@ use Rattle.std.specs.Option.{is_some, option_map, option_and_then}
 use Rattle.std.specs.Str.Lossy.{utf8_valid_len}
 use Rattle.toml.specs.Data.{Data, Members, get_member, as_array, as_integer}
 use Rattle.toml.specs.Parse.{parse_document}
+use Rattle.request_catalogue.specs.declared.width.Width.{Width}
+use Rattle.request_catalogue.specs.declared.width.Width.TheVariants.{Narrow}
 use Rattle.policy_model.specs.Settings.{are_distinct}
 use Rattle.account_file.specs.declared.fault.SetupKey.{SetupKey}
 use Rattle.account_file.specs.declared.fault.SetupKey.TheVariants as keys
@@ -15,7 +17,7 @@ use Rattle.account_file.specs.declared.fault.Spot.{Spot}
 use Rattle.account_file.specs.Accounts.{accounts_of}
 use Rattle.account_file.specs.Entries.{TextEntries, CountEntries, SetupEntries}
 use Rattle.account_file.specs.Faults.{demand, ◌>>=◌}
-use Rattle.account_file.specs.Keys.{text_of, number_in, number_of}
+use Rattle.account_file.specs.Keys.{text_of, number_in, number_of, seed_of, width_of}
 use Rattle.account_file.specs.Trees.{data_of, are_known}
 
 -- a key outside the accounts
@@ -24,7 +26,7 @@ top key = record { key = key; account = 0 }
 
 -- the keys of the file
 abbrev pub setup_keys : List (List ℕ)
-setup_keys = codes "socket" ∷ codes "launcher" ∷ codes "vault" ∷ codes "words" ∷ codes "banner" ∷ codes "workers" ∷ codes "connections" ∷ codes "requests" ∷ codes "tries" ∷ codes "hold" ∷ codes "info" ∷ codes "account" ∷ []
+setup_keys = codes "socket" ∷ codes "launcher" ∷ codes "vault" ∷ codes "words" ∷ codes "banner" ∷ codes "salt" ∷ codes "frames" ∷ codes "workers" ∷ codes "connections" ∷ codes "requests" ∷ codes "tries" ∷ codes "hold" ∷ codes "info" ∷ codes "account" ∷ []
 
 -- the entries of a TOML document, where the bytes are UTF-8 and one
 abbrev pub document_of : List ℕ → Option Members
@@ -34,6 +36,16 @@ document_of bytes = if utf8_valid_len bytes == length bytes then parse_document 
 abbrev pub banner_of : Option Data → Result (List ℕ) SetupFault
 banner_of None = Ok []
 banner_of (Some value) = text_of (top keys.Banner) 0 200 (Some value)
+
+-- the salt of decoys, in lower case; `decoy` where it is not there
+abbrev pub salt_of : Option Data → Result (List ℕ) SetupFault
+salt_of None = Ok (codes "decoy")
+salt_of (Some value) = seed_of (top keys.Salt) (Some value)
+
+-- the width of frames, narrow where it is not there
+abbrev pub frames_of : Option Data → Result Width SetupFault
+frames_of None = Ok Narrow
+frames_of (Some value) = width_of (top keys.Frames) (Some value)
 
 -- the texts
 abbrev pub texts_of : Members → Result TextEntries SetupFault
@@ -83,11 +95,13 @@ product_of counts = demand (top keys.Requests) rules.Product (then_some (nat_le 
 abbrev pub settings_of : Members → Result SetupEntries SetupFault
 settings_of entries = do
   texts ← texts_of entries
+  salt ← salt_of (get_member (codes "salt") entries)
+  frames ← frames_of (get_member (codes "frames") entries)
   counts ← counts_of entries
   info ← info_of (get_member (codes "info") entries)
   bounded ← product_of counts
   accounts ← accounts_of (get_member (codes "account") entries)
-  Ok (record { texts = texts; counts = bounded; info = info; accounts = accounts })
+  Ok (record { texts = texts; salt = salt; frames = frames; counts = bounded; info = info; accounts = accounts })
 
 -- the setup that the bytes of a file spell, or its first fault
 unfoldable pub setup_of : List ℕ → Result SetupEntries SetupFault

@@ -18,6 +18,8 @@ pub enum SetupKey {
     Vault,
     Words,
     Banner,
+    Salt,
+    Frames,
     Workers,
     Connections,
     Requests,

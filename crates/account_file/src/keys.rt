@@ -8,12 +8,13 @@ ghost use Rattle.policy_model.specs.Settings.{is_text, is_number};
 ghost use Rattle.toml.specs.Data.{get_member};
 ghost use Rattle.toml.specs.View.{view, table_view};
 ghost use Rattle.account_file.specs.Faults.{Reads};
-ghost use Rattle.account_file.specs.Keys.{string_of, text_of, number_in, number_of, algo_named, algo_of, seed_of, password_of, truth_of};
+ghost use Rattle.account_file.specs.Keys.{string_of, text_of, number_in, number_of, algo_named, algo_of, width_named, width_of, seed_of, password_of, truth_of};
 ghost use Rattle.account_file.specs.Trees.{items_of};
 
 use crate::fault::{SetupFault, SetupRule, Spot};
 use hex::FromHex;
 use otp_hash::{Algo, Seed};
+use request_catalogue::Width;
 use toml::{Table, Value};
 
 /// The value at a key.
@@ -83,6 +84,14 @@ pub fn algo_of(table: &Table, key: &str, spot: Spot) -> Result<Algo, SetupFault>
     algo_named(text.as_bytes()).ok_or(spot.breaks(SetupRule::Text))
 }
 
+/// The width of frames at a key: `narrow` or `wide`.
+pub fn width_of(table: &Table, key: &str, spot: Spot) -> Result<Width, SetupFault>
+    ensures { Reads (λ w. w) result (width_of spot (get_member key.now (table_view table.now))) }
+{
+    let text = string_of(table, key, spot)?;
+    width_named(text.as_bytes()).ok_or(spot.breaks(SetupRule::Text))
+}
+
 /// The seed at a key: 1 to 16 ASCII letters and digits, turned into lower case.
 pub fn seed_of(table: &Table, key: &str, spot: Spot) -> Result<Seed, SetupFault>
     ensures { Reads seed_bytes result (seed_of spot (get_member key.now (table_view table.now))) }
@@ -148,6 +157,19 @@ pub fn number_in(low: u32, high: u32, number: i64) -> Option<u32>
 {
     let number = u32::try_from(number).ok()?;
     (low <= number && number <= high).then_some(number)
+}
+
+/// The width of a name.
+fn width_named(name: &[u8]) -> Option<Width>
+    ensures { result ≡ width_named name.now }
+{
+    if name == b"narrow".as_slice() {
+        Some(Width::Narrow)
+    } else if name == b"wide".as_slice() {
+        Some(Width::Wide)
+    } else {
+        None
+    }
 }
 
 /// The algorithm of a name.

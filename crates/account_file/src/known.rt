@@ -53,6 +53,8 @@ fn is_file_key(key: &str) -> bool
         || key == "vault"
         || key == "words"
         || key == "banner"
+        || key == "salt"
+        || key == "frames"
         || key == "workers"
         || key == "connections"
         || key == "requests"

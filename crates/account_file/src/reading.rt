@@ -13,7 +13,7 @@ use crate::accounts::accounts_of;
 use crate::fault::{SetupError, SetupKey, SetupRule, Spot};
 use crate::info::info_of;
 use crate::known::{Level, are_known};
-use crate::settings::{bounded, counts_of, texts_of};
+use crate::settings::{check_product, counts_of, frames_of, salt_of, texts_of};
 use policy_model::{Setup, SetupParts, Text};
 use std::alloc::{AllocError, Global};
 use toml::Table;
@@ -56,9 +56,11 @@ fn settings_of(alloc: Global, table: &Table) -> Result<Setup, SetupError>
     ensures { Answers entries_of result (settings_of (table_view table.now)) }
 {
     let texts = texts_of(table)?;
+    let salt = salt_of(table)?;
+    let frames = frames_of(table)?;
     let counts = counts_of(table)?;
     let info = info_of(alloc, table)?;
-    let counts = bounded(counts)?;
+    let counts = check_product(counts)?;
     let accounts = accounts_of(alloc, table)?;
     let parts = SetupParts {
         socket: copied(alloc, texts.socket)?,
@@ -66,6 +68,8 @@ fn settings_of(alloc: Global, table: &Table) -> Result<Setup, SetupError>
         vault: copied(alloc, texts.vault)?,
         words: copied(alloc, texts.words)?,
         banner: copied(alloc, texts.banner)?,
+        salt,
+        frames,
         workers: counts.workers,
         connections: counts.connections,
         requests: counts.requests,

@@ -1,15 +1,19 @@
-//! The texts and the counts of a setup file.
+//! The texts, the counts and the other single values of a setup file.
 
 ghost use Rattle.std.specs.Prelude.{◌≡◌, ◌≤◌, ◌+◌, ◌*◌, IfOk, true, codes};
+ghost use Rattle.otp_hash.specs.SeedBytes.{seed_bytes};
 ghost use Rattle.policy_model.specs.Settings.{is_text};
 ghost use Rattle.toml.specs.Data.{get_member};
 ghost use Rattle.toml.specs.View.{table_view};
 ghost use Rattle.account_file.specs.Counts.{are_legal, text_entries, count_entries};
 ghost use Rattle.account_file.specs.Faults.{Reads};
-ghost use Rattle.account_file.specs.Setups.{banner_of, texts_of, counts_of, product_of};
+ghost use Rattle.account_file.specs.Setups.{banner_of, texts_of, salt_of, frames_of, counts_of, product_of};
 
 use crate::fault::{SetupFault, SetupKey, SetupRule, Spot};
-use crate::keys::{entry, number_of, text_of};
+use crate::keys::{entry, number_of, seed_of, text_of, width_of};
+use otp_hash::Seed;
+use policy_model::plain_salt;
+use request_catalogue::Width;
 use toml::Table;
 
 /// The most events that a run may make.
@@ -65,6 +69,26 @@ fn banner_of(table: &Table) -> Result<&str, SetupFault>
     }
 }
 
+/// What decoys are made of, `decoy` where the key isn't there.
+pub fn salt_of(table: &Table) -> Result<Seed, SetupFault>
+    ensures { Reads seed_bytes result (salt_of (get_member (codes "salt") (table_view table.now))) }
+{
+    match entry(table, "salt") {
+        None => Ok(plain_salt()),
+        Some(_) => seed_of(table, "salt", top(SetupKey::Salt)),
+    }
+}
+
+/// How long frames may be, narrow where the key isn't there.
+pub fn frames_of(table: &Table) -> Result<Width, SetupFault>
+    ensures { Reads (λ w. w) result (frames_of (get_member (codes "frames") (table_view table.now))) }
+{
+    match entry(table, "frames") {
+        None => Ok(Width::Narrow),
+        Some(_) => width_of(table, "frames", top(SetupKey::Frames)),
+    }
+}
+
 /// The counts at their keys.
 pub fn counts_of(table: &Table) -> Result<Counts, SetupFault>
     ensures read { Reads count_entries result (counts_of (table_view table.now)) }
@@ -84,7 +108,7 @@ pub fn counts_of(table: &Table) -> Result<Counts, SetupFault>
 }
 
 /// The counts again, where a run makes at most 1,048,576 events by them.
-pub fn bounded(counts: Counts) -> Result<Counts, SetupFault>
+pub fn check_product(counts: Counts) -> Result<Counts, SetupFault>
     requires workers { counts.workers ≤ 64 }
     requires connections { counts.connections ≤ 4096 }
     requires requests { counts.requests ≤ 4096 }

@@ -1,6 +1,7 @@
 use super::*;
 use otp_hash::{Algo, Seed};
 use policy_model::Setup;
+use request_catalogue::Width;
 use std::alloc::AllocError;
 use std::test::*;
 
@@ -58,7 +59,13 @@ fn refused(key: SetupKey, rule: SetupRule, account: u32) -> Option<SetupError> {
 fn a_whole_setup(rt: HostRuntime) -> Result<(), Fail> {
     let text = text_of(
         &rt,
-        &[(8, "hold = 3600000\ninfo = [1000, 1]\nbanner = \"Hi ~\"")],
+        &[
+            (8, "hold = 3600000\ninfo = [1000, 1]\nbanner = \"Hi ~\""),
+            (
+                0,
+                "socket = \"s\"\nframes = \"wide\"\nsalt = \"ABCDEFGHIJKLMNO9\"",
+            ),
+        ],
     )?;
     let setup: Setup = read_setup(rt.alloc(), text.as_bytes())
         .ok()
@@ -69,6 +76,8 @@ fn a_whole_setup(rt: HostRuntime) -> Result<(), Fail> {
     assert_eq!(rt; parts.vault.as_str(), "v");
     assert_eq!(rt; parts.words.as_str(), "w");
     assert_eq!(rt; parts.banner.as_str(), "Hi ~");
+    assert_eq!(rt; Some(parts.salt), Seed::of(b"abcdefghijklmno9"));
+    assert_eq!(rt; parts.frames, Width::Wide);
     assert_eq!(rt; parts.workers, 1);
     assert_eq!(rt; parts.connections, 4);
     assert_eq!(rt; parts.requests, 64);
@@ -97,6 +106,17 @@ fn a_whole_setup(rt: HostRuntime) -> Result<(), Fail> {
 }
 
 #[test]
+fn a_setup_without_a_salt_and_a_width(rt: HostRuntime) -> Result<(), Fail> {
+    let text = text_of(&rt, &[])?;
+    let setup: Setup = read_setup(rt.alloc(), text.as_bytes())
+        .ok()
+        .ok_or("a setup")?;
+    assert_eq!(rt; Some(setup.parts().salt), Seed::of(b"decoy"));
+    assert_eq!(rt; setup.parts().frames, Width::Narrow);
+    Ok(())
+}
+
+#[test]
 fn what_is_taken(rt: HostRuntime) -> Result<(), Fail> {
     let hundred =
         "socket = \"0123456789012345678901234567890123456789012345678901234567890123456789012345678901234567890123456789\"";
@@ -109,6 +129,7 @@ fn what_is_taken(rt: HostRuntime) -> Result<(), Fail> {
         (6, "requests = 4096"),
         (7, "tries = 10"),
         (8, "hold = 1\nbanner = \"\"\ninfo = []"),
+        (8, "hold = 1\nsalt = \"0\"\nframes = \"narrow\""),
         (10, "name = \"alice\"\nenabled = false\ngrants = []"),
         (11, "uid = 1"),
         (11, "uid = 4294967294"),
@@ -170,6 +191,60 @@ fn faults_outside_the_accounts(rt: HostRuntime) -> Result<(), Fail> {
             3,
             "words = \"w\"\nbanner = \"\\t\"",
             SetupKey::Banner,
+            SetupRule::Text,
+        ),
+        (
+            3,
+            "words = \"w\"\nsalt = 1",
+            SetupKey::Salt,
+            SetupRule::Kind,
+        ),
+        (
+            3,
+            "words = \"w\"\nsalt = \"\"",
+            SetupKey::Salt,
+            SetupRule::Text,
+        ),
+        (
+            3,
+            "words = \"w\"\nsalt = \"a b\"",
+            SetupKey::Salt,
+            SetupRule::Text,
+        ),
+        (
+            3,
+            "words = \"w\"\nsalt = \"abcdefghijklmnopq\"",
+            SetupKey::Salt,
+            SetupRule::Text,
+        ),
+        (
+            3,
+            "words = \"w\"\nframes = 1",
+            SetupKey::Frames,
+            SetupRule::Kind,
+        ),
+        (
+            3,
+            "words = \"w\"\nframes = \"Wide\"",
+            SetupKey::Frames,
+            SetupRule::Text,
+        ),
+        (
+            3,
+            "words = \"w\"\nframes = 1\nsalt = \"\"",
+            SetupKey::Salt,
+            SetupRule::Text,
+        ),
+        (
+            3,
+            "words = \"w\"\nsalt = 1\nbanner = 1",
+            SetupKey::Banner,
+            SetupRule::Kind,
+        ),
+        (
+            4,
+            "workers = 0\nframes = \"\"",
+            SetupKey::Frames,
             SetupRule::Text,
         ),
         (4, "", SetupKey::Workers, SetupRule::Missing),

@@ -18,6 +18,8 @@ impl SetupKey {
             SetupKey::Vault => "vault",
             SetupKey::Words => "words",
             SetupKey::Banner => "banner",
+            SetupKey::Salt => "salt",
+            SetupKey::Frames => "frames",
             SetupKey::Workers => "workers",
             SetupKey::Connections => "connections",
             SetupKey::Requests => "requests",

@@ -19,7 +19,7 @@ use Rattle.policy_model.specs.declared.event.Decision.TheVariants as decisions
 use Rattle.policy_model.specs.declared.event.Event.{Event}
 use Rattle.policy_model.specs.declared.event.Why.{Why}
 use Rattle.policy_model.specs.declared.event.Why.TheVariants as whys
-use Rattle.policy_model.specs.Asks.{ends_session, is_lost, is_request}
+use Rattle.policy_model.specs.Asks.{ends_session, is_lost, came_by_frame}
 use Rattle.policy_model.specs.Journal.{open_session_of}
 use Rattle.policy_model.specs.Settings.{Settings}
 use Rattle.policy_model.proofs.Runs.{next_session}
@@ -87,20 +87,20 @@ ask_read message (Ok request) ask is = rw is.exact is.asks
 ask_read message (Err bad) ask is = rw is.exact is.asks
 
 -- an event that came by a message is a request's step, whose acts are those of the request that was read
-pub is_step : (setup : Settings) (worker : ℕ) (ask : Ask) (old new : List Event) (e : Event) (message : Message) (read : Result Request Bad) (acts : List Act) → Joins setup worker ask old new e → is_request ask ≡ true → IsMessage frame_width max_len message → IsRead message read ask → map asked acts ≡ request_operations (read_value read) e.decision → IsRequestStep (step_of old e message acts)
+pub is_step : (setup : Settings) (worker : ℕ) (ask : Ask) (old new : List Event) (e : Event) (message : Message) (read : Result Request Bad) (acts : List Act) → Joins setup worker ask old new e → came_by_frame ask ≡ true → IsMessage frame_width max_len message → IsRead message read ask → map asked acts ≡ request_operations (read_value read) e.decision → IsRequestStep (step_of old e message acts)
 unfolding operations_of
 is_step setup worker ask old new e message read acts joins request right is are =
     let is' : IsRead message read e.ask = subst (IsRead message read) (sym joins.asks) is in
     record {
-      request = ap is_request joins.asks ∙ request;
+      request = ap came_by_frame joins.asks ∙ request;
       came = record { framed = right; asked = ask_read message read e.ask is' };
       acts = record { operations = are ∙ sym (operations_read e message read is') };
     }
 
 -- the session of a request's event is the one that is open
-pub own_session : (setup : Settings) (worker session : ℕ) (ask : Ask) (old new : List Event) (e : Event) → Joins setup worker ask old new e → is_request ask ≡ true → open_session_of old worker ≡ session → e.session ≡ session
+pub own_session : (setup : Settings) (worker session : ℕ) (ask : Ask) (old new : List Event) (e : Event) → Joins setup worker ask old new e → came_by_frame ask ≡ true → open_session_of old worker ≡ session → e.session ≡ session
 own_session setup worker session ask old new e joins request opened =
-    let request' : is_request e.ask ≡ true = ap is_request joins.asks ∙ request in
+    let request' : came_by_frame e.ask ≡ true = ap came_by_frame joins.asks ∙ request in
     next_session setup old e joins.next ∙ session_of-other old e.worker e.ask e.decision (no_begin e.ask request') ∙ ap (open_session_of old) joins.its ∙ opened
 
 same_answer : (d : Decision) (acts : List Act) (well : Bool) → has_connection_fault acts ≡ not well → answer_value d acts ≡ answered d well

@@ -5,7 +5,7 @@ use Rattle.policy_model.specs.declared.event.Ask.{Ask}
 use Rattle.policy_model.specs.declared.event.Ask.TheVariants as asks
 use Rattle.policy_model.specs.declared.event.Why.{Why}
 use Rattle.policy_model.specs.declared.event.Event.{Event}
-use Rattle.policy_model.specs.Asks.{is_lost, is_proper, is_proper_why, is_request}
+use Rattle.policy_model.specs.Asks.{is_lost, is_proper, is_proper_why, came_by_frame}
 use Rattle.policy_model.specs.Journal.{open_session_of}
 use Rattle.policy_model.specs.Narrow.{IsAfter, IsRun, IsServing}
 use Rattle.policy_model.specs.Runs.{IsIdle, OthersStay}
@@ -16,10 +16,10 @@ use Rattle.monitor_server.specs.Asking.{IsEndOf}
 use Rattle.monitor_server.specs.Session.{Asked, Ended, GoesOn, IsBetween, Opened}
 
 -- a request of a session that is served
-pub asked : (setup : Settings) (worker session : ℕ) (ask : Ask) (old new : List Event) (e : Event) → IsServing setup old worker session → Joins setup worker ask old new e → is_request ask ≡ true → is_proper ask ≡ true → worker < setup.workers → Asked setup worker session old new e
+pub asked : (setup : Settings) (worker session : ℕ) (ask : Ask) (old new : List Event) (e : Event) → IsServing setup old worker session → Joins setup worker ask old new e → came_by_frame ask ≡ true → is_proper ask ≡ true → worker < setup.workers → Asked setup worker session old new e
 asked setup worker session ask old new e serving joins request proper below =
     let its = joins.its in
-    let request' : is_request e.ask ≡ true = ap is_request joins.asks ∙ request in
+    let request' : came_by_frame e.ask ≡ true = ap came_by_frame joins.asks ∙ request in
     let proper' : is_proper e.ask ≡ true = ap is_proper joins.asks ∙ proper in
     let below' : e.worker < setup.workers = omega (arith, its, below) in
     let serving' : IsServing setup old e.worker session = subst (λ w. IsServing setup old w session) (sym its) serving in

@@ -18,7 +18,7 @@ use Rattle.outside.proofs.Scenes.{Plays-none, Plays-then}
 use Rattle.policy_model.specs.declared.event.Event.{Event}
 use Rattle.policy_model.specs.declared.event.Why.{Why}
 use Rattle.policy_model.specs.declared.event.Why.TheVariants as whys
-use Rattle.policy_model.specs.Journal.{asks_of}
+use Rattle.policy_model.specs.Journal.{ask_count}
 use Rattle.policy_model.specs.Settings.{Settings}
 use Rattle.session_model.specs.Requests.{frame_width, max_len}
 use Rattle.session_model.specs.Places.{Step, places_of, step_acts, step_places}
@@ -220,8 +220,8 @@ partial_front reader same answer is kept frames tells =
     subst (λ r. IsPartialFront frame_width max_len r.bytes) (sym kept) (subst (λ w. IsPartialFront w max_len reader.bytes) frames.width (subst (λ m. IsPartialFront reader.width m reader.bytes) frames.max (tells.not_yet.0 is)))
 
 -- the same of a turn that may have ended the session
-pub message_advances : (setup : Settings) (session : ℕ) (old new : List Event) (end : Option Why) (len_old len_new held_old held_new : ℕ) → IfNone end (Sessions.GoesOn setup session old new) → len_new ≡ len_old + 1 → IfNone end (Advances setup.requests (asks_of old session) (asks_of new session) len_old len_new held_old held_new)
-message_advances setup session old new None len_old len_new held_old held_new on len = advances_message setup.requests (asks_of old session) (asks_of new session) len_old len_new held_old held_new on.made on.below len
+pub message_advances : (setup : Settings) (session : ℕ) (old new : List Event) (end : Option Why) (len_old len_new held_old held_new : ℕ) → IfNone end (Sessions.GoesOn setup session old new) → len_new ≡ len_old + 1 → IfNone end (Advances setup.requests (ask_count old session) (ask_count new session) len_old len_new held_old held_new)
+message_advances setup session old new None len_old len_new held_old held_new on len = advances_message setup.requests (ask_count old session) (ask_count new session) len_old len_new held_old held_new on.made on.below len
 message_advances setup session old new (Some why) len_old len_new held_old held_new on len = tt
 
 pub received_advances : (requests asks len : ℕ) (end : Option Why) (held_old held_new : ℕ) → asks ≤ requests → IfNone end (held_old < held_new) → held_new ≤ 16384 → IfNone end (Advances requests asks asks len len held_old held_new)

@@ -3,7 +3,7 @@
 ghost use Rattle.std.specs.Prelude.{◌≡◌, ◌≤◌, true, false, Some, IfOk, IfErr, IfSome, MatchResult, is_ok};
 ghost use Rattle.request_catalogue.specs.Catalogue.{IsInRange, value_of};
 ghost use Rattle.request_catalogue.specs.Replies as replies;
-ghost use Rattle.policy_model.specs.Asks.{ends_session, is_lost, is_proper, is_proper_why, is_request};
+ghost use Rattle.policy_model.specs.Asks.{ends_session, is_lost, is_proper, is_proper_why, came_by_frame};
 ghost use Rattle.monitor_server.specs.Asking.{IsEndOf, IsRuleOfBad, answered};
 ghost use Rattle.session_model.specs.Requests.{Asks, frame_width};
 
@@ -19,7 +19,7 @@ pub(crate) fn ask_of(read: &Result<Request<'_>, Bad>) -> Ask
     requires ranges { IfOk read.now (λ request. IsInRange frame_width (value_of request)) }
     requires rules { IfErr read.now IsRuleOfBad }
     ensures asks { MatchResult read.now (λ request. Asks (value_of request) result) (λ bad. result ≡ Ask.Bad bad.rule bad.detail) }
-    ensures request { is_request result ≡ true }
+    ensures request { came_by_frame result ≡ true }
     ensures proper { is_proper result ≡ true }
 {
     let request = match read {
@@ -84,7 +84,7 @@ pub(crate) fn answer_of(decision: &Decision, outcome: Result<(), Failed>) -> Ans
 
 /// Why the session ends after a request that was answered, if it does.
 pub(crate) fn end_of(event: &Event) -> Option<Why>
-    requires request { is_request event.now.ask ≡ true }
+    requires request { came_by_frame event.now.ask ≡ true }
     ensures end { IsEndOf event.now result }
     ensures proper { IfSome result (λ why. is_proper_why why ≡ true) }
 {

@@ -5,7 +5,7 @@ ghost use Rattle.imsg_frame.specs.Cut.{IsPartialFront};
 ghost use Rattle.imsg_frame.specs.Message.{IsMessage, message_of};
 ghost use Rattle.outside.specs.Scene.{IsUnused, planned_bytes};
 ghost use Rattle.policy_model.specs.Asks.{is_proper_why};
-ghost use Rattle.policy_model.specs.Journal.{asks_of, has_lost, open_session_of};
+ghost use Rattle.policy_model.specs.Journal.{ask_count, has_lost, open_session_of};
 ghost use Rattle.policy_model.specs.Narrow.{IsAfter, IsRun, IsServing};
 ghost use Rattle.policy_model.specs.Runs.{IsIdle, OthersStay};
 ghost use Rattle.policy_model.specs.Settings.{IsInRange};
@@ -143,7 +143,7 @@ fn serve_turn<P: Post, K: Sink>(
     requires room { HasRoom setup.now (vec_len book.old.journal) (vec_capacity book.old.journal) 1 }
     requires frames { IsForSessions reader.old }
     ensures after { IsAfter setup.now worker session book.old.journal.items book.new.journal.items }
-    ensures advances { IfNone result (Advances setup.now.requests (asks_of book.old.journal.items session) (asks_of book.new.journal.items session) (vec_len book.old.journal) (vec_len book.new.journal) (length reader.old.bytes) (length reader.new.bytes)) }
+    ensures advances { IfNone result (Advances setup.now.requests (ask_count book.old.journal.items session) (ask_count book.new.journal.items session) (vec_len book.old.journal) (vec_len book.new.journal) (length reader.old.bytes) (length reader.new.bytes)) }
     ensures proper { IfSome result (λ why. is_proper_why why ≡ true) }
     ensures len { vec_len book.new.journal ≤ vec_len book.old.journal + 1 }
     ensures capacity { vec_capacity book.new.journal ≡ vec_capacity book.old.journal }
@@ -178,7 +178,7 @@ fn serve_child<P: Post, K: Sink>(
     requires in_range { IsInRange setup.now }
     requires below { worker < setup.now.workers }
     requires serving { IsServing setup.now book.old.journal.items worker session }
-    requires unasked { asks_of book.old.journal.items session ≡ 0 }
+    requires unasked { ask_count book.old.journal.items session ≡ 0 }
     requires room { HasRoom setup.now (vec_len book.old.journal) (vec_capacity book.old.journal) (setup.now.requests + 2) }
     requires frames { IsForSessions reader.old }
     ensures after { IsAfter setup.now worker session book.old.journal.items book.new.journal.items }
@@ -218,7 +218,7 @@ fn serve_started<P: Post, K: Sink>(
     requires in_range { IsInRange setup.now }
     requires below { worker < setup.now.workers }
     requires serving { IsServing setup.now book.old.journal.items worker session }
-    requires unasked { asks_of book.old.journal.items session ≡ 0 }
+    requires unasked { ask_count book.old.journal.items session ≡ 0 }
     requires room { HasRoom setup.now (vec_len book.old.journal) (vec_capacity book.old.journal) (setup.now.requests + 2) }
     requires frames { IsForSessions reader.old }
     requires role { P.Child.role child ≡ Role.Pre session }
@@ -256,7 +256,7 @@ fn serve_opened<P: Post, K: Sink>(
     requires in_range { IsInRange setup.now }
     requires below { worker < setup.now.workers }
     requires serving { IsServing setup.now book.old.journal.items worker session }
-    requires unasked { asks_of book.old.journal.items session ≡ 0 }
+    requires unasked { ask_count book.old.journal.items session ≡ 0 }
     requires room { HasRoom setup.now (vec_len book.old.journal) (vec_capacity book.old.journal) (setup.now.requests + 2) }
     requires frames { IsForSessions reader.old }
     ensures ended { Ended setup.now worker book.old.journal.items book.new.journal.items }

@@ -67,9 +67,9 @@ list-refused parts contents before after R E (Ok _) name fault o named j =
     absurd (not-words contents parts.list o.0 name fault named j o.1)
 list-refused parts contents before after R E (Err faults.ReadFailed) name fault o named j = inr (inl refl)
 list-refused parts contents before after R E (Err faults.ListMissing) name fault o named j =
-    absurd (judged-there contents parts.list name (Err fault) named j o)
+    absurd (judged-there contents parts.list name (Err fault) named j o.0)
 list-refused parts contents before after R E (Err (faults.ListRefused fault')) name fault o named j =
-    inl (ap (λ f. Err (faults.ListRefused f)) (same-fault contents parts.list name fault fault' named j o))
+    inl (ap (λ f. Err (faults.ListRefused f)) (same-fault contents parts.list name fault fault' named j o.0))
 list-refused parts contents before after R E (Err faults.OutOfMemory) name fault o named j = inr (inr refl)
 list-refused parts contents before after R E (Err faults.EndsFailed) name fault o named j =
     absurd (not-words contents parts.list o.1.0 name fault named j o.1.1)
@@ -126,9 +126,9 @@ complete : (parts : OtpParts) (contents : Option Contents) (before after : Optio
 complete parts contents before after R E (Ok _) phrase o good h read ends = inl refl
 complete parts contents before after R E (Err faults.ReadFailed) phrase o good h read ends = absurd (read o.1)
 complete parts contents before after R E (Err faults.ListMissing) phrase o good h read ends =
-    absurd (good-there contents parts.list good o)
+    absurd (good-there contents parts.list good o.0)
 complete parts contents before after R E (Err (faults.ListRefused fault)) phrase o good h read ends =
-    absurd (good-accepted contents parts.list fault good o)
+    absurd (good-accepted contents parts.list fault good o.0)
 complete parts contents before after R E (Err faults.OutOfMemory) phrase o good h read ends = inr refl
 complete parts contents before after R E (Err faults.EndsFailed) phrase o good h read ends = absurd (ends o.0)
 complete parts contents before after R E (Err faults.PhraseRefused) phrase o good h read ends =

@@ -8,7 +8,7 @@ use Rattle.otp_mode.specs.declared.fault.OtpFault.{OtpFault}
 use Rattle.otp_mode.specs.declared.fault.OtpFault.TheVariants as faults
 use Rattle.otp_mode.specs.Outcome.{HasWords, IsOutcome, IsPrinting}
 use Rattle.otp_mode.specs.Faults.{fault_of_list}
-use Rattle.otp_mode.specs.Received.{IsPhraseFault}
+use Rattle.otp_mode.specs.Inner.{IsPhraseFault}
 use Rattle.otp_mode.specs.Words.{OtpParts}
 
 -- a phrase that was not received was not printed
@@ -21,11 +21,11 @@ IsPrinting-phrase parts words before after EndsFailed (faults.ListRefused _) h =
 IsPrinting-phrase parts words before after EndsFailed faults.OutOfMemory h = absurd h
 
 -- a word list that was not taken ends the mode
-pub IsOutcome-list : (parts : OtpParts) (contents : Option Contents) (before after : Option Link) (ReadFailed EndsFailed : Type 0) (name : List ℕ) (error : ListError) → parts.list ≡ Some name → IsListFault contents name ReadFailed error → IsOutcome parts contents before after ReadFailed EndsFailed (Err (fault_of_list error))
-IsOutcome-list parts contents before after ReadFailed EndsFailed name errors.Failed named h = (rw named refl, h)
-IsOutcome-list parts contents before after ReadFailed EndsFailed name errors.OutOfMemory named h = rw named refl
-IsOutcome-list parts contents before after ReadFailed EndsFailed name errors.Missing named h = rw named h
-IsOutcome-list parts contents before after ReadFailed EndsFailed name (errors.Refused fault) named h = rw named h
+pub IsOutcome-list : (parts : OtpParts) (contents : Option Contents) (before after : Option Link) (ReadFailed EndsFailed : Type 0) (name : List ℕ) (error : ListError) → parts.list ≡ Some name → IsListFault contents name ReadFailed error → after ≡ before → IsOutcome parts contents before after ReadFailed EndsFailed (Err (fault_of_list error))
+IsOutcome-list parts contents before after ReadFailed EndsFailed name errors.Failed named h same = (rw named refl, h, same)
+IsOutcome-list parts contents before after ReadFailed EndsFailed name errors.OutOfMemory named h same = (rw named refl, same)
+IsOutcome-list parts contents before after ReadFailed EndsFailed name errors.Missing named h same = (rw named h, same)
+IsOutcome-list parts contents before after ReadFailed EndsFailed name (errors.Refused fault) named h same = (rw named h, same)
 
 -- the printing is all that came of it, where the word list was taken
 pub IsOutcome-printing : (parts : OtpParts) (contents : Option Contents) (words : Option (List (List ℕ))) (before after : Option Link) (ReadFailed EndsFailed : Type 0) (result : Result (Unit {0}) OtpFault) → HasWords contents parts.list words → IsPrinting parts words before after EndsFailed result → IsOutcome parts contents before after ReadFailed EndsFailed result

@@ -11,7 +11,7 @@ use Rattle.std.specs.Str.Lines.{strip_carriage_return}
 use Rattle.outside.specs.Link.{Exchanged, Link}
 use Rattle.outside.specs.Told.{Goes}
 use Rattle.otp_mode.specs.Phrase.{first_line, is_phrase, line_to, phrase_of}
-use Rattle.otp_mode.specs.Received.{ReceivedLine}
+use Rattle.otp_mode.specs.Inner.{ReceivedLine}
 
 -- a newline's place, or the length
 abbrev newline_or_len : List ℕ → ℕ
@@ -93,23 +93,23 @@ phrase_of-full xs ys full =
 abbrev Passed : List ℕ → Option Link → Option Link → Type 0
 Passed got before after = Goes (Exchanged got []) before after
 
-pub received-full : (got : List ℕ) (before after : Option Link) → 4096 ≤ length got → Passed got before after → Goes (ReceivedLine got) before after
-received-full got before None full passed = tt
-received-full got None (Some after) full passed = absurd passed
-received-full got (Some before) (Some after) full passed =
-    record { passed = passed; enough = ap phrase_of passed.left ∙ phrase_of-full got after.left full }
+pub received-full : (got : List ℕ) (before after : Option Link) → 4096 ≤ length got → length got ≤ 4096 → Passed got before after → Goes (ReceivedLine got) before after
+received-full got before None full few passed = tt
+received-full got None (Some after) full few passed = absurd passed
+received-full got (Some before) (Some after) full few passed =
+    record { passed = passed; few = few; enough = ap phrase_of passed.left ∙ phrase_of-full got after.left full }
 
-pub received-newline : (got : List ℕ) (before after : Option Link) → newline_or_len got < length got → Passed got before after → Goes (ReceivedLine got) before after
-received-newline got before None has passed = tt
-received-newline got None (Some after) has passed = absurd passed
-received-newline got (Some before) (Some after) has passed =
-    record { passed = passed; enough = ap phrase_of passed.left ∙ phrase_of-newline got after.left has }
+pub received-newline : (got : List ℕ) (before after : Option Link) → newline_or_len got < length got → length got ≤ 4096 → Passed got before after → Goes (ReceivedLine got) before after
+received-newline got before None has few passed = tt
+received-newline got None (Some after) has few passed = absurd passed
+received-newline got (Some before) (Some after) has few passed =
+    record { passed = passed; few = few; enough = ap phrase_of passed.left ∙ phrase_of-newline got after.left has }
 
-pub received-all : (got : List ℕ) (before after : Option Link) → IfSome after (λ l. l.left ≡ []) → Passed got before after → Goes (ReceivedLine got) before after
-received-all got before None ended passed = tt
-received-all got None (Some after) ended passed = absurd passed
-received-all got (Some before) (Some after) ended passed =
-    record { passed = passed; enough = ap phrase_of (passed.left ∙ ap (λ w. got ++ w) ended ∙ append-nil got) }
+pub received-all : (got : List ℕ) (before after : Option Link) → IfSome after (λ l. l.left ≡ []) → length got ≤ 4096 → Passed got before after → Goes (ReceivedLine got) before after
+received-all got before None ended few passed = tt
+received-all got None (Some after) ended few passed = absurd passed
+received-all got (Some before) (Some after) ended few passed =
+    record { passed = passed; few = few; enough = ap phrase_of (passed.left ∙ ap (λ w. got ++ w) ended ∙ append-nil got) }
 
 -- a newline that is found is within the bytes
 pub newline-within : (xs : List ℕ) → list_any (λ c. c == 10) xs ≡ true → newline_or_len xs < length xs

@@ -5,4 +5,4 @@ pub mod Phrase
 pub mod Output
 pub mod Outcome
 pub mod Exact
-pub mod Received
+pub mod Inner

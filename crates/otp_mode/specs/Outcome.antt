@@ -1,5 +1,5 @@
 -- What the mode `otp` came to, and why.
-use Rattle.std.specs.Prelude.{◌≡◌, ◌⊎◌, ℕ, Bool, true, false, List, [], take, Option, Some, None, Result, Ok, Err, IsSome}
+use Rattle.std.specs.Prelude.{◌≡◌, ◌⊎◌, ℕ, ◌≤◌, Bool, true, false, List, [], length, take, Option, Some, None, Result, Ok, Err, IsSome}
 use Rattle.outside.specs.Files.{Contents}
 use Rattle.outside.specs.Link.{Exchanged, Link}
 use Rattle.outside.specs.Told.{Goes}
@@ -27,29 +27,33 @@ abbrev pub IsListRefused : Option Contents → Option (List ℕ) → DictFault �
 IsListRefused contents None fault = ⊥
 IsListRefused contents (Some name) fault = IsJudgedSo contents name (Err fault)
 
--- a phrase was received, and its password sent
+-- a phrase was received, in at most 4,096 bytes, and its password sent
 pub record Printed (parts : OtpParts) (words : Option (List (List ℕ))) (before after : Link) : Type 0 where
   pub phrase : List ℕ
   pub accepted : phrase_of before.left ≡ Some phrase
   pub received : List ℕ
+  pub few : length received ≤ 4096
   pub passed : Exchanged received (otp_text parts words phrase) before after
 
--- bytes were received of which the pass phrase is refused, and nothing was sent
+-- at most 4,096 bytes were received of which the pass phrase is refused, and nothing was sent
 pub record RefusedPhrase (before after : Link) : Type 0 where
   pub refused : phrase_of before.left ≡ None
   pub received : List ℕ
+  pub few : length received ≤ 4096
   pub passed : Exchanged received [] before after
 
--- bytes were received, and nothing was sent
+-- at most 4,096 bytes were received, and nothing was sent
 pub record OnlyReceived (before after : Link) : Type 0 where
   pub received : List ℕ
+  pub few : length received ≤ 4096
   pub passed : Exchanged received [] before after
 
--- a phrase was received, and some first part of its password's lines sent
+-- a phrase was received, in at most 4,096 bytes, and some first part of its password's lines sent
 pub record PrintedPart (parts : OtpParts) (words : Option (List (List ℕ))) (before after : Link) : Type 0 where
   pub phrase : List ℕ
   pub accepted : phrase_of before.left ≡ Some phrase
   pub received : List ℕ
+  pub few : length received ≤ 4096
   pub count : ℕ
   pub passed : Exchanged received (take count (otp_text parts words phrase)) before after
 
@@ -63,18 +67,19 @@ IsPrinting parts words before after EndsFailed (Err faults.PhraseRefused) =
 IsPrinting parts words before after EndsFailed (Err _) = ⊥
 
 -- what came of the words' parts, by what the files tell, what the ends told before and after, and
--- whether a reading of a file and a call on the ends failed: each answer with all that it says
+-- whether a reading of a file and a call on the ends failed: each answer with all that it says;
+-- where the mode ended at the word list, the ends are as before
 abbrev pub IsOutcome : OtpParts → Option Contents → Option Link → Option Link → Type 0 → Type 0 → Result (Unit {0}) OtpFault → Type 0
 IsOutcome parts contents before after ReadFailed EndsFailed (Ok _) =
     (words : Option (List (List ℕ))) × HasWords contents parts.list words × Goes (Printed parts words) before after
 IsOutcome parts contents before after ReadFailed EndsFailed (Err faults.ReadFailed) =
-    IsSome parts.list × ReadFailed
+    IsSome parts.list × ReadFailed × (after ≡ before)
 IsOutcome parts contents before after ReadFailed EndsFailed (Err faults.ListMissing) =
-    IsListMissing contents parts.list
+    IsListMissing contents parts.list × (after ≡ before)
 IsOutcome parts contents before after ReadFailed EndsFailed (Err (faults.ListRefused fault)) =
-    IsListRefused contents parts.list fault
+    IsListRefused contents parts.list fault × (after ≡ before)
 IsOutcome parts contents before after ReadFailed EndsFailed (Err faults.OutOfMemory) =
-    IsSome parts.list
+    IsSome parts.list × (after ≡ before)
 IsOutcome parts contents before after ReadFailed EndsFailed (Err faults.EndsFailed) =
     EndsFailed × ((words : Option (List (List ℕ))) × HasWords contents parts.list words × (Goes OnlyReceived before after ⊎ Goes (PrintedPart parts words) before after))
 IsOutcome parts contents before after ReadFailed EndsFailed (Err faults.PhraseRefused) =

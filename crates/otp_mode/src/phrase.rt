@@ -8,7 +8,7 @@ ghost use Rattle.fixed_list.specs.FixedList.{list_of};
 ghost use Rattle.otp_mode.specs.declared.fault.OtpFault.{OtpFault};
 ghost use Rattle.otp_mode.specs.Outcome.{OnlyReceived};
 ghost use Rattle.otp_mode.specs.Phrase.{first_line, is_phrase, is_printable, phrase_of};
-ghost use Rattle.otp_mode.specs.Received.{Accepted, IsPhraseFault, ReceivedLine};
+ghost use Rattle.otp_mode.specs.Inner.{Accepted, IsPhraseFault, ReceivedLine};
 
 use crate::fault::OtpFault;
 use fixed_list::FixedList;

@@ -169,6 +169,19 @@ fn fail(call: CallKind, number: u32, sent: usize) -> Fail {
     Fail { call, number, sent }
 }
 
+/// What follows the first line is left to others: a terminal may have nothing more to give.
+#[test]
+fn nothing_is_received_behind_the_first_line(rt: HostRuntime) -> Result<(), Fault> {
+    let alloc = rt.alloc();
+    let second = fail(CallKind::Recv, 2, 0);
+    let mut files = MemFiles::new(alloc, &[], &[])?;
+    let mut ends = MemStream::new(alloc, b"This is a test.\nx", &[16, 1], &[second])?;
+    let outcome = run(alloc, "otp md5 0 TeSt", &mut files, &mut ends)?;
+    assert_eq!(rt; outcome, Some(Ok(())));
+    assert_eq!(rt; ends.sent(), b"9E87 6134 D904 99DD\n".as_slice());
+    Ok(())
+}
+
 #[test]
 fn faults_in_their_order(rt: HostRuntime) -> Result<(), Fault> {
     let alloc = rt.alloc();

@@ -9,7 +9,7 @@ use Rattle.std.proofs.lemmas.List.{length-map, length-replicate}
 use Rattle.std.proofs.Common.{length-append}
 use Rattle.otp_words.specs.Digits.{number_of}
 use Rattle.otp_words.specs.Dictionaries.{upper, is_word, IsDictionary}
-use Rattle.otp_words.specs.Places.{IsPlaced}
+use Rattle.otp_words.specs.Inner.{IsPlaced}
 
 -- a byte
 abbrev is_byte : ℕ → Bool

@@ -13,7 +13,8 @@ use Rattle.hex.specs.Hex.{encode_with, encode_lower, encode_upper, lower_digits,
 use Rattle.hex.specs.declared.error.FromHexError.{FromHexError}
 use Rattle.hex.proofs.HexLemmas.{decode_sized-ok}
 use Rattle.otp_words.specs.Blanks.{is_no_blank}
-use Rattle.otp_words.specs.Hex.{hex_digits, hex_text, hex_reading, grouped}
+use Rattle.otp_words.specs.Hex.{hex_digits, hex_text, hex_reading}
+use Rattle.otp_words.specs.Inner.{grouped}
 
 -- what a test lets through
 pub then_some-parts : {A : Type 0} (test : Bool) (x v : A) → then_some test x ≡ Some v → (test ≡ true) × (x ≡ v)

@@ -1,6 +1,7 @@
 pub mod ChallengeLemmas
 pub mod DictionaryLemmas
 pub mod DigitLemmas
+pub mod FourDigits
 pub mod HexLemmas
 pub mod HexText
 pub mod JudgedLemmas

@@ -19,7 +19,7 @@ use Rattle.otp_words.specs.declared.fault.DictRule.TheVariants as rules_of
 use Rattle.otp_words.specs.Digits.{number_of}
 use Rattle.otp_words.specs.Dictionaries.{upper, is_word, IsDictionary}
 use Rattle.otp_words.specs.Lists.{rule_of}
-use Rattle.otp_words.specs.Places.{IsPlaced, AreWords}
+use Rattle.otp_words.specs.Inner.{IsPlaced, AreWords}
 use Rattle.otp_words.proofs.DictionaryLemmas.{same_word}
 
 -- a test that isn't true is false

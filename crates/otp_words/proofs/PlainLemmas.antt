@@ -9,7 +9,7 @@ use Rattle.std.proofs.lemmas.Option.{slice_get_within, get_or_from_slice_get}
 use Rattle.std.proofs.lemmas.List.FromFn.{length-map-range_with_len, get_or-map-range_with_len}
 use Rattle.otp_words.specs.Digits.{number_of}
 use Rattle.otp_words.specs.Dictionaries.{upper, is_word, plain_word}
-use Rattle.otp_words.specs.Places.{IsPlaced, AreWords}
+use Rattle.otp_words.specs.Inner.{IsPlaced, AreWords}
 use Rattle.otp_words.proofs.DictionaryLemmas.{same_word}
 use Rattle.otp_words.proofs.WordText.{upper_letters}
 

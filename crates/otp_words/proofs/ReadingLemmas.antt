@@ -11,7 +11,7 @@ use Rattle.otp_hash.specs.declared.chain.Algo.{Algo}
 use Rattle.otp_hash.specs.Seeds.{is_seed_text}
 use Rattle.otp_words.specs.Blanks.{is_blank}
 use Rattle.otp_words.specs.Challenges.{algo_text, decimal_value, is_close, IsNumber, BeginsWithChallenge}
-use Rattle.otp_words.specs.Readings.{AreParts, is_closed}
+use Rattle.otp_words.specs.Inner.{AreParts, is_closed}
 use Rattle.otp_words.proofs.HexLemmas.{then_some-parts}
 use Rattle.otp_words.proofs.RunLemmas.{run_exact, stops_at}
 

@@ -8,24 +8,14 @@ use Rattle.std.proofs.lemmas.Bool.Decides.{nat_tests}
 use Rattle.std.proofs.lemmas.Nat.{mod_below}
 use Rattle.otp_hash.specs.declared.chain.Algo.{Algo}
 use Rattle.otp_hash.specs.Seeds.{is_seed_text, is_seed, is_seed_byte}
-use Rattle.otp_words.specs.Challenges.{leading_zeros, four_digits, decimal, challenge_of, IsNumber, BeginsWithChallenge}
+use Rattle.std.specs.Fmt.{decimal}
+use Rattle.otp_words.specs.Challenges.{challenge_of, IsNumber, BeginsWithChallenge}
+use Rattle.otp_words.specs.Inner.{four_digits, leading_zeros}
+use Rattle.otp_words.proofs.FourDigits.{short_digits, short_digits-decimal, zeros_none, zeros_one, zeros_three, zeros_two}
 
 -- a decimal digit that is written
 digit_legal : (d : ℕ) → d < 10 → is_ascii_digit (48 + d) ≡ true
 digit_legal d small = grind (arith, nat_tests)
-
--- the zeros before a number's first digit
-zeros_three : (n : ℕ) → n < 10 → leading_zeros n ≡ 3
-zeros_three n small = grind (arith, nat_tests)
-
-zeros_two : (n : ℕ) → 10 ≤ n → n < 100 → leading_zeros n ≡ 2
-zeros_two n some small = grind (arith, nat_tests)
-
-zeros_one : (n : ℕ) → 100 ≤ n → n < 1000 → leading_zeros n ≡ 1
-zeros_one n some small = grind (arith, nat_tests)
-
-zeros_none : (n : ℕ) → 1000 ≤ n → leading_zeros n ≡ 0
-zeros_none n some = grind (arith, nat_tests)
 
 -- numbers of one to four digits
 one_digit : (n : ℕ) → n < 10 → IsNumber (drop 3 (four_digits n)) n
@@ -61,12 +51,12 @@ all_digits n small = record {
 }
 
 -- the digits without the zeros before the first, by how many those are
-digits_by_zeros : (n count : ℕ) → leading_zeros n ≡ count → IsNumber (drop count (four_digits n)) n → IsNumber (decimal n) n
+digits_by_zeros : (n count : ℕ) → leading_zeros n ≡ count → IsNumber (drop count (four_digits n)) n → IsNumber (short_digits n) n
 digits_by_zeros n count e is = subst (λ (z : ℕ). IsNumber (drop z (four_digits n)) n) (sym e) is
 
 -- a number in as many digits as it has
-IsNumber-decimal : (n : ℕ) → n ≤ 9999 → IsNumber (decimal n) n
-IsNumber-decimal n small =
+IsNumber-short : (n : ℕ) → n ≤ 9999 → IsNumber (short_digits n) n
+IsNumber-short n small =
     elim (cases_lt n 10) [
       | inl lt ↦ digits_by_zeros n 3 (zeros_three n lt) (one_digit n lt)
       | inr ten ↦ elim (cases_lt n 100) [
@@ -77,6 +67,9 @@ IsNumber-decimal n small =
         ]
       ]
     ]
+
+IsNumber-decimal : (n : ℕ) → n ≤ 9999 → IsNumber (decimal n) n
+IsNumber-decimal n small = subst (λ (ds : List ℕ). IsNumber ds n) (short_digits-decimal n small) (IsNumber-short n small)
 
 -- a byte of a seed
 is_ascii_alphanumeric-seed_byte : (c : ℕ) → is_seed_byte c ≡ true → is_ascii_alphanumeric c ≡ true

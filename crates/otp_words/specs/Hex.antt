@@ -1,5 +1,5 @@
 -- Passwords in hexadecimal digits.
-use Rattle.std.specs.Prelude.{ℕ, ◌-◌, ◌/◌, ◌%◌, List, ◌∷◌, ◌++◌, take, drop, filter, slice_index, Option, ◌==◌, if◌then◌else◌}
+use Rattle.std.specs.Prelude.{ℕ, List, ◌∷◌, ◌++◌, take, drop, filter, Option}
 use Rattle.std.specs.Int.{w64, from_be_bytes, to_be_bytes}
 use Rattle.std.specs.Option.{option_map}
 use Rattle.std.specs.Result.{result_ok}
@@ -15,10 +15,6 @@ unfoldable pub hex_text : ℕ → List ℕ
 hex_text password =
     let digits = hex_digits password in
     take 4 digits ++ 32 ∷ take 4 (drop 4 digits) ++ 32 ∷ take 4 (drop 8 digits) ++ 32 ∷ drop 12 digits
-
--- the byte at a place of 16 digits in such groups: a space behind each four digits
-abbrev pub grouped : List ℕ → ℕ → ℕ
-grouped digits place = if place % 5 == 4 then 32 else slice_index digits (place - place / 5)
 
 -- the password of a text of which 16 hexadecimal digits of any case and nothing else remain without
 -- spaces and tabs: the digits of its eight bytes, the most significant first

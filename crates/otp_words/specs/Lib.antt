@@ -4,7 +4,7 @@ pub mod Challenges
 pub mod Dictionaries
 pub mod Digits
 pub mod Hex
+pub mod Inner
 pub mod Lists
-pub mod Places
 pub mod Readings
 pub mod Words

@@ -2,7 +2,8 @@
 
 ghost use Rattle.std.specs.Prelude.{◌≡◌, ℕ, ◌+◌, ◌≤◌, List, ◌++◌, length, take, drop};
 ghost use Rattle.otp_hash.specs.SeedBytes.{seed_bytes};
-ghost use Rattle.otp_words.specs.Challenges.{algo_text, leading_zeros, four_digits, challenge_of, BeginsWithChallenge};
+ghost use Rattle.otp_words.specs.Challenges.{algo_text, challenge_of, BeginsWithChallenge};
+ghost use Rattle.otp_words.specs.Inner.{four_digits, leading_zeros};
 
 use otp_hash::{Algo, Seed};
 

@@ -7,7 +7,8 @@ ghost use Rattle.std.specs.List.{list_all, prefix_len};
 ghost use Rattle.otp_hash.specs.declared.chain.Algo.{Algo};
 ghost use Rattle.otp_hash.specs.SeedBytes.{seed_bytes};
 ghost use Rattle.otp_words.specs.Challenges.{algo_text, decimal_value, BeginsWithChallenge};
-ghost use Rattle.otp_words.specs.Readings.{AreParts, HasParts, is_closed};
+ghost use Rattle.otp_words.specs.Readings.{HasParts};
+ghost use Rattle.otp_words.specs.Inner.{AreParts, is_closed};
 
 use crate::blanks::gap_len;
 use crate::challenge::algo_text;

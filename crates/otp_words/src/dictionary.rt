@@ -9,7 +9,7 @@ ghost use Rattle.otp_words.specs.declared.fault.DictRule.{DictRule};
 ghost use Rattle.otp_words.specs.declared.fault.DictFault.{DictFault};
 ghost use Rattle.otp_words.specs.declared.fault.DictError.TheVariants.{Refused};
 ghost use Rattle.otp_words.specs.Lists.{rule_of, fault_at, dictionary_of};
-ghost use Rattle.otp_words.specs.Places.{IsPlaced, AreWords};
+ghost use Rattle.otp_words.specs.Inner.{IsPlaced, AreWords};
 ghost use Rattle.std.specs.Char.{is_ascii_alphabetic};
 ghost use Rattle.std.specs.List.{list_all, prefix_len};
 ghost use Rattle.otp_words.specs.Digits.{number_of};
@@ -40,7 +40,7 @@ impl Model for Dictionary {
     ghost use Rattle.std.specs.Ordering.{nat_cmp};
     ghost use Rattle.fixed_list.specs.FixedList.{list_of};
     ghost use Rattle.otp_words.specs.Dictionaries.{IsDictionary};
-    ghost use Rattle.otp_words.specs.Places.{IsPlaced};
+    ghost use Rattle.otp_words.specs.Inner.{IsPlaced};
 
     ghost Value = { List (List ℕ) };
 

@@ -3,7 +3,8 @@
 ghost use Rattle.std.specs.Prelude.{◌≡◌, ◌≢◌, ◌≤◌, ◌<◌, ◌++◌, Some, MatchOption, length, take, drop, map, filter};
 ghost use Rattle.std.specs.Char.{to_ascii_uppercase};
 ghost use Rattle.otp_words.specs.Blanks.{is_no_blank};
-ghost use Rattle.otp_words.specs.Hex.{hex_digits, grouped, hex_text, hex_reading};
+ghost use Rattle.otp_words.specs.Hex.{hex_digits, hex_text, hex_reading};
+ghost use Rattle.otp_words.specs.Inner.{grouped};
 
 use crate::blanks::is_blank;
 use hex::FromHex;

@@ -4,7 +4,7 @@ use Rattle.std.specs.List.{find, list_any}
 use Rattle.std.proofs.lemmas.List.{drop_all, drop_more}
 use Rattle.policy_model.specs.declared.event.Event.{Event}
 use Rattle.policy_model.specs.Asks.{closes_file, handle_of, opens_file}
-use Rattle.policy_model.specs.Handles.{live_handles_of, live_opens, opening_of}
+use Rattle.policy_model.specs.Handles.{live_handles_of, live_opens, handle_opening}
 use Rattle.policy_model.specs.Journal.{events_of, is_own}
 use Rattle.policy_model.proofs.Lists.{list_any-filter}
 
@@ -36,10 +36,10 @@ unfolding live_handles_of
 live_handles_of-end session journal i le = ap (λ j. live_handles_of j session) (drop_all i journal le)
 
 -- the one that opened a handle, from a place on
-pub opening_of-live : (session handle : ℕ) (journal : List Event) (i : ℕ) (e : Event) → i < length journal → e ≡ get_or journal i e → is_live session e (drop (i + 1) journal) ≡ true → opening_of (drop i journal) session handle ≡ cond (handle_of e == handle) (Some e) (opening_of (drop (i + 1) journal) session handle)
-opening_of-live session handle journal i e lt here live =
+pub handle_opening-live : (session handle : ℕ) (journal : List Event) (i : ℕ) (e : Event) → i < length journal → e ≡ get_or journal i e → is_live session e (drop (i + 1) journal) ≡ true → handle_opening (drop i journal) session handle ≡ cond (handle_of e == handle) (Some e) (handle_opening (drop (i + 1) journal) session handle)
+handle_opening-live session handle journal i e lt here live =
     ap (find (λ x. handle_of x == handle)) (live_handles_of-drop session journal i e lt here ∙ ap (λ b. cond b (e ∷ live_handles_of (drop (i + 1) journal) session) (live_handles_of (drop (i + 1) journal) session)) live)
 
-pub opening_of-other : (session handle : ℕ) (journal : List Event) (i : ℕ) (e : Event) → i < length journal → e ≡ get_or journal i e → is_live session e (drop (i + 1) journal) ≡ false → opening_of (drop i journal) session handle ≡ opening_of (drop (i + 1) journal) session handle
-opening_of-other session handle journal i e lt here live =
+pub handle_opening-other : (session handle : ℕ) (journal : List Event) (i : ℕ) (e : Event) → i < length journal → e ≡ get_or journal i e → is_live session e (drop (i + 1) journal) ≡ false → handle_opening (drop i journal) session handle ≡ handle_opening (drop (i + 1) journal) session handle
+handle_opening-other session handle journal i e lt here live =
     ap (find (λ x. handle_of x == handle)) (live_handles_of-drop session journal i e lt here ∙ ap (λ b. cond b (e ∷ live_handles_of (drop (i + 1) journal) session) (live_handles_of (drop (i + 1) journal) session)) live)

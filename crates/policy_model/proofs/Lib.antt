@@ -3,11 +3,8 @@ pub mod InRange
 pub mod Journals
 pub mod LoginLemmas
 pub mod HandleLemmas
+pub mod DecoyLemmas
 pub mod Legal
 pub mod Verdicts
 pub mod Sessions
 pub mod Runs
-pub mod Permits
-pub mod Replies
-pub mod Sequences
-pub mod Exports

@@ -1,5 +1,5 @@
 -- Facts on filters of a list, its last element and tests of some element.
-use Rattle.std.proofs.Common.{◌≡◌, ℕ, ◌+◌, ◌<◌, Bool, true, false, ◌&&◌, ◌||◌, cond, List, [], ◌∷◌, ◌++◌, length, get_or, take, Option, None, Some, refl, sym, ap, ◌∙◌, filter}
+use Rattle.std.proofs.Common.{◌≡◌, ℕ, zero, suc, slice_get, arith, ◌+◌, ◌<◌, Bool, true, false, ◌&&◌, ◌||◌, cond, List, [], ◌∷◌, ◌++◌, length, get_or, take, Option, None, Some, refl, sym, ap, ◌∙◌, filter}
 use Rattle.std.proofs.lemmas.List.{append-nil, take_more}
 use Rattle.std.specs.List.{last_or, list_any}
 use Rattle.std.proofs.lemmas.List.Elements.{filter-append}
@@ -44,3 +44,9 @@ turn f g push xs i x d a lt here so_far =
     ∙ sym (push (take i xs) x)
     ∙ ap (λ y. f (take i xs ++ y ∷ [])) here
     ∙ ap f (sym (take_more xs i d lt))
+
+-- what stands at a place of a list
+pub stands_at : {X : Type 0} (xs : List X) (i : ℕ) (d : X) → i < length xs → slice_get xs i ≡ Some (get_or xs i d)
+stands_at [] i d lt = absurd (omega (arith, lt))
+stands_at (x ∷ xs) zero d lt = refl
+stands_at (x ∷ xs) (suc i) d lt = stands_at xs i d (omega (arith, lt))

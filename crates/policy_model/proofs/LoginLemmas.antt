@@ -7,7 +7,7 @@ use Rattle.std.proofs.lemmas.List.Folds.{list_any-append}
 use Rattle.request_catalogue.specs.declared.texts.Name.{Name}
 use Rattle.policy_model.specs.declared.account.Account.{Account}
 use Rattle.policy_model.specs.declared.event.Event.{Event}
-use Rattle.policy_model.specs.Asks.{accepts, gives_up, takes, takes_user}
+use Rattle.policy_model.specs.Asks.{accepts, gives_up, reserves, takes}
 use Rattle.policy_model.specs.Journal.{Place, is_own, last_event, places_after, places_of}
 use Rattle.policy_model.specs.Logins.{challenged_user, current_password, last_taking_of, replies_of, reply_for, session_taking, user_before, user_named, verified_user, was_given_up}
 use Rattle.policy_model.proofs.Lists.{last_or-filter_push}
@@ -52,9 +52,9 @@ unfolding verified_user
 verified_user-none session = refl
 
 -- the last taking of a user
-pub last_taking_of-push : (user : Name) (journal : List Event) (e : Event) → last_taking_of (journal ++ e ∷ []) user ≡ cond (takes_user user e) (Some e) (last_taking_of journal user)
+pub last_taking_of-push : (user : Name) (journal : List Event) (e : Event) → last_taking_of (journal ++ e ∷ []) user ≡ cond (reserves user e) (Some e) (last_taking_of journal user)
 unfolding last_taking_of
-last_taking_of-push user journal e = last_or-filter_push (takes_user user) journal e
+last_taking_of-push user journal e = last_or-filter_push (reserves user) journal e
 
 pub last_taking_of-none : (user : Name) → last_taking_of [] user ≡ None
 unfolding last_taking_of
@@ -132,14 +132,14 @@ after_last-push {X} p xs x = ap (λ n. drop (length (xs ++ x ∷ []) - n) (xs ++
       ap (λ k. drop k (xs ++ x ∷ [])) less ∙ drop-append-le (length xs - n) xs (x ∷ []) (omega arith)
 
 -- whether the last taker of a user gave it up
-pub was_given_up-push : (user : Name) (journal : List Event) (e : Event) → was_given_up (journal ++ e ∷ []) user ≡ (not (takes_user user e) && (was_given_up journal user || is_own (session_taking (last_taking_of journal user)) gives_up e))
+pub was_given_up-push : (user : Name) (journal : List Event) (e : Event) → was_given_up (journal ++ e ∷ []) user ≡ (not (reserves user e) && (was_given_up journal user || is_own (session_taking (last_taking_of journal user)) gives_up e))
 unfolding was_given_up
 was_given_up-push user journal e =
-    ap (λ o. list_any (is_own (session_taking o) gives_up) (after_last (takes_user user) (journal ++ e ∷ []))) (last_taking_of-push user journal e)
-    ∙ ap (λ l. list_any (is_own (session_taking (cond (takes_user user e) (Some e) (last_taking_of journal user))) gives_up) l) (after_last-push (takes_user user) journal e)
-    ∙ go (takes_user user e) where
+    ap (λ o. list_any (is_own (session_taking o) gives_up) (after_last (reserves user) (journal ++ e ∷ []))) (last_taking_of-push user journal e)
+    ∙ ap (λ l. list_any (is_own (session_taking (cond (reserves user e) (Some e) (last_taking_of journal user))) gives_up) l) (after_last-push (reserves user) journal e)
+    ∙ go (reserves user e) where
       behind : List Event
-      behind = after_last (takes_user user) journal
+      behind = after_last (reserves user) journal
 
       p : Event → Bool
       p = is_own (session_taking (last_taking_of journal user)) gives_up
@@ -157,6 +157,6 @@ pub was_given_up-none : (user : Name) → was_given_up [] user ≡ false
 unfolding was_given_up
 was_given_up-none user = refl
 
-pub last_taking_of-last : (user : Name) (journal : List Event) → last_taking_of journal user ≡ last_or None (filter (takes_user user) journal)
+pub last_taking_of-last : (user : Name) (journal : List Event) → last_taking_of journal user ≡ last_or None (filter (reserves user) journal)
 unfolding last_taking_of
 last_taking_of-last user journal = refl

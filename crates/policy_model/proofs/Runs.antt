@@ -12,8 +12,8 @@ use Rattle.policy_model.specs.declared.event.Event.{Event}
 use Rattle.policy_model.specs.declared.phase.Phase.{Phase}
 use Rattle.policy_model.specs.declared.phase.Row.{Row}
 use Rattle.request_catalogue.specs.declared.kind.Kind.{Kind}
-use Rattle.policy_model.specs.Asks.{ends_session, is_begin, is_end, is_lost, is_permit, is_proper, is_request, is_violation, opens}
-use Rattle.policy_model.specs.Journal.{asks_of, has_lost, open_session_of, openings_of}
+use Rattle.policy_model.specs.Asks.{ends_session, is_begin, is_end, is_lost, is_permit, is_proper, came_by_frame, is_violation, opens}
+use Rattle.policy_model.specs.Journal.{ask_count, has_lost, open_session_of, openings_of}
 use Rattle.policy_model.specs.Legal.{IsNextBy, session_of}
 use Rattle.policy_model.specs.Phases.{narrow_row}
 use Rattle.policy_model.specs.Runs.{IsIdle, OthersStay, IsOfWorker, IsProperEvent, IsRunBy, IsServingBy}
@@ -21,8 +21,8 @@ use Rattle.policy_model.specs.Settings.{Settings}
 use Rattle.policy_model.specs.Verdict.{request_verdict, verdict_by}
 use Rattle.policy_model.proofs.Journals.{open_session_of-push}
 use Rattle.policy_model.proofs.Legal.{IsLegal-none, IsLegal-push}
-use Rattle.policy_model.proofs.Sessions.{AreNumbered-push, AreNumbered-weaker, asks_of-new, asks_of-push, openings_of-push, session_of-le}
-use Rattle.policy_model.proofs.Verdicts.{asks_of-below, session_of-begin, session_of-other, verdict_of-begin, verdict_of-end, verdict_of-request}
+use Rattle.policy_model.proofs.Sessions.{AreNumbered-push, AreNumbered-weaker, ask_count-new, ask_count-push, openings_of-push, session_of-le}
+use Rattle.policy_model.proofs.Verdicts.{ask_count-below, session_of-begin, session_of-other, verdict_of-begin, verdict_of-end, verdict_of-request}
 
 All-push : {X : Type 0} (P : X → Type 0) (xs : List X) (x : X) → AllByRecursion P xs → P x → AllByRecursion P (xs ++ x ∷ [])
 All-push P [] x h new = (new, tt)
@@ -61,16 +61,16 @@ or_false : (a b : Bool) → (a || b) ≡ false → (a ≡ false) × (b ≡ false
 or_false true b h = absurd cc
 or_false false b h = (refl, h)
 
-pub no_begin : (ask : Ask) → is_request ask ≡ true → is_begin ask ≡ false
+pub no_begin : (ask : Ask) → came_by_frame ask ≡ true → is_begin ask ≡ false
 no_begin asks.Begin h = absurd cc
 no_begin _ h = refl
 
-no_end : (ask : Ask) → is_request ask ≡ true → is_end ask ≡ false
+no_end : (ask : Ask) → came_by_frame ask ≡ true → is_end ask ≡ false
 no_end (asks.End why) h = absurd cc
 no_end _ h = refl
 
 -- a request leaves the worker's session open
-pub stays_open : (journal : List Event) (e : Event) (worker : ℕ) → is_request e.ask ≡ true → open_session_of (journal ++ e ∷ []) worker ≡ open_session_of journal worker
+pub stays_open : (journal : List Event) (e : Event) (worker : ℕ) → came_by_frame e.ask ≡ true → open_session_of (journal ++ e ∷ []) worker ≡ open_session_of journal worker
 stays_open journal e worker request =
     open_session_of-push journal worker e ∙ go (eqb e.worker worker) (is_begin e.ask) (is_end e.ask) (no_begin e.ask request) (no_end e.ask request) where
       go : (same begin end : Bool) → begin ≡ false → end ≡ false → cond (same && (begin || end) && is_permit e.decision) (cond begin e.session 0) (open_session_of journal worker) ≡ open_session_of journal worker
@@ -90,7 +90,7 @@ opened_now {table} setup journal e next ask kept none = next_decision setup jour
 -- a session that was just opened has made no ask
 pub record OpensBy (table : Phase → Kind → Row) (setup : Settings) (journal : List Event) (e : Event) : Type 0 where
   pub serving : IsServingBy table setup (journal ++ e ∷ []) e.worker e.session
-  pub asks : asks_of (journal ++ e ∷ []) e.session ≡ 0
+  pub asks : ask_count (journal ++ e ∷ []) e.session ≡ 0
 
 -- the opening of a worker that has no open session, where it isn't lost
 pub begins : {table : Phase → Kind → Row} (setup : Settings) (journal : List Event) (e : Event) → IsRunBy table setup journal → IsNextBy table setup journal e → e.ask ≡ asks.Begin → e.worker < setup.workers → is_lost e.decision ≡ false → open_session_of journal e.worker ≡ 0 → OpensBy table setup journal e
@@ -98,9 +98,9 @@ begins {table} setup journal e run next ask worker kept none =
     let permit : e.decision ≡ Permit (openings_of journal + 1) = opened_now setup journal e next ask kept none in
     let number : e.session ≡ openings_of journal + 1 = next_session setup journal e next ∙ ap (λ a. session_of journal e.worker a e.decision) ask ∙ ap (session_of journal e.worker asks.Begin) permit ∙ session_of-begin journal e.worker (openings_of journal + 1) in
     let proper : is_proper e.ask ≡ true = ap is_proper ask in
-    let before : asks_of journal e.session ≡ 0 = asks_of-new journal (openings_of journal) e.session run.numbered (omega (arith, number)) in
-    let opening : is_request e.ask ≡ false = ap is_request ask in
-    let none_made : asks_of (journal ++ e ∷ []) e.session ≡ 0 = asks_of-push journal e e.session ∙ rw (opening, eqb_same e.session, before) refl in
+    let before : ask_count journal e.session ≡ 0 = ask_count-new journal (openings_of journal) e.session run.numbered (omega (arith, number)) in
+    let opening : came_by_frame e.ask ≡ false = ap came_by_frame ask in
+    let none_made : ask_count (journal ++ e ∷ []) e.session ≡ 0 = ask_count-push journal e e.session ∙ rw (opening, eqb_same e.session, before) refl in
     record {
       serving = record {
         run = IsRun-push setup journal e run next proper worker;
@@ -118,19 +118,19 @@ Opens setup journal e = OpensBy narrow_row setup journal e
 -- a session that went on after a request has made one ask more
 pub record WentOnBy (table : Phase → Kind → Row) (setup : Settings) (journal : List Event) (e : Event) (session : ℕ) : Type 0 where
   pub serving : IsServingBy table setup (journal ++ e ∷ []) e.worker session
-  pub asks : asks_of (journal ++ e ∷ []) session ≡ asks_of journal session + 1
+  pub asks : ask_count (journal ++ e ∷ []) session ≡ ask_count journal session + 1
 
 -- a request after which the session goes on
-pub goes_on : {table : Phase → Kind → Row} (setup : Settings) (journal : List Event) (e : Event) (session : ℕ) → IsServingBy table setup journal e.worker session → IsNextBy table setup journal e → is_request e.ask ≡ true → is_proper e.ask ≡ true → e.worker < setup.workers → ends_session e ≡ false → WentOnBy table setup journal e session
+pub goes_on : {table : Phase → Kind → Row} (setup : Settings) (journal : List Event) (e : Event) (session : ℕ) → IsServingBy table setup journal e.worker session → IsNextBy table setup journal e → came_by_frame e.ask ≡ true → is_proper e.ask ≡ true → e.worker < setup.workers → ends_session e ≡ false → WentOnBy table setup journal e session
 goes_on {table} setup journal e session serving next request proper worker on =
     let kept : is_lost e.decision ≡ false = (or_false _ (is_lost e.decision) on).1 in
     let rest = (or_false _ (is_lost e.decision) on).0 in
     let allowed : is_violation e.decision ≡ false = (or_false _ (is_violation e.decision) rest).1 in
     let judged : e.decision ≡ request_verdict table setup journal session e.ask = next_decision setup journal e next kept ∙ verdict_of-request table setup journal e.worker e.ask request ∙ ap (λ s. request_verdict table setup journal s e.ask) serving.opened in
-    let limit : asks_of journal session ≢ setup.requests = asks_of-below table setup journal session e.ask (ap is_violation (sym judged) ∙ allowed) in
+    let limit : ask_count journal session ≢ setup.requests = ask_count-below table setup journal session e.ask (ap is_violation (sym judged) ∙ allowed) in
     let own : e.session ≡ session = next_session setup journal e next ∙ session_of-other journal e.worker e.ask e.decision (no_begin e.ask request) ∙ serving.opened in
     let same : eqb e.session session ≡ true = ap (λ s. eqb s session) own ∙ eqb_same session in
-    let made : asks_of (journal ++ e ∷ []) session ≡ asks_of journal session + 1 = asks_of-push journal e session ∙ rw (same, request) refl in
+    let made : ask_count (journal ++ e ∷ []) session ≡ ask_count journal session + 1 = ask_count-push journal e session ∙ rw (same, request) refl in
     record {
       serving = record {
         run = IsRun-push setup journal e serving.run next proper worker;

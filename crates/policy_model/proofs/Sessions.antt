@@ -9,8 +9,8 @@ use Rattle.policy_model.specs.declared.event.Ask.TheVariants as asks
 use Rattle.policy_model.specs.declared.event.Decision.{Decision}
 use Rattle.policy_model.specs.declared.event.Decision.TheVariants.{Permit, Deny, Lost}
 use Rattle.policy_model.specs.declared.event.Event.{Event}
-use Rattle.policy_model.specs.Asks.{is_begin, is_permit, is_request, opens}
-use Rattle.policy_model.specs.Journal.{asks_of, is_turn_of, open_session_of, openings_of, session_opened}
+use Rattle.policy_model.specs.Asks.{is_begin, is_permit, came_by_frame, opens}
+use Rattle.policy_model.specs.Journal.{ask_count, is_turn_of, open_session_of, openings_of, session_opened}
 use Rattle.policy_model.specs.Legal.{session_of}
 use Rattle.policy_model.specs.Runs.{AreNumbered}
 use Rattle.policy_model.proofs.Lists.{filter-push}
@@ -41,21 +41,21 @@ pub open_session_of-le : (journal : List Event) (worker last : ℕ) → AreNumbe
 open_session_of-le journal worker last all = open_below (is_turn_of worker) None journal last (omega arith) all
 
 -- the asks that a session has made, with one more event
-pub asks_of-push : (journal : List Event) (e : Event) (session : ℕ) → asks_of (journal ++ e ∷ []) session ≡ asks_of journal session + cond (eqb e.session session && is_request e.ask) 1 0
-asks_of-push journal e session = ap (count_by (λ x. is_request x.ask)) (filter-push (λ x. x.session == session) journal e) ∙ go (eqb e.session session) where
+pub ask_count-push : (journal : List Event) (e : Event) (session : ℕ) → ask_count (journal ++ e ∷ []) session ≡ ask_count journal session + cond (eqb e.session session && came_by_frame e.ask) 1 0
+ask_count-push journal e session = ap (count_by (λ x. came_by_frame x.ask)) (filter-push (λ x. x.session == session) journal e) ∙ go (eqb e.session session) where
   own : List Event
   own = filter (λ x. x.session == session) journal
 
-  go : (b : Bool) → count_by (λ x. is_request x.ask) (own ++ cond b (e ∷ []) []) ≡ count_by (λ x. is_request x.ask) own + cond (b && is_request e.ask) 1 0
-  go true = fold_push (λ n x. n + cond (is_request x.ask) 1 0) 0 own e
-  go false = ap (count_by (λ x. is_request x.ask)) (append-nil own) ∙ omega arith
+  go : (b : Bool) → count_by (λ x. came_by_frame x.ask) (own ++ cond b (e ∷ []) []) ≡ count_by (λ x. came_by_frame x.ask) own + cond (b && came_by_frame e.ask) 1 0
+  go true = fold_push (λ n x. n + cond (came_by_frame x.ask) 1 0) 0 own e
+  go false = ap (count_by (λ x. came_by_frame x.ask)) (append-nil own) ∙ omega arith
 
 -- a session with a number that wasn't given yet has made no ask
-pub asks_of-new : (journal : List Event) (last session : ℕ) → AreNumbered journal last → last < session → asks_of journal session ≡ 0
-asks_of-new [] last session all lt = refl
-asks_of-new (e ∷ es) last session all lt =
+pub ask_count-new : (journal : List Event) (last session : ℕ) → AreNumbered journal last → last < session → ask_count journal session ≡ 0
+ask_count-new [] last session all lt = refl
+ask_count-new (e ∷ es) last session all lt =
     let other : eqb e.session session ≡ false = grind (arith, nat_tests, all.0) in
-    ap (λ b. count_by (λ x. is_request x.ask) (cond b (e ∷ filter (λ x. x.session == session) es) (filter (λ x. x.session == session) es))) other ∙ asks_of-new es last session all.1 lt
+    ap (λ b. count_by (λ x. came_by_frame x.ask) (cond b (e ∷ filter (λ x. x.session == session) es) (filter (λ x. x.session == session) es))) other ∙ ask_count-new es last session all.1 lt
 
 -- an event's session is a number that was given, also by the event itself
 pub session_of-le : (journal : List Event) (worker : ℕ) (ask : Ask) (decision : Decision) → AreNumbered journal (openings_of journal) → session_of journal worker ask decision ≤ openings_of journal + cond (is_begin ask && is_permit decision) 1 0

@@ -17,17 +17,17 @@ use Rattle.policy_model.specs.declared.event.Decision.TheVariants.{Permit, Deny,
 use Rattle.policy_model.specs.declared.event.Event.{Event}
 use Rattle.policy_model.specs.declared.phase.Phase.{Phase}
 use Rattle.policy_model.specs.declared.phase.Row.{Row}
-use Rattle.policy_model.specs.Asks.{is_begin, is_denied_reply, is_lost, is_proper, is_request, is_violation, kind_of, mode_of, permits_kind, request_number}
-use Rattle.policy_model.specs.Handles.{free_handle_of, live_handles_of, opening_of}
-use Rattle.policy_model.specs.Journal.{asks_of, count_of, has_event, open_session_of, openings_of}
+use Rattle.policy_model.specs.Asks.{is_begin, is_denied_reply, is_lost, is_proper, came_by_frame, is_violation, kind_of, mode_of, permits_kind, request_number}
+use Rattle.policy_model.specs.Handles.{free_handle_of, live_handles_of, handle_opening}
+use Rattle.policy_model.specs.Journal.{ask_count, count_of, has_event, open_session_of, openings_of}
 use Rattle.policy_model.specs.Legal.{session_of}
-use Rattle.policy_model.specs.Logins.{account_of, challenged_user, current_sequence, holder_of, last_taking_of, session_taking, verified_user, was_accepted}
-use Rattle.policy_model.specs.Phases.{is_over, phase_of}
+use Rattle.policy_model.specs.Logins.{account_of, challenged_user, current_sequence, holder_of, is_live, last_taking_of, session_taking, verified_user, was_accepted, was_decoyed}
+use Rattle.policy_model.specs.Phases.{is_over, phase_of, table_row}
 use Rattle.policy_model.specs.Settings.{Settings, same_label}
-use Rattle.policy_model.specs.Verdict.{IsVerdict, NamesRule, account_named, account_verdict, allows, challenge_verdict, close_verdict, grant_verdict, grants_of, handle_verdict, info_verdict, is_held, is_holder, is_next_password, kind_verdict, login_verdict, matching_verdict, open_verdict, own_verdict, readings, readings_verdict, reply_verdict, request_verdict, row_verdict, sequence_of, table_verdict, use_verdict, verdict_by}
+use Rattle.policy_model.specs.Verdict.{IsVerdict, NamesRule, account_named, account_verdict, allows, challenge_verdict, close_verdict, decoy_challenge, decoy_verdict, grant_verdict, grants_of, handle_verdict, info_verdict, is_held, is_holder, is_next_password, kind_verdict, login_verdict, matching_verdict, open_verdict, own_verdict, readings, readings_verdict, reply_verdict, request_verdict, row_verdict, sequence_of, table_verdict, use_verdict, verdict_by}
 
 -- a request is judged in the worker's open session
-pub verdict_of-request : (table : Phase → Kind → Row) (setup : Settings) (journal : List Event) (worker : ℕ) (ask : Ask) → is_request ask ≡ true → verdict_by table setup journal worker ask ≡ request_verdict table setup journal (open_session_of journal worker) ask
+pub verdict_of-request : (table : Phase → Kind → Row) (setup : Settings) (journal : List Event) (worker : ℕ) (ask : Ask) → came_by_frame ask ≡ true → verdict_by table setup journal worker ask ≡ request_verdict table setup journal (open_session_of journal worker) ask
 unfolding verdict_by
 verdict_of-request table setup journal worker asks.Begin h = absurd cc
 verdict_of-request table setup journal worker (asks.End why) h = absurd cc
@@ -49,15 +49,24 @@ pub verdict_of-end : (table : Phase → Kind → Row) (setup : Settings) (journa
 unfolding verdict_by
 verdict_of-end table setup journal worker why some = by_open (open_session_of journal worker) (Deny 6 0) (Permit 0) some
 
+-- an opening of a worker that has an open session, and an end of one that has none, are denied by rule 6
+pub denied_begin : (setup : Settings) (journal : List Event) (worker : ℕ) → open_session_of journal worker ≢ 0 → verdict_by table_row setup journal worker asks.Begin ≡ Deny 6 0
+unfolding verdict_by
+denied_begin setup journal worker some = by_open (open_session_of journal worker) (Permit (openings_of journal + 1)) (Deny 6 0) some
+
+pub denied_end : (setup : Settings) (journal : List Event) (worker : ℕ) (why : Why) → open_session_of journal worker ≡ 0 → verdict_by table_row setup journal worker (asks.End why) ≡ Deny 6 0
+unfolding verdict_by
+denied_end setup journal worker why none = ap (λ s. cond (eqb s 0) (Deny 6 0) (Permit 0)) none
+
 by_limit : (over limit : Bool) (n r : ℕ) (d : Decision) → is_violation (cond over (Deny 6 n) (cond limit (Deny 1 r) d)) ≡ false → limit ≡ false
 by_limit true limit n r d h = absurd cc
 by_limit false true n r d h = absurd cc
 by_limit false false n r d h = refl
 
 -- a request that is no violation was made below the limit of asks
-pub asks_of-below : (table : Phase → Kind → Row) (setup : Settings) (journal : List Event) (session : ℕ) (ask : Ask) → is_violation (request_verdict table setup journal session ask) ≡ false → asks_of journal session ≢ setup.requests
-asks_of-below table setup journal session ask h =
-    let below : eqb (asks_of journal session) setup.requests ≡ false = by_limit (eqb session 0 || is_over journal session) (eqb (asks_of journal session) setup.requests) (request_number ask) setup.requests (own_verdict table setup journal session ask) h in
+pub ask_count-below : (table : Phase → Kind → Row) (setup : Settings) (journal : List Event) (session : ℕ) (ask : Ask) → is_violation (request_verdict table setup journal session ask) ≡ false → ask_count journal session ≢ setup.requests
+ask_count-below table setup journal session ask h =
+    let below : eqb (ask_count journal session) setup.requests ≡ false = by_limit (eqb session 0 || is_over journal session) (eqb (ask_count journal session) setup.requests) (request_number ask) setup.requests (own_verdict table setup journal session ask) h in
     λ e. grind (arith, nat_tests)
 
 -- only an opening has another session than the worker's open one
@@ -76,11 +85,12 @@ cond_decided true x y hx hy = hx
 cond_decided false x y hx hy = hy
 
 account_decided : (setup : Settings) (journal : List Event) (session : ℕ) (user : Name) (now : ℕ) (account : Option Account) → IsVerdict (account_verdict setup journal session user now account)
-account_decided setup journal session user now None = (lit≤ tt, lit≤ tt)
+account_decided setup journal session user now None = tt
 account_decided setup journal session user now (Some account) =
     let held : IsVerdict (Deny 12 (session_taking (last_taking_of journal user))) = (lit≤ tt, lit≤ tt) in
     let permit : IsVerdict (Permit (current_sequence journal account - 1)) = tt in
-    cond_decided (not account.enabled) _ _ (lit≤ tt, lit≤ tt) (cond_decided (eqb (current_sequence journal account) 0) _ _ (lit≤ tt, lit≤ tt) (cond_decided (is_held setup journal session user now) _ _ held permit))
+    let decoy : IsVerdict (decoy_challenge setup user) = tt in
+    cond_decided (not (is_live journal account)) _ _ decoy (cond_decided (is_held setup journal session user now) _ _ held permit)
 
 challenge_decided : (setup : Settings) (journal : List Event) (session : ℕ) (user : Name) (now : ℕ) → IsVerdict (challenge_verdict setup journal session user now)
 unfolding challenge_verdict
@@ -99,9 +109,13 @@ login_decided setup journal session passwords None = (lit≤ tt, lit≤ tt)
 login_decided setup journal session passwords (Some user) =
     cond_decided (not (is_holder session (holder_of journal user))) _ _ (lit≤ tt, lit≤ tt) (cond_decided (eqb (length passwords) 0) _ _ (lit≤ tt, lit≤ tt) (readings_decided journal passwords (account_of setup user)))
 
+decoy_decided : (passwords : List ℕ) → IsVerdict (decoy_verdict passwords)
+decoy_decided passwords = cond_decided (eqb (length passwords) 0) (Deny 14 0) (Deny 16 0) (lit≤ tt, lit≤ tt) (lit≤ tt, lit≤ tt)
+
 reply_decided : (setup : Settings) (journal : List Event) (session : ℕ) (words hex : Option ℕ) → IsVerdict (reply_verdict setup journal session words hex)
 unfolding reply_verdict
-reply_decided setup journal session words hex = login_decided setup journal session (readings words hex) (challenged_user journal session)
+reply_decided setup journal session words hex =
+    cond_decided (was_decoyed journal session) _ _ (decoy_decided (readings words hex)) (login_decided setup journal session (readings words hex) (challenged_user journal session))
 
 use_decided : (handle needed : ℕ) (o : Option Event) → IsVerdict (use_verdict handle needed o)
 use_decided handle needed None = (lit≤ tt, lit≤ tt)
@@ -109,7 +123,7 @@ use_decided handle needed (Some e) = cond_decided (allows (mode_of e.ask) needed
 
 handle_decided : (journal : List Event) (session handle needed : ℕ) → IsVerdict (handle_verdict journal session handle needed)
 unfolding handle_verdict
-handle_decided journal session handle needed = cond_decided (eqb handle 0) (Permit 0) (use_verdict handle needed (opening_of journal session handle)) tt (use_decided handle needed (opening_of journal session handle))
+handle_decided journal session handle needed = cond_decided (eqb handle 0) (Permit 0) (use_verdict handle needed (handle_opening journal session handle)) tt (use_decided handle needed (handle_opening journal session handle))
 
 grant_decided : (free mode : ℕ) (o : Option Grant) → IsVerdict (grant_verdict free mode o)
 grant_decided free mode None = (lit≤ tt, lit≤ tt)
@@ -121,7 +135,7 @@ open_decided setup journal session mode name = cond_decided (nat_le 8 (length (l
 
 close_decided : (journal : List Event) (session handle : ℕ) → IsVerdict (close_verdict journal session handle)
 unfolding close_verdict
-close_decided journal session handle = cond_decided (eqb handle 0 || is_none (opening_of journal session handle)) (Deny 17 handle) (Permit 0) (lit≤ tt, lit≤ tt) tt
+close_decided journal session handle = cond_decided (eqb handle 0 || is_none (handle_opening journal session handle)) (Deny 17 handle) (Permit 0) (lit≤ tt, lit≤ tt) tt
 
 info_decided : (setup : Settings) (journal : List Event) (session number : ℕ) → IsVerdict (info_verdict setup journal session number)
 unfolding info_verdict
@@ -153,7 +167,7 @@ own_decided table setup journal session ask h = table_decided table setup journa
 request_decided : (table : Phase → Kind → Row) (setup : Settings) (journal : List Event) (session : ℕ) (ask : Ask) → is_proper ask ≡ true → IsVerdict (request_verdict table setup journal session ask)
 request_decided table setup journal session ask h =
     let own = own_verdict table setup journal session ask in
-    let limit = eqb (asks_of journal session) setup.requests in
+    let limit = eqb (ask_count journal session) setup.requests in
     cond_decided (eqb session 0 || is_over journal session) (Deny 6 (request_number ask)) (cond limit (Deny 1 setup.requests) own) (lit≤ tt, lit≤ tt)
     (cond_decided limit (Deny 1 setup.requests) own (lit≤ tt, lit≤ tt) (own_decided table setup journal session ask h))
 

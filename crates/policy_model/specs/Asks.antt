@@ -1,9 +1,10 @@
 -- What can be read off one ask, one decision and one event.
-use Rattle.std.specs.Prelude.{ℕ, Bool, true, false, not, ◌&&◌, ◌||◌, ◌==◌, nat_le, is_some, Option, Some, None}
+use Rattle.std.specs.Prelude.{ℕ, Bool, true, false, not, ◌&&◌, ◌||◌, ◌==◌, nat_le, nat_lt, is_some, Option, Some, None, if◌then◌else◌}
 use Rattle.request_catalogue.specs.declared.texts.Name.{Name}
 use Rattle.request_catalogue.specs.declared.kind.Kind.{Kind}
 use Rattle.request_catalogue.specs.declared.kind.Kind.TheVariants as kinds
 use Rattle.request_catalogue.specs.Kinds.{kind_number}
+use Rattle.request_catalogue.specs.Rules.{hold_lost, no_match}
 use Rattle.policy_model.specs.declared.event.Why.{Why}
 use Rattle.policy_model.specs.declared.event.Why.TheVariants as whys
 use Rattle.policy_model.specs.declared.event.Ask.{Ask}
@@ -22,8 +23,8 @@ is_end (asks.End why) = true
 is_end _ = false
 
 -- it came by a frame of a child
-abbrev pub is_request : Ask → Bool
-is_request ask = not (is_begin ask) && not (is_end ask)
+abbrev pub came_by_frame : Ask → Bool
+came_by_frame ask = not (is_begin ask) && not (is_end ask)
 
 abbrev pub is_finish : Ask → Bool
 is_finish asks.Finish = true
@@ -54,6 +55,10 @@ is_close handle _ = false
 abbrev pub challenge_name : Ask → Option Name
 challenge_name (asks.Challenge user now) = Some user
 challenge_name _ = None
+
+abbrev pub is_challenge : Ask → Bool
+is_challenge (asks.Challenge user now) = true
+is_challenge _ = false
 
 -- a CHALLENGE for this user
 abbrev pub is_challenge_for : Name → Ask → Bool
@@ -122,8 +127,12 @@ value_of _ = 0
 
 -- a denial by one of the rules for replies
 abbrev pub is_login_denial : Decision → Bool
-is_login_denial (decisions.Deny rule detail) = nat_le 13 rule && nat_le rule 16
+is_login_denial (decisions.Deny rule detail) = nat_le hold_lost rule && nat_le rule no_match
 is_login_denial _ = false
+
+-- what a child is told of a decision: that a reply was refused, and not why
+abbrev pub shown_of : Decision → Decision
+shown_of decision = if is_login_denial decision then decisions.Deny no_match 0 else decision
 
 -- a denial that ends the session: by a rule of 1 to 7
 abbrev pub is_violation : Decision → Bool
@@ -144,6 +153,14 @@ takes e = is_some (challenge_name e.ask) && is_permit e.decision
 
 abbrev pub takes_user : Name → Event → Bool
 takes_user user e = is_challenge_for user e.ask && is_permit e.decision
+
+-- the value of a permitted CHALLENGE for a user that can log in is a number of the user's chain, below this; that of a decoy is this and the decoy's number
+abbrev pub decoys_from : ℕ
+decoys_from = 10000
+
+-- a permitted CHALLENGE that isn't a decoy reserves its user
+abbrev pub reserves : Name → Event → Bool
+reserves user e = takes_user user e && nat_lt (value_of e.decision) decoys_from
 
 -- after a REPLY, whatever was decided, and a permitted ABANDON its session holds no user
 abbrev pub gives_up : Event → Bool

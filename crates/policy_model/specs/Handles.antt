@@ -15,8 +15,8 @@ unfoldable pub live_handles_of : List Event → ℕ → List Event
 live_handles_of journal session = live_opens (events_of journal session)
 
 -- the event that opened a live handle
-abbrev pub opening_of : List Event → ℕ → ℕ → Option Event
-opening_of journal session handle = find (λ e. handle_of e == handle) (live_handles_of journal session)
+abbrev pub handle_opening : List Event → ℕ → ℕ → Option Event
+handle_opening journal session handle = find (λ e. handle_of e == handle) (live_handles_of journal session)
 
 -- the numbers that handles have
 abbrev pub handle_numbers : List ℕ
@@ -24,4 +24,4 @@ handle_numbers = 1 ∷ 2 ∷ 3 ∷ 4 ∷ 5 ∷ 6 ∷ 7 ∷ 8 ∷ []
 
 -- the least handle of 1 to 8 that isn't live, and 0 where there is none
 abbrev pub free_handle_of : List Event → ℕ → ℕ
-free_handle_of journal session = unwrap_or (find (λ n. is_none (opening_of journal session n)) handle_numbers) 0
+free_handle_of journal session = unwrap_or (find (λ n. is_none (handle_opening journal session n)) handle_numbers) 0

@@ -2,7 +2,7 @@
 use Rattle.std.specs.Prelude.{ℕ, Bool, ◌&&◌, ◌||◌, ◌==◌, not, List, [], ◌∷◌, ◌++◌, filter, count_by, Option, Some, None, if◌then◌else◌}
 use Rattle.std.specs.List.{last_or, list_any}
 use Rattle.policy_model.specs.declared.event.Event.{Event}
-use Rattle.policy_model.specs.Asks.{is_begin, is_end, is_permit, is_request, is_lost, opens}
+use Rattle.policy_model.specs.Asks.{is_begin, is_end, is_permit, came_by_frame, is_lost, opens}
 
 -- the events of a session, in order
 abbrev pub events_of : List Event → ℕ → List Event
@@ -26,8 +26,8 @@ abbrev pub opened_after : ℕ → ℕ → Event → ℕ
 opened_after worker session e = if is_turn_of worker e then session_opened (Some e) else session
 
 -- how many asks a session has made besides its opening and its end
-abbrev pub asks_of : List Event → ℕ → ℕ
-asks_of journal session = count_by (λ e. is_request e.ask) (events_of journal session)
+abbrev pub ask_count : List Event → ℕ → ℕ
+ask_count journal session = count_by (λ e. came_by_frame e.ask) (events_of journal session)
 
 -- how many sessions were opened
 abbrev pub openings_of : List Event → ℕ

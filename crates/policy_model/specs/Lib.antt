@@ -1,12 +1,13 @@
+pub mod Salt
 pub mod Settings
 pub mod Setup
 pub mod Asks
 pub mod Journal
 pub mod Phases
 pub mod Logins
+pub mod Decoys
 pub mod Handles
 pub mod Verdict
 pub mod Legal
 pub mod Runs
 pub mod Narrow
-pub mod Consequences

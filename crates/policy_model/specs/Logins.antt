@@ -1,10 +1,10 @@
 -- Who takes and holds a user, and which passwords were accepted.
-use Rattle.std.specs.Prelude.{ℕ, Bool, false, ◌||◌, ◌&&◌, ◌-◌, List, ◌∷◌, length, filter, Option, Some, None, nat_eq, unwrap_or, if◌then◌else◌}
+use Rattle.std.specs.Prelude.{ℕ, Bool, false, ◌||◌, ◌&&◌, ◌-◌, List, ◌∷◌, length, filter, Option, Some, None, nat_eq, nat_le, not, ◌==◌, unwrap_or, if◌then◌else◌}
 use Rattle.std.specs.List.{after_last, filter_map, find, last_or, list_any}
 use Rattle.request_catalogue.specs.declared.texts.Name.{Name}
 use Rattle.policy_model.specs.declared.account.Account.{Account}
 use Rattle.policy_model.specs.declared.event.Event.{Event}
-use Rattle.policy_model.specs.Asks.{accepts, challenge_name, gives_up, takes, takes_user, value_of}
+use Rattle.policy_model.specs.Asks.{accepts, challenge_name, decoys_from, gives_up, reserves, takes, value_of}
 use Rattle.policy_model.specs.Journal.{Place, is_own, last_event, places_of}
 use Rattle.policy_model.specs.Phases.{is_over}
 use Rattle.policy_model.specs.Settings.{Settings, same_name}
@@ -22,6 +22,15 @@ user_named (Some e) = challenge_name e.ask
 unfoldable pub challenged_user : List Event → ℕ → Option Name
 challenged_user journal session = user_named (last_event journal session takes)
 
+-- a taking is there, and it names a decoy
+abbrev pub is_decoy : Option Event → Bool
+is_decoy None = false
+is_decoy (Some e) = nat_le decoys_from (value_of e.decision)
+
+-- the session's last permitted CHALLENGE names a decoy
+unfoldable pub was_decoyed : List Event → ℕ → Bool
+was_decoyed journal session = is_decoy (last_event journal session takes)
+
 -- the user of the session's last permitted CHALLENGE before a place
 abbrev pub user_before : ℕ → Option Place → Option Name
 user_before session None = None
@@ -31,9 +40,9 @@ user_before session (Some place) = challenged_user place.before session
 unfoldable pub verified_user : List Event → ℕ → Option Name
 verified_user journal session = user_before session (last_or None (filter (λ place. is_own session accepts place.event) (places_of journal)))
 
--- the last taking of a user: its last permitted CHALLENGE, of any session
+-- the last taking of a user: its last permitted CHALLENGE that isn't a decoy, of any session
 unfoldable pub last_taking_of : List Event → Name → Option Event
-last_taking_of journal user = last_or None (filter (takes_user user) journal)
+last_taking_of journal user = last_or None (filter (reserves user) journal)
 
 -- the session of a taking, and 0 where there is none
 abbrev pub session_taking : Option Event → ℕ
@@ -42,7 +51,7 @@ session_taking (Some e) = e.session
 
 -- the session of a user's last taking has a REPLY or a permitted ABANDON behind it
 unfoldable pub was_given_up : List Event → Name → Bool
-was_given_up journal user = list_any (is_own (session_taking (last_taking_of journal user)) gives_up) (after_last (takes_user user) journal)
+was_given_up journal user = list_any (is_own (session_taking (last_taking_of journal user)) gives_up) (after_last (reserves user) journal)
 
 -- the session of a taking that holds: it gave up nothing, and isn't over
 abbrev pub holder_by : List Event → Bool → Option Event → Option ℕ
@@ -83,3 +92,7 @@ current_sequence journal account = account.sequence - length (replies_of journal
 -- a password was accepted before
 abbrev pub was_accepted : List Event → Account → ℕ → Bool
 was_accepted journal account password = list_any (nat_eq password) (accepted_of journal account)
+
+-- the user of an account can log in: it is enabled, and its chain has a password left
+abbrev pub is_live : List Event → Account → Bool
+is_live journal account = account.enabled && not (current_sequence journal account == 0)

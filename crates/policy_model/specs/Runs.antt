@@ -6,7 +6,7 @@ use Rattle.policy_model.specs.declared.event.Event.{Event}
 use Rattle.policy_model.specs.declared.phase.Phase.{Phase}
 use Rattle.policy_model.specs.declared.phase.Row.{Row}
 use Rattle.policy_model.specs.Asks.{is_proper}
-use Rattle.policy_model.specs.Journal.{asks_of, has_lost, open_session_of, openings_of}
+use Rattle.policy_model.specs.Journal.{ask_count, has_lost, open_session_of, openings_of}
 use Rattle.policy_model.specs.Legal.{IsLegalBy}
 use Rattle.policy_model.specs.Phases.{table_row}
 use Rattle.policy_model.specs.Settings.{Settings}
@@ -35,7 +35,7 @@ pub record IsServingBy (table : Phase → Kind → Row) (setup : Settings) (jour
   pub run : IsRunBy table setup journal
   pub opened : open_session_of journal worker ≡ session
   pub some : session ≢ 0
-  pub below : asks_of journal session ≤ setup.requests
+  pub below : ask_count journal session ≤ setup.requests
 
 -- a worker has no open session, or some decision was lost
 abbrev pub IsIdle : List Event → ℕ → Type 0

@@ -9,6 +9,8 @@ use Rattle.request_catalogue.specs.Texts.{is_printable}
 use Rattle.policy_model.specs.declared.account.Account.{Account}
 use Rattle.policy_model.specs.declared.account.Grant.{Grant}
 use Rattle.policy_model.specs.declared.parts.SetupParts.{SetupParts}
+use Rattle.request_catalogue.specs.declared.width.Width.TheVariants.{Narrow}
+use Rattle.policy_model.specs.Salt.{plain_salt}
 
 -- what an operator settles: the parts of a setup, in any ranges
 abbrev pub Settings : Type 0
@@ -94,6 +96,8 @@ plain_settings = record {
   vault = codes "vault";
   words = codes "words";
   banner = [];
+  salt = plain_salt;
+  frames = Narrow;
   workers = 1;
   connections = 1;
   requests = 64;

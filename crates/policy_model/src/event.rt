@@ -1,7 +1,7 @@
 //! Asks, decisions and events.
 
 ghost use Rattle.std.specs.Prelude.{◌≡◌};
-ghost use Rattle.policy_model.specs.Asks.{is_begin, is_end, is_lost, is_permit, is_proper, is_request, kind_of, request_number};
+ghost use Rattle.policy_model.specs.Asks.{is_begin, is_end, is_lost, is_permit, is_proper, came_by_frame, kind_of, request_number};
 
 use request_catalogue::{Kind, Label, Name, Note};
 use std::mem::size_of;
@@ -131,8 +131,8 @@ impl Ask {
     }
 
     /// Whether this came by a frame of a child.
-    pub fn is_request(&self) -> bool
-        ensures { result ≡ is_request self.now }
+    pub fn came_by_frame(&self) -> bool
+        ensures { result ≡ came_by_frame self.now }
     {
         !self.is_begin() && !self.is_end()
     }

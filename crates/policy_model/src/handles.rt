@@ -3,7 +3,7 @@
 ghost use Rattle.std.specs.Prelude.{◌≡◌, ◌≤◌, ◌&&◌, is_none, length, not};
 ghost use Rattle.std.specs.List.{list_any};
 ghost use Rattle.policy_model.specs.Asks.{closes_file, handle_of, opens_file};
-ghost use Rattle.policy_model.specs.Handles.{free_handle_of, live_handles_of, opening_of};
+ghost use Rattle.policy_model.specs.Handles.{free_handle_of, live_handles_of, handle_opening};
 ghost use Rattle.policy_model.specs.Journal.{events_of, is_own};
 
 use crate::event::Event;
@@ -42,7 +42,7 @@ pub(crate) fn count_live(journal: &[Event], session: u32) -> usize
 
 /// The event that opened a live handle of the session.
 pub(crate) fn opening(journal: &[Event], session: u32, handle: u64) -> Option<Event>
-    ensures { result ≡ opening_of journal.now session handle }
+    ensures { result ≡ handle_opening journal.now session handle }
 {
     for (i, event) in journal.iter().enumerate() {
         if is_live(event, &journal[i + 1..], session) && event.handle() == handle {
@@ -54,7 +54,7 @@ pub(crate) fn opening(journal: &[Event], session: u32, handle: u64) -> Option<Ev
 
 /// Whether a handle of the session isn't live.
 fn is_free(journal: &[Event], session: u32, handle: u64) -> bool
-    ensures { result ≡ is_none (opening_of journal.now session handle) }
+    ensures { result ≡ is_none (handle_opening journal.now session handle) }
 {
     opening(journal, session, handle).is_none()
 }

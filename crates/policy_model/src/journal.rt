@@ -3,7 +3,7 @@
 ghost use Rattle.std.specs.Prelude.{◌≡◌, ◌==◌, ◌&&◌, ◌≤◌, if◌then◌else◌, length};
 ghost use Rattle.std.specs.List.{list_any};
 ghost use Rattle.policy_model.specs.Asks.{accepts, ends_session, exports, is_denied_reply, is_login_step, opens, permits_kind, takes};
-ghost use Rattle.policy_model.specs.Journal.{asks_of, count_of, has_event, has_lost, last_event, open_session_of, opened_after, openings_of};
+ghost use Rattle.policy_model.specs.Journal.{ask_count, count_of, has_event, has_lost, last_event, open_session_of, opened_after, openings_of};
 ghost use Rattle.policy_model.specs.Phases.{is_over, is_taking, phase_of};
 
 use crate::event::Event;
@@ -36,12 +36,12 @@ pub fn open_session(journal: &[Event], worker: u32) -> u32
 
 /// How many asks the session has made besides its opening and its end.
 pub(crate) fn asks(journal: &[Event], session: u32) -> usize
-    ensures { result ≡ asks_of journal.now session }
+    ensures { result ≡ ask_count journal.now session }
 {
     journal
         .iter()
         .filter(|e| e.session == session)
-        .filter(|e| e.ask.is_request())
+        .filter(|e| e.ask.came_by_frame())
         .count()
 }
 

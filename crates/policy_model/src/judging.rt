@@ -12,7 +12,7 @@ use crate::journal::{asks, has_permitted, is_over, open_session, openings, phase
 use crate::setup::Setup;
 use crate::table::{Table, row_in};
 use crate::verdict::judge_kind;
-use request_catalogue::Kind;
+use request_catalogue::{Kind, rules};
 
 /// The verdict of the phase table on a request of a kind: rules 6 and 7, then the kind's own.
 fn judge_row(
@@ -27,15 +27,9 @@ fn judge_row(
 {
     let row = row_in(table, phase(journal, session), kind);
     if !row.permitted {
-        Decision::Deny {
-            rule: 6,
-            detail: ask.number(),
-        }
+        Decision::deny(rules::NOT_IN_PHASE, ask.number())
     } else if row.once && has_permitted(journal, session, kind) {
-        Decision::Deny {
-            rule: 7,
-            detail: ask.number(),
-        }
+        Decision::deny(rules::ONCE_ONLY, ask.number())
     } else {
         judge_kind(setup, journal, session, ask)
     }
@@ -66,16 +60,10 @@ fn judge_request(
 {
     let requests = setup.requests();
     if session == 0 || is_over(journal, session) {
-        return Decision::Deny {
-            rule: 6,
-            detail: ask.number(),
-        };
+        return Decision::deny(rules::NOT_IN_PHASE, ask.number());
     }
     if asks(journal, session) == requests as usize {
-        return Decision::Deny {
-            rule: 1,
-            detail: requests,
-        };
+        return Decision::deny(rules::ASKS_SPENT, requests);
     }
     judge_own(table, setup, journal, session, ask)
 }
@@ -91,7 +79,7 @@ fn judge_by(table: Table, setup: &Setup, journal: &[Event], worker: u32, ask: &A
             value: openings(journal) as u64 + 1,
         },
         Ask::End { .. } if session != 0 => Decision::Permit { value: 0 },
-        Ask::Begin | Ask::End { .. } => Decision::Deny { rule: 6, detail: 0 },
+        Ask::Begin | Ask::End { .. } => Decision::deny(rules::NOT_IN_PHASE, 0),
         _ => judge_request(table, setup, journal, session, ask),
     }
 }

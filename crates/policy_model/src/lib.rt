@@ -3,11 +3,11 @@
 #![tactic(auto)]
 
 mod account;
+mod decoy;
 mod event;
 mod handles;
 mod journal;
 mod judging;
-mod laws;
 mod logins;
 mod parts;
 mod phase;
@@ -19,12 +19,13 @@ mod texts;
 mod verdict;
 
 pub use account::{Account, Accounts, Grant, Grants};
+pub use decoy::{Decoy, plain_salt};
 pub use event::{Ask, Decision, Event, Step, Why};
 pub use journal::{has_lost, open_session};
 pub use judging::{event_after, judge, judge_narrow};
-pub use laws::{no_password_twice, one_taker_at_a_time, sequence_falls, verified_before_export};
 pub use parts::SetupParts;
 pub use phase::{Phase, Row};
 pub use setup::Setup;
 pub use table::{Table, narrow_row, row};
 pub use texts::{Numbers, Text};
+pub use verdict::shown;

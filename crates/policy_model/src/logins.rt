@@ -1,11 +1,11 @@
 //! Who takes and holds a user, and which passwords were accepted.
 
-ghost use Rattle.std.specs.Prelude.{◌≡◌, ◌≤◌, ◌<◌, ◌+◌, ◌^◌, ◌&&◌, ◌||◌, length, nat_eq, not, if◌then◌else◌};
+ghost use Rattle.std.specs.Prelude.{◌≡◌, ◌≤◌, ◌<◌, ◌+◌, ◌^◌, ◌==◌, ◌&&◌, ◌||◌, length, nat_eq, not, if◌then◌else◌};
 ghost use Rattle.std.specs.List.{last_or, list_any};
 ghost use Rattle.std.specs.Option.{option_copied, option_to_list};
-ghost use Rattle.policy_model.specs.Asks.{accepts, gives_up, takes_user};
+ghost use Rattle.policy_model.specs.Asks.{accepts, gives_up, reserves};
 ghost use Rattle.policy_model.specs.Journal.{is_own};
-ghost use Rattle.policy_model.specs.Logins.{account_of, challenged_user, current_password, current_sequence, holder_by, holder_of, is_user, last_taking_of, replies_of, reply_for, session_taking, verified_user, was_accepted, was_given_up};
+ghost use Rattle.policy_model.specs.Logins.{account_of, challenged_user, current_password, current_sequence, holder_by, holder_of, is_live, is_user, last_taking_of, replies_of, reply_for, session_taking, verified_user, was_accepted, was_decoyed, was_given_up};
 
 use crate::account::Account;
 use crate::event::Event;
@@ -22,6 +22,17 @@ pub(crate) fn challenged_user(journal: &[Event], session: u32) -> Option<Name>
     match last_taking(journal, session) {
         None => None,
         Some(event) => event.ask.challenge_name(),
+    }
+}
+
+/// Whether the session's last permitted CHALLENGE names a decoy.
+#[tactic(auto, unfolding(crate::specs::Logins::was_decoyed))]
+pub(crate) fn was_decoyed(journal: &[Event], session: u32) -> bool
+    ensures { result ≡ was_decoyed journal.now session }
+{
+    match last_taking(journal, session) {
+        None => false,
+        Some(event) => event.is_decoy(),
     }
 }
 
@@ -66,10 +77,9 @@ pub(crate) fn session_taking(taking: &Option<Event>) -> u32
 
 /// Whether the user is given up after one more event.
 fn given_up_after(hold: &Hold, event: &Event, user: &Name) -> bool
-    ensures { result ≡ (not (takes_user user.now event.now) && (hold.now.given_up || is_own (session_taking hold.now.taking) gives_up event.now)) }
+    ensures { result ≡ (not (reserves user.now event.now) && (hold.now.given_up || is_own (session_taking hold.now.taking) gives_up event.now)) }
 {
-    !event.takes_user(user)
-        && (hold.given_up || event.is_giving_up_of(session_taking(&hold.taking)))
+    !event.reserves(user) && (hold.given_up || event.is_giving_up_of(session_taking(&hold.taking)))
 }
 
 /// The last taking of a user in the journal.
@@ -84,13 +94,13 @@ fn hold_of(journal: &[Event], user: &Name) -> Hold
     for event in journal {
         hold = Hold {
             given_up: given_up_after(&hold, event, user),
-            taking: later(hold.taking, event, event.takes_user(user)),
+            taking: later(hold.taking, event, event.reserves(user)),
         };
     }
     hold
 }
 
-/// The last permitted CHALLENGE for the user.
+/// The last permitted CHALLENGE for the user that isn't a decoy.
 pub(crate) fn last_taking_of(journal: &[Event], user: &Name) -> Option<Event>
     ensures { result ≡ last_taking_of journal.now user.now }
 {
@@ -226,6 +236,13 @@ pub(crate) fn current_sequence(journal: &[Event], account: &Account) -> u64
     ensures bound { result ≤ 65535 }
 {
     u64::from(account.sequence).saturating_sub(count_replies(journal, &account.name) as u64)
+}
+
+/// Whether the user of an account can log in.
+pub(crate) fn is_live(journal: &[Event], account: &Account) -> bool
+    ensures { result ≡ is_live journal.now account.now }
+{
+    account.enabled && current_sequence(journal, account) != 0
 }
 
 /// The account of a user.

@@ -2,6 +2,8 @@
 
 use crate::account::Accounts;
 use crate::texts::{Numbers, Text};
+use otp_hash::Seed;
+use request_catalogue::Width;
 
 /// What an operator settles before a run, in any ranges.
 #[derive(Debug, Drop)]
@@ -16,6 +18,9 @@ pub struct SetupParts {
     pub words: Text,
     /// What a client is greeted with: at most 200 printable bytes in a setup.
     pub banner: Text,
+    /// What decoys are made of, with the name: an operator who sets it keeps them from being foretold.
+    pub salt: Seed,
+    pub frames: Width,
     /// How many workers serve beside one another, 1 to 64 in a setup.
     pub workers: u32,
     /// How many connections each worker serves, 1 to 4,096 in a setup.

@@ -1,12 +1,16 @@
 //! What can be read off one event.
 
-ghost use Rattle.std.specs.Prelude.{◌≡◌, ◌&&◌, ◌==◌, option_and_then};
-ghost use Rattle.policy_model.specs.Asks.{accepts, challenge_name, closes_file, ends_session, exports, gives_up, handle_of, is_challenge_for, is_close, is_denied_reply, is_login_denial, is_login_step, mode_of, moment_of, opens, opens_file, permits_kind, takes, takes_user, value_of};
+ghost use Rattle.std.specs.Prelude.{◌≡◌, ◌&&◌, ◌==◌, nat_le, option_and_then};
+ghost use Rattle.policy_model.specs.declared.event.Decision.TheVariants.{Deny};
+ghost use Rattle.policy_model.specs.Asks.{accepts, challenge_name, closes_file, decoys_from, ends_session, exports, gives_up, handle_of, is_challenge_for, is_close, is_denied_reply, is_login_denial, is_login_step, mode_of, moment_of, opens, opens_file, permits_kind, reserves, takes, takes_user, value_of};
 ghost use Rattle.policy_model.specs.Journal.{is_own, is_turn_of};
 
 use crate::event::{Ask, Decision, Event};
 use crate::ranges::same_name;
-use request_catalogue::{Kind, Name};
+use request_catalogue::{Kind, Name, rules};
+
+/// The value of a decoy is this and the decoy's number; that of any other challenge is below it.
+pub(crate) const DECOYS_FROM: u64 = 10_000;
 
 impl Ask {
     /// The user that a CHALLENGE names.
@@ -61,6 +65,13 @@ impl Ask {
 }
 
 impl Decision {
+    /// A denial by a rule, of those in `request_catalogue::rules`.
+    pub(crate) fn deny(rule: u8, detail: u32) -> Decision
+        ensures { result ≡ Deny rule detail }
+    {
+        Decision::Deny { rule, detail }
+    }
+
     /// The value of a permit, or 0.
     pub(crate) fn value(&self) -> u64
         ensures { result ≡ value_of self.now }
@@ -71,11 +82,17 @@ impl Decision {
         }
     }
 
-    /// Whether this is a denial by one of the rules for replies, 13 to 16.
-    fn is_login_denial(&self) -> bool
+    /// Whether this is a denial by one of the rules for replies.
+    pub(crate) fn is_login_denial(&self) -> bool
         ensures { result ≡ is_login_denial self.now }
     {
-        matches!(self, Decision::Deny { rule: 13..=16, .. })
+        matches!(
+            self,
+            Decision::Deny {
+                rule: rules::HOLD_LOST..=rules::NO_MATCH,
+                ..
+            }
+        )
     }
 }
 
@@ -125,6 +142,20 @@ impl Event {
         ensures { result ≡ takes_user user.now self.now }
     {
         self.ask.is_challenge_for(user) && self.decision.is_permit()
+    }
+
+    /// Whether this names a decoy, where it takes a user.
+    pub(crate) fn is_decoy(&self) -> bool
+        ensures { result ≡ nat_le decoys_from (value_of self.now.decision) }
+    {
+        self.decision.value() >= DECOYS_FROM
+    }
+
+    /// Whether this takes this user and isn't a decoy.
+    pub(crate) fn reserves(&self, user: &Name) -> bool
+        ensures { result ≡ reserves user.now self.now }
+    {
+        self.takes_user(user) && self.decision.value() < DECOYS_FROM
     }
 
     /// Whether the session holds no user after this: a REPLY or a permitted ABANDON.

@@ -4,10 +4,11 @@ ghost use Rattle.std.specs.Prelude.{◌≡◌, ◌≤◌, ◌↔◌, IfOk, IsOk,
 ghost use Rattle.policy_model.specs.Settings.{IsInRange, account_number, events_max, plain_settings};
 
 use crate::account::Accounts;
+use crate::decoy::plain_salt;
 use crate::parts::SetupParts;
 use crate::ranges::{passes, position_of};
 use crate::texts::{Numbers, Text};
-use request_catalogue::Name;
+use request_catalogue::{Name, Width};
 use std::alloc::{AllocError, Global};
 use std::marker::Model;
 
@@ -54,6 +55,8 @@ impl Setup {
                 vault: Text::of(String::from_str(alloc, "vault")?),
                 words: Text::of(String::from_str(alloc, "words")?),
                 banner: Text::of(String::new(alloc)),
+                salt: plain_salt(),
+                frames: Width::Narrow,
                 workers: 1,
                 connections: 1,
                 requests: 64,
@@ -77,6 +80,8 @@ impl Setup {
                 vault: parts.vault.copy(alloc)?,
                 words: parts.words.copy(alloc)?,
                 banner: parts.banner.copy(alloc)?,
+                salt: parts.salt,
+                frames: parts.frames,
                 workers: parts.workers,
                 connections: parts.connections,
                 requests: parts.requests,

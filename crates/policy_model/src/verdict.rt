@@ -3,8 +3,9 @@
 ghost use Rattle.std.specs.Prelude.{◌≡◌, ◌≤◌, ◌==◌, ◌+◌, Some, length, nat_eq, nat_lt};
 ghost use Rattle.std.specs.List.{find, list_any};
 ghost use Rattle.std.specs.Option.{option_copied, option_to_list};
+ghost use Rattle.policy_model.specs.Asks.{shown_of};
 ghost use Rattle.policy_model.specs.Logins.{account_of, current_password, current_sequence, verified_user, was_accepted};
-ghost use Rattle.policy_model.specs.Verdict.{account_named, account_verdict, allows, challenge_verdict, close_verdict, grant_verdict, grants_of, handle_verdict, info_verdict, is_held, is_holder, is_next_password, is_other, kind_verdict, number_named, open_verdict, readings, readings_verdict, refused_verdict, reply_verdict, sequence_of, taking_moment, use_verdict, user_verdict};
+ghost use Rattle.policy_model.specs.Verdict.{account_named, account_verdict, allows, challenge_verdict, close_verdict, decoy_challenge, decoy_verdict, grant_verdict, grants_of, handle_verdict, info_verdict, is_held, is_holder, is_next_password, is_other, kind_verdict, number_named, open_verdict, readings, readings_verdict, refused_verdict, reply_verdict, sequence_of, taking_moment, use_verdict, user_verdict};
 ghost use Rattle.policy_model.specs.Settings.{same_label};
 
 use crate::account::{Account, Grant};
@@ -12,13 +13,25 @@ use crate::event::{Ask, Decision, Event};
 use crate::handles::{count_live, free_handle, opening};
 use crate::journal::denied_replies;
 use crate::logins::{
-    account_of, challenged_user, current_password, current_sequence, holder, last_taking_of,
-    session_taking, verified_user, was_accepted,
+    account_of, challenged_user, current_password, current_sequence, holder, is_live,
+    last_taking_of, session_taking, verified_user, was_accepted, was_decoyed,
 };
 use crate::ranges::same_label;
+use crate::reading::DECOYS_FROM;
 use crate::setup::Setup;
 use otp_hash::step;
-use request_catalogue::{Label, Name};
+use request_catalogue::{Label, Name, rules};
+
+/// What a child is told of a decision: that a reply was refused, and not why.
+pub fn shown(decision: &Decision) -> Decision
+    ensures { result ≡ shown_of decision.now }
+{
+    if decision.is_login_denial() {
+        Decision::deny(rules::NO_MATCH, 0)
+    } else {
+        *decision
+    }
+}
 
 /// The mode that a READ needs.
 const READ: u8 = 1;
@@ -61,7 +74,17 @@ fn is_held(setup: &Setup, journal: &[Event], session: u32, user: &Name, now: u64
     is_other(session, holder(journal, user)) && is_within(now, moment, setup.parts().hold)
 }
 
-/// Rules 10 to 12 of a CHALLENGE for a user that is known.
+/// What a user is challenged with that can't log in.
+fn challenge_decoy(setup: &Setup, user: &Name) -> Decision
+    ensures { result ≡ decoy_challenge setup.now user.now }
+{
+    Decision::Permit {
+        value: DECOYS_FROM + u64::from(setup.decoy(user).n),
+    }
+}
+
+/// Rule 12 of a CHALLENGE for a user that can log in, else a permit with the number of the password
+/// that is asked for; any other user gets a decoy.
 fn judge_account(
     setup: &Setup,
     journal: &[Event],
@@ -72,30 +95,21 @@ fn judge_account(
 ) -> Decision
     ensures { result ≡ account_verdict setup.now journal.now session user.now now (Some account.now) }
 {
-    let sequence = current_sequence(journal, account);
-    if !account.enabled {
-        Decision::Deny {
-            rule: 10,
-            detail: 0,
-        }
-    } else if sequence == 0 {
-        Decision::Deny {
-            rule: 11,
-            detail: 0,
-        }
+    if !is_live(journal, account) {
+        challenge_decoy(setup, user)
     } else if is_held(setup, journal, session, user, now) {
-        Decision::Deny {
-            rule: 12,
-            detail: session_taking(&last_taking_of(journal, user)),
-        }
+        Decision::deny(
+            rules::USER_HELD,
+            session_taking(&last_taking_of(journal, user)),
+        )
     } else {
         Decision::Permit {
-            value: sequence - 1,
+            value: current_sequence(journal, account) - 1,
         }
     }
 }
 
-/// Rules 8 to 12 of a CHALLENGE, else a permit with the number of the password that is asked for.
+/// Rules 8 and 12 of a CHALLENGE, else a permit.
 #[tactic(auto, unfolding(crate::specs::Verdict::challenge_verdict))]
 fn judge_challenge(
     setup: &Setup,
@@ -108,13 +122,10 @@ fn judge_challenge(
 {
     let tries = setup.parts().tries;
     if denied_replies(journal, session) >= tries as usize {
-        return Decision::Deny {
-            rule: 8,
-            detail: tries,
-        };
+        return Decision::deny(rules::TRIES_SPENT, tries);
     }
     match account_of(setup, user) {
-        None => Decision::Deny { rule: 9, detail: 0 },
+        None => challenge_decoy(setup, user),
         Some(account) => judge_account(setup, journal, session, account, user, now),
     }
 }
@@ -157,15 +168,9 @@ fn judge_refused(
     ensures { result ≡ refused_verdict journal.now account.now (readings words hex) }
 {
     if was_used(journal, account, words) || was_used(journal, account, hex) {
-        Decision::Deny {
-            rule: 15,
-            detail: 0,
-        }
+        Decision::deny(rules::PASSWORD_USED, 0)
     } else {
-        Decision::Deny {
-            rule: 16,
-            detail: 0,
-        }
+        Decision::deny(rules::NO_MATCH, 0)
     }
 }
 
@@ -209,23 +214,28 @@ fn judge_login(
     ensures { result ≡ user_verdict setup.now journal.now session (readings words hex) user.now }
 {
     if !is_holder(session, holder(journal, user)) {
-        return Decision::Deny {
-            rule: 13,
-            detail: session_taking(&last_taking_of(journal, user)),
-        };
+        return Decision::deny(
+            rules::HOLD_LOST,
+            session_taking(&last_taking_of(journal, user)),
+        );
     }
     if words.is_none() && hex.is_none() {
-        return Decision::Deny {
-            rule: 14,
-            detail: 0,
-        };
+        return Decision::deny(rules::NO_READING, 0);
     }
     match account_of(setup, user) {
-        None => Decision::Deny {
-            rule: 16,
-            detail: 0,
-        },
+        None => Decision::deny(rules::NO_MATCH, 0),
         Some(account) => judge_readings(journal, account, words, hex),
+    }
+}
+
+/// Rules 14 and 16 of a REPLY to a decoy.
+fn judge_decoy(words: Option<u64>, hex: Option<u64>) -> Decision
+    ensures { result ≡ decoy_verdict (readings words hex) }
+{
+    if words.is_none() && hex.is_none() {
+        Decision::deny(rules::NO_READING, 0)
+    } else {
+        Decision::deny(rules::NO_MATCH, 0)
     }
 }
 
@@ -240,11 +250,11 @@ fn judge_reply(
 ) -> Decision
     ensures { result ≡ reply_verdict setup.now journal.now session words hex }
 {
+    if was_decoyed(journal, session) {
+        return judge_decoy(words, hex);
+    }
     match challenged_user(journal, session) {
-        None => Decision::Deny {
-            rule: 13,
-            detail: 0,
-        },
+        None => Decision::deny(rules::HOLD_LOST, 0),
         Some(user) => judge_login(setup, journal, session, words, hex, &user),
     }
 }
@@ -265,15 +275,9 @@ fn judge_handle(journal: &[Event], session: u32, handle: u32, needed: u8) -> Dec
         return Decision::Permit { value: 0 };
     }
     match opening(journal, session, u64::from(handle)) {
-        None => Decision::Deny {
-            rule: 17,
-            detail: handle,
-        },
+        None => Decision::deny(rules::NO_HANDLE, handle),
         Some(event) if allows(event.ask.mode(), needed) => Decision::Permit { value: 0 },
-        Some(_) => Decision::Deny {
-            rule: 18,
-            detail: handle,
-        },
+        Some(_) => Decision::deny(rules::MODE_LACKING, handle),
     }
 }
 
@@ -299,15 +303,9 @@ fn judge_grant(grants: &[Grant], mode: u8, name: &Label, free: u64) -> Decision
     ensures { result ≡ grant_verdict free mode (find (λ g. same_label g.name name.now) grants.now) }
 {
     match grant_of(grants, name) {
-        None => Decision::Deny {
-            rule: 20,
-            detail: 0,
-        },
+        None => Decision::deny(rules::NOT_GRANTED, 0),
         Some(grant) if allows(grant.mode, mode) => Decision::Permit { value: free },
-        Some(_) => Decision::Deny {
-            rule: 21,
-            detail: u32::from(mode),
-        },
+        Some(_) => Decision::deny(rules::MODE_NOT_GRANTED, u32::from(mode)),
     }
 }
 
@@ -317,17 +315,11 @@ fn judge_open(setup: &Setup, journal: &[Event], session: u32, mode: u8, name: &L
     ensures { result ≡ open_verdict setup.now journal.now session mode name.now }
 {
     if count_live(journal, session) >= 8 {
-        return Decision::Deny {
-            rule: 19,
-            detail: 8,
-        };
+        return Decision::deny(rules::HANDLES_SPENT, 8);
     }
     let free = free_handle(journal, session);
     match verified_account(setup, journal, session) {
-        None => Decision::Deny {
-            rule: 20,
-            detail: 0,
-        },
+        None => Decision::deny(rules::NOT_GRANTED, 0),
         Some(account) => judge_grant(account.grants.as_slice(), mode, name, free),
     }
 }
@@ -338,10 +330,7 @@ fn judge_close(journal: &[Event], session: u32, handle: u32) -> Decision
     ensures { result ≡ close_verdict journal.now session handle }
 {
     if handle == 0 || opening(journal, session, u64::from(handle)).is_none() {
-        Decision::Deny {
-            rule: 17,
-            detail: handle,
-        }
+        Decision::deny(rules::NO_HANDLE, handle)
     } else {
         Decision::Permit { value: 0 }
     }
@@ -360,10 +349,7 @@ fn judge_info(setup: &Setup, journal: &[Event], session: u32, number: u32) -> De
     ensures { result ≡ info_verdict setup.now journal.now session number }
 {
     if !has_info(setup, number) {
-        return Decision::Deny {
-            rule: 22,
-            detail: number,
-        };
+        return Decision::deny(rules::NO_INFORMATION, number);
     }
     match verified_account(setup, journal, session) {
         None => Decision::Permit { value: 0 },

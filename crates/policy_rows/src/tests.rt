@@ -1,6 +1,6 @@
 use otp_hash::{Algo, Seed};
 use policy_model::*;
-use request_catalogue::{Kind, Label, Name, Note};
+use request_catalogue::{Kind, Label, Name, Note, Width};
 use std::alloc::{AllocError, Global};
 use std::process::Abort;
 use std::str::SplitWhitespace;
@@ -33,13 +33,48 @@ const TAKEOVER_LATE: &str = "
 
 const LAST_PASSWORD: &str = "
     0 open permit 1
-    0 challenge bob 1000 deny 9 0
+    0 challenge bob 1000 permit 10802
+    0 abandon permit 0
     0 challenge alice 1000 permit 0
     0 reply last permit last
     0 finish permit 0
     0 end permit 0
     0 open permit 2
-    0 challenge alice 90000 deny 11 0";
+    0 challenge alice 90000 permit 10532";
+
+/// Carol is disabled, dave has no password left, nobody has the name bob.
+const DECOYS: &str = "
+    0 open permit 1
+    1 open permit 2
+    0 challenge alice 1000 permit 0
+    1 challenge carol 1000 permit 10148
+    1 unread deny 14 0
+    1 challenge dave 1000 permit 10082
+    1 reply last deny 16 0
+    1 challenge bob 1000 permit 10802
+    1 both last stored deny 16 0
+    1 challenge bob 1000 deny 8 3
+    0 reply last permit last";
+
+/// A decoy does not take its user.
+const DECOYS_TAKE_NOBODY: &str = "
+    0 open permit 1
+    1 open permit 2
+    0 challenge bob 1000 permit 10802
+    1 challenge bob 1000 permit 10802
+    1 challenge bob 1000 deny 6 2";
+
+/// Rule 12 is told of a user that can log in.
+const HELD: &str = "
+    0 open permit 1
+    1 open permit 2
+    0 challenge alice 1000 permit 0
+    1 challenge alice 1000 deny 12 1
+    1 challenge carol 1000 permit 10148
+    1 reply last deny 16 0
+    1 challenge alice 1000 deny 12 1
+    0 abandon permit 0
+    1 challenge alice 1000 permit 0";
 
 const EARLY_REPLY: &str = "
     0 open permit 1
@@ -333,6 +368,8 @@ fn parts(
         vault: Text::of(String::from_str(alloc, texts[2])?),
         words: Text::of(String::from_str(alloc, texts[3])?),
         banner: Text::of(String::from_str(alloc, texts[4])?),
+        salt: Setup::plain(alloc)?.parts().salt,
+        frames: Width::Narrow,
         workers: counts[0],
         connections: counts[1],
         requests: counts[2],
@@ -393,6 +430,56 @@ fn decisions_by_the_whole_list(rt: HostRuntime) -> Result<(), Fail> {
         OPENINGS_AND_ENDS,
     ] {
         play(&rt, alloc, &setup, text)?;
+    }
+    Ok(())
+}
+
+/// The setup with `alice`, with `carol` who is disabled and with `dave` who has no password left.
+fn three_accounts(alloc: Global) -> Result<Setup, Fail> {
+    let mut accounts = Vec::new(alloc);
+    accounts.push(account(name("alice")?, 1000, 1, Grants::of(Vec::new(alloc)))?)?;
+    let mut carol = account(name("carol")?, 1001, 1, Grants::of(Vec::new(alloc)))?;
+    carol.enabled = false;
+    accounts.push(carol)?;
+    accounts.push(account(name("dave")?, 1002, 0, Grants::of(Vec::new(alloc)))?)?;
+    let none = Vec::new(alloc);
+    setup_of(parts(alloc, PLAIN_TEXTS, PLAIN_COUNTS, none, accounts)?)
+}
+
+#[test]
+fn decoys(rt: HostRuntime) -> Result<(), Fail> {
+    let alloc = rt.alloc();
+    let setup = three_accounts(alloc)?;
+    for text in [DECOYS, DECOYS_TAKE_NOBODY, HELD] {
+        play(&rt, alloc, &setup, text)?;
+    }
+    for (salt, user, algo, n, seed) in [
+        (b"a".as_slice(), "bc", Algo::Sha1, 482, b"46976fe5"),
+        (b"hel".as_slice(), "lo", Algo::Md5, 412, b"e430ddbb"),
+    ] {
+        let none = Vec::new(alloc);
+        let mut parts = parts(alloc, PLAIN_TEXTS, PLAIN_COUNTS, none, Vec::new(alloc))?;
+        parts.salt = Seed::of(salt).ok_or("a salt")?;
+        let decoy = setup_of(parts)?.decoy(&name(user)?);
+        assert_eq!(rt; decoy.algo, algo);
+        assert_eq!(rt; decoy.n, n);
+        assert_eq!(rt; decoy.seed.as_slice(), seed.as_slice());
+    }
+    Ok(())
+}
+
+#[test]
+fn what_is_shown(rt: HostRuntime) -> Result<(), Fail> {
+    let refused = Decision::Deny {
+        rule: 16,
+        detail: 0,
+    };
+    for rule in [13, 14, 15, 16] {
+        assert_eq!(rt; shown(&Decision::Deny { rule, detail: 2 }), refused);
+    }
+    for rule in [12, 17] {
+        let decision = Decision::Deny { rule, detail: 2 };
+        assert_eq!(rt; shown(&decision), decision);
     }
     Ok(())
 }

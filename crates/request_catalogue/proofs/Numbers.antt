@@ -11,7 +11,7 @@ abbrev pub IsBytes : List ℕ → Type 0
 IsBytes bytes = (i : ℕ) → get_or bytes i 0 < 256
 
 -- a part of bytes is bytes
-IsBytes-part : (n place : ℕ) (bytes : List ℕ) → IsBytes bytes → IsBytes (take n (drop place bytes))
+pub IsBytes-part : (n place : ℕ) (bytes : List ℕ) → IsBytes bytes → IsBytes (take n (drop place bytes))
 IsBytes-part n place bytes fits i =
     elim (cases_lt i n) [
       | inl lt ↦ rw (get_or-take {A = ℕ} n (drop place bytes) i 0 lt, get_or-drop {A = ℕ} place bytes i 0) (fits (place + i))

@@ -9,6 +9,7 @@ use Rattle.request_catalogue.specs.declared.request.Bad.{Bad}
 use Rattle.request_catalogue.specs.Widths.{transfer_max}
 use Rattle.request_catalogue.specs.Texts.{is_name, is_label, is_note, is_reply}
 use Rattle.request_catalogue.specs.Fields.{number_at}
+use Rattle.request_catalogue.specs.Rules.{bad_payload, descriptor_flag, other_flags, unknown_kind}
 use Rattle.request_catalogue.specs.Kinds.{kind_number, kind_numbered}
 use Rattle.request_catalogue.specs.Catalogue.{RequestValue, Banner, Challenge, Reply, Abandon, Export, Import, ReadAt, WriteAt, OpenFile, CloseFile, Info, Note, Finish, kind_of, IsInRange, payload_of}
 
@@ -40,16 +41,16 @@ or_bad fault (Some value) = Ok value
 
 -- what a message with no flags asks
 abbrev pub asked : Width → ℕ → List ℕ → Option Kind → Result RequestValue Bad
-asked width kind body None = Err (bad 4 kind)
-asked width kind body (Some k) = or_bad (bad 5 kind) (asked_by width k body)
+asked width kind body None = Err (bad unknown_kind kind)
+asked width kind body (Some k) = or_bad (bad bad_payload kind) (asked_by width k body)
 
 -- the request of the catalogue that a message is, or the first rule that it breaks
 unfoldable pub request_of : Width → ℕ → ℕ → List ℕ → Result RequestValue Bad
-request_of width kind flags body = if flags % 2 == 1 then Err (bad 2 flags) else (if flags == 0 then asked width kind body (kind_numbered kind) else Err (bad 3 flags))
+request_of width kind flags body = if flags % 2 == 1 then Err (bad descriptor_flag flags) else (if flags == 0 then asked width kind body (kind_numbered kind) else Err (bad other_flags flags))
 
 -- why a message is no request: the first of four rules that it breaks, and its detail
 pub data IsFault (width : Width) (kind flags : ℕ) (body : List ℕ) : Bad → Type 0 where
-  HasDescriptor : flags % 2 ≡ 1 → IsFault width kind flags body (bad 2 flags)
-  HasOtherFlags : flags % 2 ≡ 0 → flags ≢ 0 → IsFault width kind flags body (bad 3 flags)
-  HasUnknownKind : flags ≡ 0 → ((k : Kind) → kind_number k ≢ kind) → IsFault width kind flags body (bad 4 kind)
-  HasBadPayload : flags ≡ 0 → (k : Kind) → kind_number k ≡ kind → ((value : RequestValue) → kind_of value ≡ k → IsInRange width value → body ≢ payload_of value) → IsFault width kind flags body (bad 5 kind)
+  HasDescriptor : flags % 2 ≡ 1 → IsFault width kind flags body (bad descriptor_flag flags)
+  HasOtherFlags : flags % 2 ≡ 0 → flags ≢ 0 → IsFault width kind flags body (bad other_flags flags)
+  HasUnknownKind : flags ≡ 0 → ((k : Kind) → kind_number k ≢ kind) → IsFault width kind flags body (bad unknown_kind kind)
+  HasBadPayload : flags ≡ 0 → (k : Kind) → kind_number k ≡ kind → ((value : RequestValue) → kind_of value ≡ k → IsInRange width value → body ≢ payload_of value) → IsFault width kind flags body (bad bad_payload kind)

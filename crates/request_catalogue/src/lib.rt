@@ -5,16 +5,18 @@
 mod answer;
 mod fields;
 mod kind;
-mod put;
+mod putting;
 mod reading;
 mod replies;
 mod request;
+pub mod rules;
 mod texts;
 mod width;
 mod writing;
 
 pub use answer::{Answer, Unreadable};
 pub use kind::Kind;
+pub use putting::put;
 pub use reading::read_request;
 pub use replies::{read_reply, reply_kind, write_reply};
 pub use request::{Bad, Request};

@@ -11,23 +11,12 @@ ghost use Rattle.request_catalogue.specs.Reading.{asked_by, bad, request_of, IsF
 use crate::fields::{number_of, u16_at, u32_at, u64_at};
 use crate::kind::Kind;
 use crate::request::{Bad, Request};
+use crate::rules;
 use crate::texts::{Label, Name, Note, is_reply};
 use crate::width::Width;
 
 /// The flag that marks a descriptor.
 const DESCRIPTOR_FLAG: u16 = 1;
-
-/// The rule that a message with a descriptor breaks.
-const DESCRIPTOR: u8 = 2;
-
-/// The rule that a message with another flag breaks.
-const OTHER_FLAGS: u8 = 3;
-
-/// The rule that a message of an unknown kind breaks.
-const UNKNOWN_KIND: u8 = 4;
-
-/// The rule that a body which is not its kind's payload breaks.
-const PAYLOAD: u8 = 5;
 
 /// The most bytes of an exported state.
 const STATE_MAX: usize = 8_192;
@@ -139,15 +128,15 @@ fn look_up(width: Width, kind: u32, flags: u16, body: &[u8]) -> Result<Request<'
     ensures { MatchResult result (λ r. request_of width kind flags body.now ≡ Ok (value_of r)) (λ e. request_of width kind flags body.now ≡ Err e) }
 {
     if has_descriptor(flags) {
-        return Err(bad(DESCRIPTOR, u32::from(flags)));
+        return Err(bad(rules::DESCRIPTOR_FLAG, u32::from(flags)));
     }
     if flags != 0 {
-        return Err(bad(OTHER_FLAGS, u32::from(flags)));
+        return Err(bad(rules::OTHER_FLAGS, u32::from(flags)));
     }
     let Some(known) = Kind::of(kind) else {
-        return Err(bad(UNKNOWN_KIND, kind));
+        return Err(bad(rules::UNKNOWN_KIND, kind));
     };
-    asked_by(width, known, body).ok_or(bad(PAYLOAD, kind))
+    asked_by(width, known, body).ok_or(bad(rules::BAD_PAYLOAD, kind))
 }
 
 /// What is wrong with a message, by which rule, and its detail.

@@ -8,7 +8,7 @@ ghost use Rattle.request_catalogue.specs.Replies.{AnswerValue, reply_kind_of, an
 
 use crate::answer::{Answer, Unreadable};
 use crate::fields::number_of;
-use crate::put::put;
+use crate::putting::put;
 use crate::width::Width;
 
 /// What a reply's kind is above its request's, and the kind of a reply to no request.

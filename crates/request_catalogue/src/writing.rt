@@ -6,7 +6,7 @@ ghost use Rattle.request_catalogue.specs.Kinds.{kind_number};
 ghost use Rattle.request_catalogue.specs.Catalogue.{value_of, kind_of, IsInRange, payload_of};
 ghost use Rattle.request_catalogue.specs.Reading.{request_of};
 
-use crate::put::put;
+use crate::putting::put;
 use crate::request::Request;
 use crate::width::Width;
 

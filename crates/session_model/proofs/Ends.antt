@@ -8,7 +8,7 @@ use Rattle.policy_model.specs.declared.event.Why.{Why}
 use Rattle.policy_model.specs.declared.event.Why.TheVariants as whys
 use Rattle.policy_model.specs.declared.event.Decision.{Decision}
 use Rattle.policy_model.specs.declared.event.Decision.TheVariants as decisions
-use Rattle.policy_model.specs.Asks.{is_begin, is_lost, is_permit, is_request, opens}
+use Rattle.policy_model.specs.Asks.{is_begin, is_lost, is_permit, came_by_frame, opens}
 use Rattle.session_model.specs.Ends.{is_keeper_end, is_link_end, is_lost_end}
 use Rattle.session_model.specs.Places.{Place, Step, step_places}
 use Rattle.session_model.specs.Parts.{EndsSo, IsPart, Part, requests_of, why_of}
@@ -17,22 +17,22 @@ use Rattle.session_model.proofs.Lists.{count-append, count-cons}
 use Rattle.session_model.proofs.Sittings.{later_steps, opened_or_lost, passes_end, passing}
 use Rattle.session_model.proofs.Steps.{FailsRequests}
 
-no_request : (test : Ask → Bool) → ((ask : Ask) → is_request ask ≡ true → test ask ≡ false) → FailsRequests (λ e. test e.ask)
+no_request : (test : Ask → Bool) → ((ask : Ask) → came_by_frame ask ≡ true → test ask ≡ false) → FailsRequests (λ e. test e.ask)
 no_request test fails = record { fails = λ e h. fails e.ask h }
 
-no_link : (ask : Ask) → is_request ask ≡ true → is_link_end ask ≡ false
+no_link : (ask : Ask) → came_by_frame ask ≡ true → is_link_end ask ≡ false
 no_link (asks.End why) h = absurd cc
 no_link _ h = refl
 
-no_keeper : (ask : Ask) → is_request ask ≡ true → is_keeper_end ask ≡ false
+no_keeper : (ask : Ask) → came_by_frame ask ≡ true → is_keeper_end ask ≡ false
 no_keeper (asks.End why) h = absurd cc
 no_keeper _ h = refl
 
-no_lost : (ask : Ask) → is_request ask ≡ true → is_lost_end ask ≡ false
+no_lost : (ask : Ask) → came_by_frame ask ≡ true → is_lost_end ask ≡ false
 no_lost (asks.End why) h = absurd cc
 no_lost _ h = refl
 
-pub no_begin : (ask : Ask) → is_request ask ≡ true → is_begin ask ≡ false
+pub no_begin : (ask : Ask) → came_by_frame ask ≡ true → is_begin ask ≡ false
 no_begin asks.Begin h = absurd cc
 no_begin _ h = refl
 

@@ -11,7 +11,7 @@ use Rattle.policy_model.specs.declared.event.Why.TheVariants as whys
 use Rattle.policy_model.specs.declared.event.Decision.{Decision}
 use Rattle.policy_model.specs.declared.event.Decision.TheVariants as decisions
 use Rattle.policy_model.specs.declared.event.Event.{Event}
-use Rattle.policy_model.specs.Asks.{is_request}
+use Rattle.policy_model.specs.Asks.{came_by_frame}
 use Rattle.session_model.specs.Places.{Step, step_acts, step_places}
 use Rattle.session_model.specs.Acts.{Operation, Accepts, asked, ending_operations, operations_by, operations_of, write_operations}
 use Rattle.session_model.specs.Parts.{IsRequestStep}
@@ -52,7 +52,7 @@ none_written zero (decisions.Deny rule detail) message = refl
 none_written zero decisions.Lost message = refl
 none_written (suc handle) decision message = refl
 
-none_asked : (e : Event) (ask : Ask) (message : Option Message) → is_request ask ≡ true → count_by accepts (operations_by e ask message) ≡ 0
+none_asked : (e : Event) (ask : Ask) (message : Option Message) → came_by_frame ask ≡ true → count_by accepts (operations_by e ask message) ≡ 0
 none_asked e asks.Begin message h = absurd cc
 none_asked e (asks.End why) message h = absurd cc
 none_asked e (asks.WriteAt handle offset len) message h = none_written handle e.decision message
@@ -77,7 +77,7 @@ none_ended e _ = refl
 
 -- a test that no request passes
 pub record FailsRequests (test : Event → Bool) : Type 0 where
-  pub fails : (e : Event) → is_request e.ask ≡ true → test e ≡ false
+  pub fails : (e : Event) → came_by_frame e.ask ≡ true → test e ≡ false
 
 pub none_passes : (test : Event → Bool) (steps : List Step) → FailsRequests test → AllByRecursion IsRequestStep steps → count_by (λ p. test p.event) (step_places steps) ≡ 0
 none_passes test [] fails each = refl

@@ -9,7 +9,7 @@ use Rattle.policy_model.specs.declared.event.Why.{Why}
 use Rattle.policy_model.specs.declared.event.Why.TheVariants as whys
 use Rattle.policy_model.specs.declared.event.Decision.{Decision}
 use Rattle.policy_model.specs.declared.event.Decision.TheVariants as decisions
-use Rattle.policy_model.specs.Asks.{is_request, ends_session}
+use Rattle.policy_model.specs.Asks.{came_by_frame, ends_session}
 use Rattle.session_model.specs.Places.{Step}
 use Rattle.session_model.specs.Requests.{CameBy, frame_width, max_len}
 use Rattle.session_model.specs.Acts.{AreActsOf}
@@ -44,7 +44,7 @@ CameByMessage (Some message) ask = CameBy message ask
 
 -- a child's request, with the message that it came by and the acts that were done for it
 pub record IsRequestStep (step : Step) : Type 0 where
-  pub request : is_request step.place.event.ask ≡ true
+  pub request : came_by_frame step.place.event.ask ≡ true
   pub came : CameByMessage step.message step.place.event.ask
   pub acts : AreActsOf step.place step.message step.acts
 

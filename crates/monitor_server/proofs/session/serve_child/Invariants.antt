@@ -1,5 +1,5 @@
 use Rattle.std.proofs.Common.{◌≡◌, length, vec_len, vec_capacity}
-use Rattle.policy_model.specs.Journal.{asks_of}
+use Rattle.policy_model.specs.Journal.{ask_count}
 use Rattle.monitor_server.specs.Frames.{IsForSessions}
 use Rattle.monitor_server.specs.Book.{Logged}
 use Rattle.monitor_server.specs.Serving.{NoFewer, Proceeds, work_left}
@@ -19,4 +19,4 @@ invariant-loop-why g l = record {
 
 -- the asks that are left, and within one of them the bytes that the reader has room for
 abbrev pub decreases-loop-why : goal.decreases-loop-why
-decreases-loop-why g l = work_left l.setup.requests (asks_of l.book.journal.items l.session) (length l.reader.bytes)
+decreases-loop-why g l = work_left l.setup.requests (ask_count l.book.journal.items l.session) (length l.reader.bytes)

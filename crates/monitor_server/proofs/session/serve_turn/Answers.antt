@@ -1,6 +1,6 @@
 use Rattle.std.proofs.Common.{◌<◌, ◌≤◌, ◌∙◌, length, ap, subst, vec_len}
 use Rattle.std.specs.Prelude.{IfNone}
-use Rattle.policy_model.specs.Journal.{asks_of}
+use Rattle.policy_model.specs.Journal.{ask_count}
 use Rattle.imsg_frame.specs.Message.{message_of}
 use Rattle.monitor_server.specs.Serving.{Receives}
 use Rattle.monitor_server.proofs.Turns.{bad_front, frames_kept, front_right, front_taken, message_advances, nothing_taken, partial_front, received_advances, turn_bad, turn_message, turn_received}
@@ -26,7 +26,7 @@ pub returns-in-Frame-clause-frames : goal.returns-in-Frame-clause-frames
 returns-in-Frame-clause-frames g c = frames_kept c.args.reader.now c.next.follows.lender-at-none c.next.result c.next.follows.holds-at-none c.requires.frames
 
 pub receive-requires-clause-front : goal.receive-requires-clause-front
-receive-requires-clause-front g c =
+receive-requires-clause-front g c κs within =
     let same = nothing_taken c.args.reader.now c.next.follows.lender-at-none c.next.result c.in-NotYet.is c.next.follows.holds-at-none in
     partial_front c.args.reader.now c.next.follows.lender-at-none c.next.result c.in-NotYet.is same c.requires.frames c.next.ensures.answer
 
@@ -41,7 +41,7 @@ returns-in-NotYet-clause-advances g c =
     let received = c.receive in
     let same = nothing_taken c.args.reader.now c.next.follows.lender-at-none c.next.result c.in-NotYet.is c.next.follows.holds-at-none in
     let within = subst (λ n. length received.new.reader.bytes ≤ n) (received.ensures.max ∙ ap (λ r. r.max) same ∙ c.requires.frames.max) received.ensures.within in
-    received_advances c.args.setup.now.requests (asks_of c.args.book.now.journal.items c.args.session) (vec_len c.args.book.now.journal) received.result (length c.args.reader.now.bytes) (length received.new.reader.bytes) c.requires.serving.below
+    received_advances c.args.setup.now.requests (ask_count c.args.book.now.journal.items c.args.session) (vec_len c.args.book.now.journal) received.result (length c.args.reader.now.bytes) (length received.new.reader.bytes) c.requires.serving.below
     (subst (λ r. IfNone received.result (length r.bytes < length received.new.reader.bytes)) same received.ensures.more) within
 
 pub returns-in-NotYet-clause-turns : goal.returns-in-NotYet-clause-turns

@@ -13,7 +13,7 @@ returns-in_err-read_list-in-Some-clause-outcome g c =
     let fault = c.in_err-read_list-in-Some.field-0.0 in
     let named : parts.list ≡ Some c.in-Some.name.now = grind arith in
     let p = err_from_is_err_and c.from_residual.result c.from_residual.ensures.1 in
-    rw (p.1, p.2) (IsOutcome-list parts (g.F.Files.contents c.read_list.new.files) (link c.args.ends.now) (link c.args.ends.now) _ _ c.in-Some.name.now fault named (c.in_err-read_list-in-Some.ensures.fault fault refl))
+    rw (p.1, p.2) (IsOutcome-list parts (g.F.Files.contents c.read_list.new.files) (link c.args.ends.now) (link c.args.ends.now) _ _ c.in-Some.name.now fault named (c.in_err-read_list-in-Some.ensures.fault fault refl) refl)
 
 pub returns-in_err-read_list-in-Some-clause-exact :
     goal.returns-in_err-read_list-in-Some-clause-exact

@@ -1,6 +1,4 @@
-use Rattle.std.proofs.Common.{◌≡◌, ◌∙◌, [], true, refl, sym, ap, arith}
-use Rattle.std.proofs.lemmas.Grind.{common_steps}
-use Rattle.otp_words.specs.Challenges.{challenge_of}
+use Rattle.std.proofs.Common.{◌≡◌, ◌∙◌, [], true, refl, sym, ap}
 use Rattle.otp_hash.specs.Seeds.{is_seed}
 use Rattle.otp_words.proofs.WrittenLemmas.{challenge_of-reads}
 use Rattle.otp_hash.specs.SeedBytes.{seed_bytes}
@@ -17,11 +15,19 @@ returns-clause-written c =
     let fourth = put_next _ _ out _ _ _ _ third c.put-at-4.ensures.end c.put-at-4.ensures.out in
     let fifth = put_next _ _ out _ _ _ _ fourth c.put-at-5.ensures.end c.put-at-5.ensures.out in
     let last = put_next _ _ out _ _ _ _ fifth c.put.ensures.end c.put.ensures.out in
-    challenge_written c.args.algo c.args.n (seed_bytes c.args.seed.now) _ _ out _ _ _ _ c.algo_text.ensures.text c.leading_zeros.ensures.zeros c.four_digits-digits.ensures c.as_slice.ensures.bytes last
+    (challenge_written c.args.algo c.args.n (seed_bytes c.args.seed.now) _ _ out _ _ _ _ c.requires.four_digits c.algo_text.ensures.text c.leading_zeros.ensures.zeros c.four_digits-digits.ensures c.as_slice.ensures.bytes last).0
 
 pub returns-clause-len : goal.returns-clause-len
-unfolding challenge_of
-returns-clause-len c = grind (arith, common_steps)
+returns-clause-len c =
+    let out = c.args.out.now in
+    let none : IsWritten [] out out 0 = record { bytes = refl; end = refl } in
+    let first = put_next [] _ out out _ 0 _ none c.put-at.ensures.end c.put-at.ensures.out in
+    let second = put_next _ _ out _ _ _ _ first c.put-at-2.ensures.end c.put-at-2.ensures.out in
+    let third = put_next _ _ out _ _ _ _ second c.put-at-3.ensures.end c.put-at-3.ensures.out in
+    let fourth = put_next _ _ out _ _ _ _ third c.put-at-4.ensures.end c.put-at-4.ensures.out in
+    let fifth = put_next _ _ out _ _ _ _ fourth c.put-at-5.ensures.end c.put-at-5.ensures.out in
+    let last = put_next _ _ out _ _ _ _ fifth c.put.ensures.end c.put.ensures.out in
+    (challenge_written c.args.algo c.args.n (seed_bytes c.args.seed.now) _ _ out _ _ _ _ c.requires.four_digits c.algo_text.ensures.text c.leading_zeros.ensures.zeros c.four_digits-digits.ensures c.as_slice.ensures.bytes last).1
 
 pub returns-clause-read_back : goal.returns-clause-read_back
 returns-clause-read_back c = λ unread.

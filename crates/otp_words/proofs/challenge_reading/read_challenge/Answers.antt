@@ -8,7 +8,7 @@ use Rattle.std.specs.Char.{to_ascii_lowercase}
 use Rattle.otp_hash.specs.SeedBytes.{seed_bytes}
 use Rattle.otp_hash.specs.Seeds.{is_seed_text}
 use Rattle.otp_words.specs.Challenges.{algo_text}
-use Rattle.otp_words.specs.Readings.{AreParts, is_closed}
+use Rattle.otp_words.specs.Inner.{AreParts, is_closed}
 use Rattle.otp_words.proofs.NumberLemmas.{no_length, some_length}
 use Rattle.otp_words.proofs.ReadingLemmas.{parts_only, parts_found, number_only, number_found, closed_parts}
 use Rattle.otp_words.proofs.challenge_reading.read_challenge.Goals as goal

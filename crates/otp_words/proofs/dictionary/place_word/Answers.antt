@@ -7,7 +7,7 @@ use Rattle.std.proofs.lemmas.List.{length-map}
 use Rattle.fixed_list.specs.FixedList.{list_of}
 use Rattle.otp_words.specs.Digits.{number_of}
 use Rattle.otp_words.specs.Dictionaries.{upper}
-use Rattle.otp_words.specs.Places.{IsPlaced, AreWords}
+use Rattle.otp_words.specs.Inner.{IsPlaced, AreWords}
 use Rattle.otp_words.proofs.ListLemmas.{AreWords-more, IsPlaced-more, added_words}
 use Rattle.otp_words.proofs.dictionary.place_word.Goals as goal
 

@@ -1,7 +1,7 @@
 use Rattle.std.proofs.Common.{◌<◌, ◌≢◌, ◌∙◌, length, arith, get_or-set_other, get_or-set_same, below_more}
 use Rattle.std.proofs.Math.ListN.{length-set}
 use Rattle.std.proofs.lemmas.List.FromFn.{fill_by_all}
-use Rattle.otp_words.specs.Hex.{grouped}
+use Rattle.otp_words.specs.Inner.{grouped}
 use Rattle.otp_words.proofs.HexLemmas.{hex_text-places}
 use Rattle.otp_words.proofs.hexadecimal.hex_text.Goals as goal
 

@@ -1,5 +1,5 @@
 use Rattle.std.proofs.Common.{◌≡◌, ℕ, ◌<◌, length, get_or}
-use Rattle.otp_words.specs.Hex.{grouped}
+use Rattle.otp_words.specs.Inner.{grouped}
 use Rattle.otp_words.proofs.hexadecimal.hex_text.Given as goal
 
 abbrev pub invariant-loop-k : goal.invariant-loop-k

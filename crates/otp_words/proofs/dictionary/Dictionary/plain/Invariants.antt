@@ -4,7 +4,7 @@ use Rattle.std.specs.List.{range_with_len}
 use Rattle.std.specs.Ordering.{nat_cmp}
 use Rattle.fixed_list.specs.FixedList.{list_of}
 use Rattle.otp_words.specs.Dictionaries.{plain_word}
-use Rattle.otp_words.specs.Places.{IsPlaced, AreWords}
+use Rattle.otp_words.specs.Inner.{IsPlaced, AreWords}
 use Rattle.otp_words.proofs.dictionary.Dictionary.plain.Given as goal
 
 abbrev pub invariant-loop-place : goal.invariant-loop-place

@@ -5,7 +5,7 @@ use Rattle.std.specs.Str.Lines.{lines}
 use Rattle.fixed_list.specs.FixedList.{list_of}
 use Rattle.otp_words.specs.Lists.{dictionary_of}
 use Rattle.otp_words.proofs.JudgedLemmas.{walked}
-use Rattle.otp_words.specs.Places.{IsPlaced, AreWords}
+use Rattle.otp_words.specs.Inner.{IsPlaced, AreWords}
 use Rattle.otp_words.proofs.dictionary.Dictionary.read.Given as goal
 
 abbrev pub invariant-loop-rest : goal.invariant-loop-rest

@@ -1,0 +1,27 @@
+-- What the clauses of functions inside the crate cite: what is received before a password is printed.
+use Rattle.std.specs.Prelude.{◌≡◌, ℕ, ◌≤◌, List, [], length, Option, Some}
+use Rattle.outside.specs.Link.{Exchanged, Link}
+use Rattle.outside.specs.Told.{Goes}
+use Rattle.otp_mode.specs.declared.fault.OtpFault.{OtpFault}
+use Rattle.otp_mode.specs.declared.fault.OtpFault.TheVariants as faults
+use Rattle.otp_mode.specs.Outcome.{OnlyReceived, RefusedPhrase}
+use Rattle.otp_mode.specs.Phrase.{phrase_of}
+
+-- these bytes were received, and they have the phrase that the whole input has
+pub record ReceivedLine (received : List ℕ) (before after : Link) : Type 0 where
+  pub passed : Exchanged received [] before after
+  pub few : length received ≤ 4096
+  pub enough : phrase_of before.left ≡ phrase_of received
+
+-- the input has this phrase, and nothing was sent
+pub record Accepted (phrase : List ℕ) (before after : Link) : Type 0 where
+  pub accepted : phrase_of before.left ≡ Some phrase
+  pub received : List ℕ
+  pub few : length received ≤ 4096
+  pub passed : Exchanged received [] before after
+
+-- why no phrase was received
+abbrev pub IsPhraseFault : Option Link → Option Link → Type 0 → OtpFault → Type 0
+IsPhraseFault before after EndsFailed faults.EndsFailed = EndsFailed × Goes OnlyReceived before after
+IsPhraseFault before after EndsFailed faults.PhraseRefused = Goes RefusedPhrase before after
+IsPhraseFault before after EndsFailed _ = ⊥

@@ -1,0 +1,41 @@
+//! What follows of every legal journal, whatever the setup: each function does nothing, and its
+//! contract is the law.
+
+ghost use Rattle.std.specs.Prelude.{List, ◌≡◌};
+ghost use Rattle.policy_model.specs.declared.event.Event.{Event};
+ghost use Rattle.policy_laws.specs.Consequences.{NoPasswordTwice, OneTakerAtATime, SequenceFalls, VerifiedBeforeExport};
+ghost use Rattle.policy_model.specs.Legal.{IsLegal};
+ghost use Rattle.policy_model.specs.Settings.{Settings};
+ghost use Rattle.policy_laws.specs.Strangers.{StrangersAreToldAlike, StrangersSeeNoAccounts};
+
+/// No password of a user is accepted twice.
+pub fn no_password_twice()
+    ensures { (setup : Settings) (journal : List Event) → IsLegal setup journal → NoPasswordTwice setup journal }
+{}
+
+/// A user's sequence falls with each accepted password.
+pub fn sequence_falls()
+    ensures { (setup : Settings) (journal : List Event) → IsLegal setup journal → SequenceFalls setup journal }
+{}
+
+/// Between a session's challenge for a user and its accepted reply no other session takes the user.
+pub fn one_taker_at_a_time()
+    ensures { (setup : Settings) (journal : List Event) → IsLegal setup journal → OneTakerAtATime setup journal }
+{}
+
+/// A session exports a user's state only behind its own accepted reply for that user.
+pub fn verified_before_export()
+    ensures { (setup : Settings) (journal : List Event) → IsLegal setup journal → VerifiedBeforeExport setup journal }
+{}
+
+/// Strangers are told alike: what is shown to a session by which nobody has logged in depends on
+/// nothing but what it asked and was told before.
+pub fn strangers_are_told_alike()
+    ensures { (setup : Settings) (journal : List Event) → IsLegal setup journal → StrangersAreToldAlike setup journal }
+{}
+
+/// Two sessions by which nobody has logged in, of one journal or of two, that ask the same and whose
+/// challenges are permitted alike are shown the same, whatever accounts stand behind the names.
+pub fn strangers_see_no_accounts()
+    ensures { (one other : Settings) (journal second : List Event) → one.requests ≡ other.requests → IsLegal one journal → IsLegal other second → StrangersSeeNoAccounts journal second }
+{}

@@ -1,5 +1,0 @@
-use Rattle.policy_model.proofs.Replies.{no_password_twice}
-use Rattle.policy_model.proofs.laws.no_password_twice.Goals as goal
-
-pub returns : goal.returns
-returns c = λ setup journal legal. no_password_twice setup journal legal

@@ -1,5 +1,0 @@
-use Rattle.policy_model.proofs.Sequences.{one_taker_at_a_time}
-use Rattle.policy_model.proofs.laws.one_taker_at_a_time.Goals as goal
-
-pub returns : goal.returns
-returns c = λ setup journal legal. one_taker_at_a_time setup journal legal

@@ -1,5 +1,0 @@
-use Rattle.policy_model.proofs.Sequences.{sequence_falls}
-use Rattle.policy_model.proofs.laws.sequence_falls.Goals as goal
-
-pub returns : goal.returns
-returns c = λ setup journal legal. sequence_falls setup journal legal

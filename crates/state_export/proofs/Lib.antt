@@ -1,0 +1,4 @@
+pub mod Puts
+pub mod Fields
+pub mod States
+pub mod Imports

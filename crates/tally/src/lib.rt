@@ -1,0 +1,11 @@
+//! The turn cell's worked example and test object: a sum that callers add to in turn, and any object called by all its
+//! passes from threads of their own.
+#![tactic(auto)]
+
+pub mod object;
+#[cfg(test)]
+mod tests;
+pub mod threads;
+
+pub use object::{Added, Tally};
+pub use threads::{call_all, call_from_all};
