@@ -25,7 +25,7 @@ def instructions(program, words):
 
 
 def measure(width, frame, piece, programs):
-    rounds = 16 if piece == 1 else 512
+    rounds = 16 if piece == 1 else 256
     words = [width, str(frame), str(piece)]
     nanos = {program: [] for program in programs}
     told = set()
