@@ -59,13 +59,7 @@ fn refused(key: SetupKey, rule: SetupRule, account: u32) -> Option<SetupError> {
 fn a_whole_setup(rt: HostRuntime) -> Result<(), Fail> {
     let text = text_of(
         &rt,
-        &[
-            (8, "hold = 3600000\ninfo = [1000, 1]\nbanner = \"Hi ~\""),
-            (
-                0,
-                "socket = \"s\"\nframes = \"wide\"\nsalt = \"ABCDEFGHIJKLMNO9\"",
-            ),
-        ],
+        &[(8, "hold = 3600000\ninfo = [1000, 1]\nbanner = \"Hi ~\"")],
     )?;
     let setup: Setup = read_setup(rt.alloc(), text.as_bytes())
         .ok()
@@ -76,8 +70,6 @@ fn a_whole_setup(rt: HostRuntime) -> Result<(), Fail> {
     assert_eq!(rt; parts.vault.as_str(), "v");
     assert_eq!(rt; parts.words.as_str(), "w");
     assert_eq!(rt; parts.banner.as_str(), "Hi ~");
-    assert_eq!(rt; Some(parts.salt), Seed::of(b"abcdefghijklmno9"));
-    assert_eq!(rt; parts.frames, Width::Wide);
     assert_eq!(rt; parts.workers, 1);
     assert_eq!(rt; parts.connections, 4);
     assert_eq!(rt; parts.requests, 64);
@@ -105,14 +97,64 @@ fn a_whole_setup(rt: HostRuntime) -> Result<(), Fail> {
     Ok(())
 }
 
+/// A line in the place of the hold, and the key and the rule that it breaks before the hold is
+/// found missing.
+const REFUSED_LINES: &str = "
+    salt=1 salt kind
+    salt=\"\" salt text
+    salt=\"a-b\" salt text
+    salt=\"abcdefghijklmnopq\" salt text
+    frames=1 frames kind
+    frames=\"Wide\" frames text";
+
+/// Whether the file is refused as a line says.
+fn is_refused_so(rt: &HostRuntime, line: &str) -> Result<bool, Fail> {
+    let mut words = line.split_whitespace();
+    let text = words.next().ok_or("a line")?;
+    let key = words.next().ok_or("a key")?;
+    let rule = words.next().ok_or("a rule")?;
+    Ok(match refusal(rt, &[(8, text)])? {
+        Some(SetupError::Refused(fault)) => fault.key.word() == key && fault.rule.word() == rule,
+        _ => false,
+    })
+}
+
 #[test]
-fn a_setup_without_a_salt_and_a_width(rt: HostRuntime) -> Result<(), Fail> {
-    let text = text_of(&rt, &[])?;
-    let setup: Setup = read_setup(rt.alloc(), text.as_bytes())
-        .ok()
-        .ok_or("a setup")?;
-    assert_eq!(rt; Some(setup.parts().salt), Seed::of(b"decoy"));
-    assert_eq!(rt; setup.parts().frames, Width::Narrow);
+fn faults_of_salt_and_frames(rt: HostRuntime) -> Result<(), Fail> {
+    for line in REFUSED_LINES.lines() {
+        assert!(rt; line.is_empty() || is_refused_so(&rt, line)?, "of {line}");
+    }
+    Ok(())
+}
+
+/// The first of two faults by the order of the keys, whatever the order of the lines.
+#[test]
+fn the_order_of_salt_and_frames(rt: HostRuntime) -> Result<(), Fail> {
+    let salt = refused(SetupKey::Salt, SetupRule::Kind, 0);
+    assert!(rt; refusal(&rt, &[(7, "frames=1"), (8, "salt=1")])? == salt);
+    let banner = refused(SetupKey::Banner, SetupRule::Kind, 0);
+    assert!(rt; refusal(&rt, &[(7, "salt=1"), (8, "banner=1")])? == banner);
+    let frames = refused(SetupKey::Frames, SetupRule::Kind, 0);
+    assert!(rt; refusal(&rt, &[(4, "frames=1")])? == frames);
+    Ok(())
+}
+
+/// The setup of the file with another text at its first line.
+fn setup_with(rt: &HostRuntime, line: &str) -> Result<Setup, Fail> {
+    let text = text_of(rt, &[(0, line)])?;
+    let setup = read_setup(rt.alloc(), text.as_bytes()).ok();
+    Ok(setup.ok_or("a setup")?)
+}
+
+#[test]
+fn salt_and_frames_and_neither(rt: HostRuntime) -> Result<(), Fail> {
+    let plain = setup_with(&rt, "socket = \"s\"")?;
+    assert!(rt; Some(plain.parts().salt) == Seed::of(b"decoy"));
+    assert!(rt; plain.parts().frames == Width::Narrow);
+    let lines = "socket = \"s\"\nframes = \"wide\"\nsalt = \"ABCDEFGHIJKLMNO9\"";
+    let other = setup_with(&rt, lines)?;
+    assert!(rt; Some(other.parts().salt) == Seed::of(b"abcdefghijklmno9"));
+    assert!(rt; other.parts().frames == Width::Wide);
     Ok(())
 }
 
@@ -129,7 +171,6 @@ fn what_is_taken(rt: HostRuntime) -> Result<(), Fail> {
         (6, "requests = 4096"),
         (7, "tries = 10"),
         (8, "hold = 1\nbanner = \"\"\ninfo = []"),
-        (8, "hold = 1\nsalt = \"0\"\nframes = \"narrow\""),
         (10, "name = \"alice\"\nenabled = false\ngrants = []"),
         (11, "uid = 1"),
         (11, "uid = 4294967294"),
@@ -191,60 +232,6 @@ fn faults_outside_the_accounts(rt: HostRuntime) -> Result<(), Fail> {
             3,
             "words = \"w\"\nbanner = \"\\t\"",
             SetupKey::Banner,
-            SetupRule::Text,
-        ),
-        (
-            3,
-            "words = \"w\"\nsalt = 1",
-            SetupKey::Salt,
-            SetupRule::Kind,
-        ),
-        (
-            3,
-            "words = \"w\"\nsalt = \"\"",
-            SetupKey::Salt,
-            SetupRule::Text,
-        ),
-        (
-            3,
-            "words = \"w\"\nsalt = \"a b\"",
-            SetupKey::Salt,
-            SetupRule::Text,
-        ),
-        (
-            3,
-            "words = \"w\"\nsalt = \"abcdefghijklmnopq\"",
-            SetupKey::Salt,
-            SetupRule::Text,
-        ),
-        (
-            3,
-            "words = \"w\"\nframes = 1",
-            SetupKey::Frames,
-            SetupRule::Kind,
-        ),
-        (
-            3,
-            "words = \"w\"\nframes = \"Wide\"",
-            SetupKey::Frames,
-            SetupRule::Text,
-        ),
-        (
-            3,
-            "words = \"w\"\nframes = 1\nsalt = \"\"",
-            SetupKey::Salt,
-            SetupRule::Text,
-        ),
-        (
-            3,
-            "words = \"w\"\nsalt = 1\nbanner = 1",
-            SetupKey::Banner,
-            SetupRule::Kind,
-        ),
-        (
-            4,
-            "workers = 0\nframes = \"\"",
-            SetupKey::Frames,
             SetupRule::Text,
         ),
         (4, "", SetupKey::Workers, SetupRule::Missing),

@@ -453,18 +453,29 @@ fn decoys(rt: HostRuntime) -> Result<(), Fail> {
     for text in [DECOYS, DECOYS_TAKE_NOBODY, HELD] {
         play(&rt, alloc, &setup, text)?;
     }
-    for (salt, user, algo, n, seed) in [
-        (b"a".as_slice(), "bc", Algo::Sha1, 482, b"46976fe5"),
-        (b"hel".as_slice(), "lo", Algo::Md5, 412, b"e430ddbb"),
-    ] {
-        let none = Vec::new(alloc);
-        let mut parts = parts(alloc, PLAIN_TEXTS, PLAIN_COUNTS, none, Vec::new(alloc))?;
-        parts.salt = Seed::of(salt).ok_or("a salt")?;
-        let decoy = setup_of(parts)?.decoy(&name(user)?);
-        assert_eq!(rt; decoy.algo, algo);
-        assert_eq!(rt; decoy.n, n);
-        assert_eq!(rt; decoy.seed.as_slice(), seed.as_slice());
-    }
+    Ok(())
+}
+
+/// The setup with a salt and no accounts.
+fn salted(alloc: Global, salt: &str) -> Result<Setup, Fail> {
+    let none = Vec::new(alloc);
+    let mut parts = parts(alloc, PLAIN_TEXTS, PLAIN_COUNTS, none, Vec::new(alloc))?;
+    parts.salt = Seed::of(salt.as_bytes()).ok_or("a salt")?;
+    setup_of(parts)
+}
+
+/// Whether a decoy has these parts.
+fn is_decoy(decoy: &Decoy, algo: Algo, n: u16, seed: &[u8]) -> bool {
+    decoy.algo == algo && decoy.n == n && decoy.seed.as_slice() == seed
+}
+
+/// Each algorithm, number and seed was computed by another program.
+#[test]
+fn decoys_of_names(rt: HostRuntime) -> Result<(), Fail> {
+    let bc = salted(rt.alloc(), "a")?.decoy(&name("bc")?);
+    assert!(rt; is_decoy(&bc, Algo::Sha1, 482, b"46976fe5"));
+    let lo = salted(rt.alloc(), "hel")?.decoy(&name("lo")?);
+    assert!(rt; is_decoy(&lo, Algo::Md5, 412, b"e430ddbb"));
     Ok(())
 }
 
