@@ -139,22 +139,24 @@ fn the_order_of_salt_and_frames(rt: HostRuntime) -> Result<(), Fail> {
     Ok(())
 }
 
-/// The setup of the file with another text at its first line.
-fn setup_with(rt: &HostRuntime, line: &str) -> Result<Setup, Fail> {
+/// Whether the file is read with these when another text stands at its first line.
+fn is_read_with(rt: &HostRuntime, line: &str, salt: &[u8], frames: Width) -> Result<bool, Fail> {
     let text = text_of(rt, &[(0, line)])?;
-    let setup = read_setup(rt.alloc(), text.as_bytes()).ok();
-    Ok(setup.ok_or("a setup")?)
+    Ok(match read_setup(rt.alloc(), text.as_bytes()) {
+        Ok(setup) => {
+            let parts = setup.parts();
+            Some(parts.salt) == Seed::of(salt) && parts.frames == frames
+        }
+        Err(_) => false,
+    })
 }
 
 #[test]
 fn salt_and_frames_and_neither(rt: HostRuntime) -> Result<(), Fail> {
-    let plain = setup_with(&rt, "socket = \"s\"")?;
-    assert!(rt; Some(plain.parts().salt) == Seed::of(b"decoy"));
-    assert!(rt; plain.parts().frames == Width::Narrow);
-    let lines = "socket = \"s\"\nframes = \"wide\"\nsalt = \"ABCDEFGHIJKLMNO9\"";
-    let other = setup_with(&rt, lines)?;
-    assert!(rt; Some(other.parts().salt) == Seed::of(b"abcdefghijklmno9"));
-    assert!(rt; other.parts().frames == Width::Wide);
+    let plain = "socket = \"s\"";
+    assert!(rt; is_read_with(&rt, plain, b"decoy", Width::Narrow)?);
+    let both = "socket = \"s\"\nframes = \"wide\"\nsalt = \"ABCDEFGHIJKLMNO9\"";
+    assert!(rt; is_read_with(&rt, both, b"abcdefghijklmno9", Width::Wide)?);
     Ok(())
 }
 
