@@ -1,0 +1,10 @@
+pub mod Decimals
+pub mod Hexes
+pub mod Asked
+pub mod Grammar
+pub mod Instances
+pub mod Sequences
+pub mod Whys
+pub mod AskLines
+pub mod Decisions
+pub mod Lines

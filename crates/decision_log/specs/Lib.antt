@@ -1,0 +1,6 @@
+pub mod Values
+pub mod Log
+pub mod Logged
+pub mod Words
+pub mod Parts
+pub mod Reading

@@ -1,0 +1,17 @@
+//! The log's lines, written and read: one for each event whose decision was not lost. Believe
+//! `specs/`; the book and the audit stand above.
+#![tactic(auto)]
+
+mod logged;
+mod parts;
+mod readers;
+mod reading;
+mod words;
+mod writing;
+
+pub use logged::{LineFault, Logged, LoggedAsk};
+pub use reading::read_line;
+pub use writing::line;
+
+#[cfg(test)]
+mod tests;

@@ -1,0 +1,78 @@
+//! The parts of a line, and the numbers in them.
+
+ghost use Rattle.std.specs.Prelude.{◌≡◌, ◌≤◌, length};
+ghost use Rattle.std.specs.Fmt.{decimal};
+ghost use Rattle.std.specs.List.{position_or_len};
+ghost use Rattle.std.specs.Str.{bytes_eq};
+ghost use Rattle.decision_log.specs.Parts.{behind_part, behind_space, decimal_of, ends_part, first_part};
+
+use text_line::{Line, put_long};
+
+/// A part, and what stands behind it.
+#[derive(Clone, Copy)]
+pub(crate) struct Part<'a> {
+    pub bytes: &'a [u8],
+    pub rest: &'a [u8],
+}
+
+/// The first part of a text: it ends at a space or a newline.
+pub(crate) fn first_part(text: &[u8]) -> Part<'_>
+    ensures bytes { result.bytes.now ≡ first_part text.now }
+    ensures rest { result.rest.now ≡ behind_part text.now }
+{
+    let (bytes, rest) = text.split_at(part_len(text));
+    Part { bytes, rest }
+}
+
+/// How many bytes stand before the first space or newline.
+fn part_len(text: &[u8]) -> usize
+    ensures len { result ≡ position_or_len ends_part text.now }
+    ensures within { result ≤ length text.now }
+{
+    let mut len = 0;
+    while len < text.len() && !ends_part(text[len]) {
+        len += 1;
+    }
+    len
+}
+
+/// Whether a byte ends a part.
+fn ends_part(byte: u8) -> bool
+    ensures { result ≡ ends_part byte }
+{
+    matches!(byte, b' ' | b'\n')
+}
+
+/// The part behind a space; an empty one, and nothing behind it, where no space stands in front.
+pub(crate) fn next_part(text: &[u8]) -> Part<'_>
+    ensures bytes { result.bytes.now ≡ first_part (behind_space text.now) }
+    ensures rest { result.rest.now ≡ behind_part (behind_space text.now) }
+{
+    match text {
+        [b' ', rest @ ..] => first_part(rest),
+        _ => first_part(&[]),
+    }
+}
+
+/// The number of 64 bits that the bytes spell in decimal digits without a leading zero.
+#[tactic(auto, unfolding(crate::specs::Parts::decimal_of))]
+pub(crate) fn decimal_of(bytes: &[u8]) -> Option<u64>
+    ensures { result ≡ decimal_of bytes.now }
+{
+    let Ok(text) = std::str::from_utf8(bytes) else {
+        return None;
+    };
+    let Ok(number) = text.parse::<u64>() else {
+        return None;
+    };
+    is_decimal(number, bytes).then_some(number)
+}
+
+/// Whether the bytes are what a number is written as.
+fn is_decimal(number: u64, bytes: &[u8]) -> bool
+    ensures { result ≡ bytes_eq bytes.now (decimal number) }
+{
+    let mut line = Line::new();
+    put_long(&mut line, number);
+    bytes == line.as_slice()
+}
