@@ -1,4 +1,3 @@
-pub mod Decimals
 pub mod Steps
 pub mod Serving
 pub mod Turns

@@ -15,7 +15,7 @@ use Rattle.policy_model.specs.Legal.{event_with}
 use Rattle.policy_model.specs.Settings.{Settings}
 use Rattle.policy_model.proofs.Lists.{filter-push}
 use Rattle.policy_model.proofs.Runs.{has_lost-push}
-use Rattle.session_model.specs.Log.{line_of, lines_after, log_text}
+use Rattle.decision_log.specs.Log.{line_of, lines_after, log_text}
 use Rattle.monitor_server.specs.Book.{IsDecided, KeepsLog, Logged, LostByFault, WritesLine}
 use Rattle.monitor_server.specs.Headline.{HoldsLines, LogMatches, lost_line, lost_line_of}
 

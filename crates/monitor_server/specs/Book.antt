@@ -10,7 +10,7 @@ use Rattle.policy_model.specs.Narrow.{IsNext, next_event, verdict_of}
 use Rattle.policy_model.specs.Legal.{event_with}
 use Rattle.policy_model.specs.Settings.{Settings}
 use Rattle.outside.specs.Told.{Gains, GainsPart, Rose}
-use Rattle.session_model.specs.Log.{line_of}
+use Rattle.decision_log.specs.Log.{line_of}
 use Rattle.monitor_server.specs.Headline.{LogMatches}
 use Rattle.policy_model.specs.Verdict.{NamesRule}
 

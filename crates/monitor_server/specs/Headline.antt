@@ -15,7 +15,7 @@ use Rattle.policy_model.specs.Narrow.{IsLegal, next_event}
 use Rattle.policy_model.specs.Runs.{IsOfWorker, IsProperEvent}
 use Rattle.policy_model.specs.Settings.{Settings}
 use Rattle.session_model.specs.Ends.{is_fault_end, is_keeper_end, is_link_end}
-use Rattle.session_model.specs.Log.{line_of, log_text}
+use Rattle.decision_log.specs.Log.{line_of, log_text}
 use Rattle.session_model.specs.Parts.{IsAnswered}
 use Rattle.session_model.specs.Sittings.{AreSittingsOf, Sitting}
 use Rattle.session_model.specs.Stories.{IsStory, LastAccept, NoAcceptBehindLoss, is_stop, parts_of, story_acts}

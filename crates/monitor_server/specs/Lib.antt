@@ -2,7 +2,6 @@ pub mod Asking
 pub mod Book
 pub mod Commands
 pub mod Headline
-pub mod Line
 pub mod Modes
 pub mod Ran
 pub mod Room

@@ -6,7 +6,7 @@ ghost use Rattle.policy_model.specs.Settings.{IsInRange};
 ghost use Rattle.monitor_server.specs.Book.{IsDecided, Joins, Logged, WritesLine};
 ghost use Rattle.monitor_server.specs.Room.{HasRoom};
 
-use crate::line::line_of;
+use decision_log::line;
 use outside::{Failed, Sink};
 use policy_model::{Ask, Decision, Event, Setup, event_after, has_lost, judge_narrow};
 
@@ -49,8 +49,9 @@ impl<K: Sink> Book<K> {
         }
         let decision = judge_narrow(setup, &self.journal, worker, ask);
         let event = event_after(&self.journal, worker, ask, &decision);
-        let line = line_of(self.journal.len() as u64 + 1, &event);
-        match self.log.append(line.as_slice()) {
+        let mut text = [0; 256];
+        let len = line(self.journal.len() as u32 + 1, &event, &mut text);
+        match self.log.append(&text[..len]) {
             Ok(()) => decision,
             Err(Failed) => Decision::Lost,
         }

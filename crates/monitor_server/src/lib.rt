@@ -5,7 +5,6 @@ mod asking;
 mod book;
 mod buffers;
 mod command;
-mod line;
 mod modes;
 mod report;
 mod run;

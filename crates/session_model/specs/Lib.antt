@@ -2,7 +2,6 @@ pub mod Places
 pub mod Requests
 pub mod Acts
 pub mod Answers
-pub mod Log
 pub mod Parts
 pub mod Ends
 pub mod Sittings

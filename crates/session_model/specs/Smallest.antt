@@ -15,7 +15,7 @@ use Rattle.session_model.specs.Places.{place_of}
 use Rattle.session_model.specs.Requests.{IsAskOf}
 use Rattle.session_model.specs.Acts.{Accepts, Finishes, HangsUp, Sends, Starts, operations_of}
 use Rattle.session_model.specs.Answers.{reply_to}
-use Rattle.session_model.specs.Log.{log_text}
+use Rattle.decision_log.specs.Log.{log_text}
 
 abbrev pub event : Ask → ℕ → Event
 event ask value = record { worker = 0; session = 1; ask = ask; decision = Permit value }

@@ -11,11 +11,11 @@ use Rattle.policy_model.specs.Phases.{phase_of}
 use Rattle.policy_model.specs.Verdict.{handle_verdict, kind_verdict, verdict_by}
 use Rattle.session_model.specs.Acts.{operations_of}
 use Rattle.session_model.specs.Answers.{reply_to}
-use Rattle.session_model.specs.Log.{line_of}
+use Rattle.decision_log.specs.Log.{line_text}
 use Rattle.session_model.proofs.smallest_run.Goals as goal
 
 pub returns : goal.returns
-unfolding verdict_by phase_of kind_verdict handle_verdict session_of operations_of reply_to spelling_of header_bytes len_bytes reply_of request_of asked_by kind_numbered number_at line_of digits
+unfolding verdict_by phase_of kind_verdict handle_verdict session_of operations_of reply_to spelling_of header_bytes len_bytes reply_of request_of asked_by kind_numbered number_at line_text digits
 returns c = record {
   opens = refl;
   writes = refl;
