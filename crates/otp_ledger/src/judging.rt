@@ -1,0 +1,195 @@
+//! What the ledger decides on CHALLENGE and REPLY: rules 12 to 16.
+
+ghost use Rattle.std.specs.Prelude.{◌≡◌, ◌<◌, ◌+◌, length, nat_lt};
+ghost use Rattle.std.specs.List.{find, list_any};
+ghost use Rattle.std.specs.Option.{option_to_list};
+ghost use Rattle.policy_model.specs.Verdict.{decoy_challenge, is_other, readings};
+ghost use Rattle.otp_ledger.specs.Accounts.{state_at, was_accepted};
+ghost use Rattle.otp_ledger.specs.Decisions.{PermitsNext, challenge_decision, is_next, readings_decision, refused, reply_decision, state_decision};
+ghost use Rattle.otp_ledger.specs.Standing.{IsChallengeVerdict, IsReplyVerdict};
+
+use crate::ledger::Ledger;
+use crate::rows::{AccountRow, is_holder};
+use otp_hash::step;
+use policy_model::Decision;
+use request_catalogue::{Name, rules};
+
+/// The value of a decoy's challenge is this and the decoy's number.
+const DECOYS_FROM: u64 = 10_000;
+
+/// Whether some other session holds.
+fn is_other(session: u32, holder: Option<u32>) -> bool
+    ensures { result ≡ is_other session holder }
+{
+    match holder {
+        None => false,
+        Some(holder) => holder != session,
+    }
+}
+
+/// Whether `now` is less than `hold` milliseconds behind a moment, or before it.
+fn is_within(now: u64, moment: u64, hold: u32) -> bool
+    ensures { result ≡ nat_lt now (moment + hold) }
+{
+    now < moment || now - moment < u64::from(hold)
+}
+
+impl Ledger {
+    /// What a user is challenged with that can't log in.
+    fn challenge_decoy(&self, user: &Name) -> Decision
+        ensures { result ≡ decoy_challenge self.now.setup user.now }
+    {
+        Decision::Permit {
+            value: DECOYS_FROM + u64::from(self.setup().decoy(user).n),
+        }
+    }
+
+    /// A CHALLENGE for the user of an account.
+    fn judge_account(&self, account: u32, user: &Name, session: u32, now: u64) -> Decision
+        requires { account < length self.now.accounts }
+        ensures { result ≡ state_decision self.now.setup user.now session now (state_at self.now account) }
+    {
+        let row: AccountRow = *self.row(account);
+        if !row.enabled || row.sequence == 0 {
+            self.challenge_decoy(user)
+        } else if is_other(session, row.holder)
+            && is_within(now, row.moment, self.setup().parts().hold)
+        {
+            Decision::Deny {
+                rule: rules::USER_HELD,
+                detail: row.taker,
+            }
+        } else {
+            Decision::Permit {
+                value: u64::from(row.sequence - 1),
+            }
+        }
+    }
+
+    /// A CHALLENGE by what is known of the user's account.
+    fn decide_challenge(&self, user: &Name, session: u32, now: u64) -> Decision
+        ensures { result ≡ challenge_decision self.now user.now session now }
+    {
+        match self.find(user) {
+            None => self.challenge_decoy(user),
+            Some(account) => self.judge_account(account, user, session, now),
+        }
+    }
+
+    /// A CHALLENGE of a session for a user, at a moment in milliseconds since the run began. Where the
+    /// user can't log in it is permitted with 10,000 and the decoy's number, else denied by rule 12, or
+    /// permitted with the current sequence less 1.
+    pub fn judge_challenge(&self, user: &Name, session: u32, now: u64) -> Decision
+        ensures value { result ≡ challenge_decision self.now user.now session now }
+        ensures verdict { IsChallengeVerdict self.now user.now session now result }
+    {
+        self.decide_challenge(user, session, now)
+    }
+
+    /// Whether a password hashes to the current one and was not accepted before.
+    fn is_next(&self, account: u32, password: u64) -> bool
+        requires { account < length self.now.accounts }
+        ensures { result ≡ is_next (state_at self.now account) password }
+    {
+        let row: AccountRow = *self.row(account);
+        step(row.algo, password) == row.password && !self.was_accepted(account, password)
+    }
+
+    /// The reading, where it is there and is the next password.
+    fn next_of(&self, account: u32, reading: Option<u64>) -> Option<u64>
+        requires { account < length self.now.accounts }
+        ensures { result ≡ find (is_next (state_at self.now account)) (option_to_list reading) }
+    {
+        match reading {
+            Some(password) => self.is_next(account, password).then_some(password),
+            None => None,
+        }
+    }
+
+    /// Whether a reading is there and was accepted before.
+    fn was_used(&self, account: u32, reading: Option<u64>) -> bool
+        requires { account < length self.now.accounts }
+        ensures { result ≡ list_any (was_accepted (state_at self.now account)) (option_to_list reading) }
+    {
+        match reading {
+            None => false,
+            Some(password) => self.was_accepted(account, password),
+        }
+    }
+
+    /// Rules 15 and 16.
+    fn judge_refused(&self, account: u32, words: Option<u64>, hex: Option<u64>) -> Decision
+        requires { account < length self.now.accounts }
+        ensures { result ≡ refused (state_at self.now account) (readings words hex) }
+    {
+        if self.was_used(account, words) || self.was_used(account, hex) {
+            Decision::Deny {
+                rule: rules::PASSWORD_USED,
+                detail: 0,
+            }
+        } else {
+            Decision::Deny {
+                rule: rules::NO_MATCH,
+                detail: 0,
+            }
+        }
+    }
+
+    /// The readings, words before hexadecimal digits.
+    fn judge_readings(&self, account: u32, words: Option<u64>, hex: Option<u64>) -> Decision
+        requires { account < length self.now.accounts }
+        ensures { result ≡ readings_decision (state_at self.now account) (readings words hex) }
+    {
+        match self.next_of(account, words) {
+            Some(value) => Decision::Permit { value },
+            None => match self.next_of(account, hex) {
+                Some(value) => Decision::Permit { value },
+                None => self.judge_refused(account, words, hex),
+            },
+        }
+    }
+
+    /// A REPLY by what is known of the account.
+    fn decide_reply(
+        &self,
+        account: u32,
+        session: u32,
+        words: Option<u64>,
+        hex: Option<u64>,
+    ) -> Decision
+        requires { account < length self.now.accounts }
+        ensures { result ≡ reply_decision (state_at self.now account) session (readings words hex) }
+    {
+        let row: AccountRow = *self.row(account);
+        if !is_holder(session, row.holder) {
+            return Decision::Deny {
+                rule: rules::HOLD_LOST,
+                detail: row.taker,
+            };
+        }
+        if words.is_none() && hex.is_none() {
+            return Decision::Deny {
+                rule: rules::NO_READING,
+                detail: 0,
+            };
+        }
+        self.judge_readings(account, words, hex)
+    }
+
+    /// A REPLY of a session for the user of an account, with its readings as six words and as
+    /// hexadecimal digits: denied by rules 13 to 16, or permitted with the accepted password.
+    pub fn judge_reply(
+        &self,
+        account: u32,
+        session: u32,
+        words: Option<u64>,
+        hex: Option<u64>,
+    ) -> Decision
+        requires { account < length self.now.accounts }
+        ensures value { result ≡ reply_decision (state_at self.now account) session (readings words hex) }
+        ensures next { PermitsNext (state_at self.now account) result }
+        ensures verdict { IsReplyVerdict self.now account session (readings words hex) result }
+    {
+        self.decide_reply(account, session, words, hex)
+    }
+}

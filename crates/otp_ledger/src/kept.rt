@@ -1,0 +1,44 @@
+//! The accepted passwords of all accounts, in one rising array.
+
+ghost use Rattle.std.specs.Prelude.{◌≡◌, ◌<◌, ◌≤◌, ◌+◌, IfErr, IfOk, vec_capacity, vec_len};
+ghost use Rattle.otp_ledger.specs.Kept.{AddsEntry, IsGap, IsHere, IsRising, has_entry};
+
+/// A password of an account that was accepted.
+#[derive(Clone, Copy, Debug, PartialEq, Eq, PartialOrd, Ord)]
+pub struct Kept {
+    /// The account's number, counted from 0.
+    pub account: u32,
+    /// Its first byte is the most significant.
+    pub password: u64,
+}
+
+/// Where an entry is, or where it would go.
+fn search(kept: &[Kept], entry: &Kept) -> Result<usize, usize>
+    requires { IsRising kept.now }
+    ensures found { IfOk result (IsHere kept.now entry.now) }
+    ensures absent { IfErr result (IsGap kept.now entry.now) }
+{
+    kept.binary_search(entry)
+}
+
+/// Whether an entry is there.
+pub(crate) fn has_entry(kept: &[Kept], account: u32, password: u64) -> bool
+    requires { IsRising kept.now }
+    ensures { result ≡ has_entry account password kept.now }
+{
+    search(kept, &Kept { account, password }).is_ok()
+}
+
+/// The entry is in the array, which has room for it.
+pub(crate) fn keep(kept: &mut Vec<Kept>, entry: Kept)
+    requires rising { IsRising kept.old.items }
+    requires room { vec_len kept.old < vec_capacity kept.old }
+    ensures rising { IsRising kept.new.items }
+    ensures entries { AddsEntry kept.old.items entry kept.new.items }
+    ensures len { vec_len kept.new ≤ vec_len kept.old + 1 }
+    ensures capacity { vec_capacity kept.old ≤ vec_capacity kept.new }
+{
+    if let Err(place) = search(kept.as_slice(), &entry) {
+        let _ = kept.insert(place, entry);
+    }
+}

@@ -1,0 +1,16 @@
+//! The ledger: what the policy knows of each account between events, in memory that is taken once.
+//! Contracts see each account's accepted passwords in the order of acceptance, its sequence, who took it
+//! last and when, and who holds it. Accepted passwords and names are found by halves.
+#![tactic(auto)]
+
+mod judging;
+mod kept;
+mod ledger;
+mod names;
+mod rows;
+
+pub use kept::Kept;
+pub use ledger::{Current, Ledger};
+
+#[cfg(test)]
+mod tests;
