@@ -2,6 +2,7 @@ use Rattle.std.proofs.Common.{◌≡◌, ℕ, ◌+◌, ◌≤◌, List, length, 
 use Rattle.std.specs.Prelude.{nat_le, option_map}
 use Rattle.std.specs.Bool.{then_some}
 use Rattle.std.proofs.lemmas.Grind.{common_steps}
+use Rattle.outside.proofs.Told.{Rose-within}
 use Rattle.outside.specs.Files.{Contents, SameFiles}
 use Rattle.outside.specs.Link.{Link}
 use Rattle.outside.specs.Told.{Goes, Rose}
@@ -95,12 +96,9 @@ list-fault contents entries name (Err errors.OutOfMemory) R h fault told =
     let is : faults.OutOfMemory ≡ fault = cc in
     subst (IsFileFault R) is tt
 
--- a count that rose later rose
-pub Rose-earlier : (before between after : ℕ) → before ≤ between → Rose between after → Rose before after
-Rose-earlier before between after le later = record { rose = omega (arith, le, later.rose) }
-
+-- a fault of a file counted later
 pub IsFileFault-earlier : (before between after : ℕ) (fault : CheckFault) → before ≤ between → IsFileFault (Rose between after) fault → IsFileFault (Rose before after) fault
-IsFileFault-earlier before between after faults.ReadFailed le h = Rose-earlier before between after le h
+IsFileFault-earlier before between after faults.ReadFailed le h = Rose-within before between after after le h (omega arith)
 IsFileFault-earlier before between after faults.OutOfMemory le h = tt
 IsFileFault-earlier before between after faults.EndsFailed le h = absurd h
 

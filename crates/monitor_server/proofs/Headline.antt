@@ -8,6 +8,7 @@ use Rattle.std.proofs.lemmas.Option.{slice_get_within}
 use Rattle.outside.specs.declared.act.Act.{Act}
 use Rattle.outside.specs.declared.act.Act.TheVariants as acts
 use Rattle.outside.specs.declared.act.Accepted.TheVariants as accepted
+use Rattle.outside.specs.declared.faults.Faults.{Faults}
 use Rattle.outside.specs.Scene.{Scene}
 use Rattle.command_line.specs.Words.{plain_words}
 use Rattle.policy_model.specs.declared.event.Ask.{Ask}
@@ -47,23 +48,23 @@ IfSome-weaker None P Q weaker h = tt
 IfSome-weaker (Some x) P Q weaker h = weaker x h
 
 -- what a worker did is some sessions, which are all its events
-sittings_of : (connections : ℕ) (last : LastAccept) (journal : List Event) (worker : ℕ) (scene : Option Scene) (a l k : ℕ) → (ran : WorkerRan connections last (worker_places journal worker) scene a l k) → AreSittingsOf journal worker ran.sittings
-sittings_of connections last journal worker scene a l k ran = record { places = ran.all; each = ran.each; alone = ran.alone }
+sittings_of : (connections : ℕ) (last : LastAccept) (journal : List Event) (worker : ℕ) (scene : Option Scene) (faults : Faults) → (ran : WorkerRan connections last (worker_places journal worker) scene faults) → AreSittingsOf journal worker ran.sittings
+sittings_of connections last journal worker scene faults ran = record { places = ran.all; each = ran.each; alone = ran.alone }
 
-pub sessions_in_order : {P : Type 0} (status : ℕ) (journal : List Event) (posts : List P) (scene : P → Option Scene) (accept_faults link_faults keeper_faults : P → ℕ) → RunEnded status journal posts scene accept_faults link_faults keeper_faults → SessionsInOrder journal
-sessions_in_order {P} status journal posts scene accept_faults link_faults keeper_faults run = record { in_order = λ worker. go worker (slice_get posts worker) refl } where
+pub sessions_in_order : {P : Type 0} (status : ℕ) (journal : List Event) (posts : List P) (scene : P → Option Scene) (faults : P → Faults) → RunEnded status journal posts scene faults → SessionsInOrder journal
+sessions_in_order {P} status journal posts scene faults run = record { in_order = λ worker. go worker (slice_get posts worker) refl } where
   go : (worker : ℕ) (o : Option P) → slice_get posts worker ≡ o → (sittings : List Sitting) × AreSittingsOf journal worker sittings
   go worker None is = ([], record { places = run.ran.unbegun worker (get_past posts worker is); each = tt; alone = tt })
   go worker (Some post) is =
       let did = run.ran.each worker post (slice_get_within posts worker post is) is in
-      (did.2.sittings, sittings_of 1 did.0 journal worker (scene post) (accept_faults post) (link_faults post) (keeper_faults post) did.2)
+      (did.2.sittings, sittings_of 1 did.0 journal worker (scene post) (faults post) did.2)
 
-pub conversations_match : {P : Type 0} (status : ℕ) (journal : List Event) (posts : List P) (scene : P → Option Scene) (accept_faults link_faults keeper_faults : P → ℕ) → RunEnded status journal posts scene accept_faults link_faults keeper_faults → ConversationsMatch scene journal posts
-conversations_match status journal posts scene accept_faults link_faults keeper_faults run = record {
+pub conversations_match : {P : Type 0} (status : ℕ) (journal : List Event) (posts : List P) (scene : P → Option Scene) (faults : P → Faults) → RunEnded status journal posts scene faults → ConversationsMatch scene journal posts
+conversations_match status journal posts scene faults run = record {
   held = λ worker post is.
       let did = run.ran.each worker post (slice_get_within posts worker post is) is in
       IfSome-weaker (scene post) (IsStory did.2.sittings did.0) (λ s. (sittings : List Sitting) × (last : LastAccept) × AreSittingsOf journal worker sittings × IsStory sittings last s)
-      (λ s story. (did.2.sittings, did.0, sittings_of 1 did.0 journal worker (scene post) (accept_faults post) (link_faults post) (keeper_faults post) did.2, story)) did.2.story;
+      (λ s story. (did.2.sittings, did.0, sittings_of 1 did.0 journal worker (scene post) (faults post) did.2, story)) did.2.story;
 }
 
 -- the operations are those of the same sessions
@@ -93,7 +94,11 @@ failed_stops (acts.Accept accepted.Failed) h = absurd cc
 failed_stops (acts.Start role outcome) h = refl
 failed_stops (acts.Finish role) h = refl
 failed_stops acts.HangUp h = refl
+failed_stops (acts.ConnRecv max outcome) h = refl
 failed_stops (acts.ConnSend bytes outcome) h = refl
+failed_stops (acts.VaultRead uid name offset max outcome) h = refl
+failed_stops (acts.VaultWrite uid name offset bytes outcome) h = refl
+failed_stops (acts.Clock moment) h = refl
 
 last_unfailed : (o : Option Act) (done : List Act) → is_fault o ≡ false → list_any is_stop done ≡ false → is_fault (last_or o done) ≡ false
 last_unfailed o [] first none = first
@@ -121,30 +126,30 @@ lost_none : (journal : List Event) (worker : ℕ) → lost_by journal worker ≡
 lost_none journal worker none =
     sym (count_of-places (λ e. is_lost e.decision) worker journal) ∙ count-any (λ e. eqb e.worker worker && is_lost e.decision) journal none
 
-quota_told : (journal : List Event) (worker : ℕ) (last : LastAccept) (scene : Option Scene) (a l k : ℕ) (s : Scene) → (ran : WorkerRan 1 last (worker_places journal worker) scene a l k) → IsStory ran.sittings last s → list_any is_stop s.acts ≡ false → lost_by journal worker ≡ false → openings_by journal worker ≡ 1
-quota_told journal worker last scene a l k s ran story unstop kept =
+quota_told : (journal : List Event) (worker : ℕ) (last : LastAccept) (scene : Option Scene) (faults : Faults) (s : Scene) → (ran : WorkerRan 1 last (worker_places journal worker) scene faults) → IsStory ran.sittings last s → list_any is_stop s.acts ≡ false → lost_by journal worker ≡ false → openings_by journal worker ≡ 1
+quota_told journal worker last scene faults s ran story unstop kept =
     let none = lost_none journal worker kept in
     let all = ran.quota (unstopped ran.sittings last s.acts story.acts unstop) none in
     count_of-places opens worker journal ∙ ap (count_by (λ p. opens p.event)) ran.all ∙ all_opened ran.sittings ran.each (sym (ap lost_places ran.all) ∙ none) ∙ all
 
-pub runs_to_quota : {P : Type 0} (status : ℕ) (journal : List Event) (posts : List P) (scene : P → Option Scene) (accept_faults link_faults keeper_faults : P → ℕ) → RunEnded status journal posts scene accept_faults link_faults keeper_faults → RunsToQuota plain_settings scene journal posts
-runs_to_quota status journal posts scene accept_faults link_faults keeper_faults run = record {
+pub runs_to_quota : {P : Type 0} (status : ℕ) (journal : List Event) (posts : List P) (scene : P → Option Scene) (faults : P → Faults) → RunEnded status journal posts scene faults → RunsToQuota plain_settings scene journal posts
+runs_to_quota status journal posts scene faults run = record {
   quota = λ worker post is.
       let did = run.ran.each worker post (slice_get_within posts worker post is) is in
       IfSome-weaker (scene post) (IsStory did.2.sittings did.0) (λ s. list_any is_stop s.acts ≡ false → lost_by journal worker ≡ false → openings_by journal worker ≡ 1)
-      (λ s story unstop kept. quota_told journal worker did.0 (scene post) (accept_faults post) (link_faults post) (keeper_faults post) s did.2 story unstop kept) did.2.story;
+      (λ s story unstop kept. quota_told journal worker did.0 (scene post) (faults post) s did.2 story unstop kept) did.2.story;
 }
 
 -- ---- the statuses
 
-pub accept_fault_cause : {P : Type 0} (status : ℕ) (journal : List Event) (posts : List P) (scene : P → Option Scene) (accept_faults link_faults keeper_faults : P → ℕ) → RunEnded status journal posts scene accept_faults link_faults keeper_faults → status ≡ 10
-    → (worker : ℕ) × (post : P) × (slice_get posts worker ≡ Some post) × (0 < accept_faults post) × IfSome (scene post) (λ s. ends_by_accept_fault s ≡ true)
-accept_fault_cause status journal posts scene accept_faults link_faults keeper_faults run ten =
+pub accept_fault_cause : {P : Type 0} (status : ℕ) (journal : List Event) (posts : List P) (scene : P → Option Scene) (faults : P → Faults) → RunEnded status journal posts scene faults → status ≡ 10
+    → (worker : ℕ) × (post : P) × (slice_get posts worker ≡ Some post) × (0 < (faults post).accept) × IfSome (scene post) (λ s. ends_by_accept_fault s ≡ true)
+accept_fault_cause status journal posts scene faults run ten =
     let one = run.ran.one (run.accept_fault ten) in
     (one.0, one.1, one.3, one.4.failed refl, IfSome-weaker (scene one.1) (IsStory one.4.sittings AcceptFailed) (λ s. ends_by_accept_fault s ≡ true) (λ s story. failed_accept one.4.sittings s story.acts) one.4.story)
 
-pub success_cause : {P : Type 0} (status : ℕ) (journal : List Event) (posts : List P) (scene : P → Option Scene) (accept_faults link_faults keeper_faults : P → ℕ) → RunEnded status journal posts scene accept_faults link_faults keeper_faults → status ≡ 0 → EachScene scene posts (λ worker s. ends_by_accept_fault s ≡ false)
-success_cause status journal posts scene accept_faults link_faults keeper_faults run zero_is = λ worker post is.
+pub success_cause : {P : Type 0} (status : ℕ) (journal : List Event) (posts : List P) (scene : P → Option Scene) (faults : P → Faults) → RunEnded status journal posts scene faults → status ≡ 0 → EachScene scene posts (λ worker s. ends_by_accept_fault s ≡ false)
+success_cause status journal posts scene faults run zero_is = λ worker post is.
     let did = run.ran.each worker post (slice_get_within posts worker post is) is in
     IfSome-weaker (scene post) (IsStory did.2.sittings did.0) (λ s. ends_by_accept_fault s ≡ false) (λ s story. no_failed_accept did.2.sittings did.0 s did.2.each (did.1 (run.success zero_is)) story.acts) did.2.story
 
@@ -153,10 +158,10 @@ serve_spoken : (words : List (List ℕ)) → words ≡ serve_words → plain_wor
 serve_spoken words serve none = absurd (let e : None ≡ Some serve_words = sym none ∙ ap plain_words serve in cc)
 
 -- the causes of the statuses of a run
-pub run_causes : {P : Type 0} (words : List (List ℕ)) (status : ℕ) (journal : List Event) (posts : List P) (scene : P → Option Scene) (accept_faults link_faults keeper_faults : P → ℕ) (ListenRose LogRose : Type 0)
+pub run_causes : {P : Type 0} (words : List (List ℕ)) (status : ℕ) (journal : List Event) (posts : List P) (scene : P → Option Scene) (faults : P → Faults) (ListenRose LogRose : Type 0)
     → words ≡ serve_words → (status ≡ 0) ⊎ (status ≡ 7) ⊎ (status ≡ 10) → (has_lost journal ≡ true → status ≡ 7) → (status ≡ 7 → has_lost journal ≡ true) → (has_lost journal ≡ true → LogRose) → length posts ≡ 1
-    → RunEnded status journal posts scene accept_faults link_faults keeper_faults → StatusHasCause words status plain_settings journal posts scene accept_faults ListenRose LogRose
-run_causes words status journal posts scene accept_faults link_faults keeper_faults ListenRose LogRose serve one_of lost log_lost rose len run = record {
+    → RunEnded status journal posts scene faults → StatusHasCause words status plain_settings journal posts scene faults ListenRose LogRose
+run_causes words status journal posts scene faults ListenRose LogRose serve one_of lost log_lost rose len run = record {
   listed = by_status one_of;
   no_words = λ none. absurd (serve_spoken words serve none);
   no_command = λ ne. absurd (ne (inl serve));
@@ -165,8 +170,8 @@ run_causes words status journal posts scene accept_faults link_faults keeper_fau
   listen_fault = λ six. absurd (not_of 6 one_of six (λ e. absurd cc) (λ e. absurd cc) (λ e. absurd cc));
   lost = lost;
   log_lost = λ seven. (log_lost seven, rose (log_lost seven));
-  accept_fault = accept_fault_cause status journal posts scene accept_faults link_faults keeper_faults run;
-  success = λ none. (kept none, success_cause status journal posts scene accept_faults link_faults keeper_faults run none, runs_to_quota status journal posts scene accept_faults link_faults keeper_faults run);
+  accept_fault = accept_fault_cause status journal posts scene faults run;
+  success = λ none. (kept none, success_cause status journal posts scene faults run none, runs_to_quota status journal posts scene faults run);
   one_each = λ serve' _. len;
 } where
   by_status : (status ≡ 0) ⊎ (status ≡ 7) ⊎ (status ≡ 10) → IsStatus status
@@ -198,10 +203,10 @@ ends_counted test journal worker count rose few =
     let le : ends_by test journal worker ≤ length journal = count_by-le-length (λ e. eqb e.worker worker && test e.ask) journal in
     omega (arith, same, le, few, rose.by)
 
-pub fault_ends_are_counted : {P : Type 0} (status : ℕ) (journal : List Event) (posts : List P) (scene : P → Option Scene) (accept_faults link_faults keeper_faults : P → ℕ) → RunEnded status journal posts scene accept_faults link_faults keeper_faults → length journal ≤ 1048576 → FaultEndsAreCounted link_faults keeper_faults journal posts
-fault_ends_are_counted status journal posts scene accept_faults link_faults keeper_faults run few = record {
-  link = λ worker post is. ends_counted is_link_end journal worker (link_faults post) (run.ran.each worker post (slice_get_within posts worker post is) is).2.link few;
-  keeper = λ worker post is. ends_counted is_keeper_end journal worker (keeper_faults post) (run.ran.each worker post (slice_get_within posts worker post is) is).2.keeper few;
+pub fault_ends_are_counted : {P : Type 0} (status : ℕ) (journal : List Event) (posts : List P) (scene : P → Option Scene) (faults : P → Faults) → RunEnded status journal posts scene faults → length journal ≤ 1048576 → FaultEndsAreCounted faults journal posts
+fault_ends_are_counted status journal posts scene faults run few = record {
+  link = λ worker post is. ends_counted is_link_end journal worker (faults post).link (run.ran.each worker post (slice_get_within posts worker post is) is).2.link few;
+  keeper = λ worker post is. ends_counted is_keeper_end journal worker (faults post).keeper (run.ran.each worker post (slice_get_within posts worker post is) is).2.keeper few;
 }
 
 -- ---- completeness
@@ -245,32 +250,32 @@ lost_all journal worker none =
 none_rose : (n : ℕ) (count : ℕ) → RoseBy n 0 count → count ≡ 0 → n ≡ 0
 none_rose n count rose none = omega (arith, rose.by, none)
 
-no_fault_ends : {P : Type 0} (status : ℕ) (journal : List Event) (posts : List P) (scene : P → Option Scene) (accept_faults link_faults keeper_faults : P → ℕ) → RunEnded status journal posts scene accept_faults link_faults keeper_faults → has_lost journal ≡ false → ((worker : ℕ) (post : P) → slice_get posts worker ≡ Some post → IsFaultless accept_faults keeper_faults link_faults post) → (worker : ℕ) → asks_among is_fault_end (worker_places journal worker) ≡ 0
-no_fault_ends {P} status journal posts scene accept_faults link_faults keeper_faults run kept faultless worker = go (slice_get posts worker) refl where
+no_fault_ends : {P : Type 0} (status : ℕ) (journal : List Event) (posts : List P) (scene : P → Option Scene) (faults : P → Faults) → RunEnded status journal posts scene faults → has_lost journal ≡ false → ((worker : ℕ) (post : P) → slice_get posts worker ≡ Some post → IsFaultless faults post) → (worker : ℕ) → asks_among is_fault_end (worker_places journal worker) ≡ 0
+no_fault_ends {P} status journal posts scene faults run kept faultless worker = go (slice_get posts worker) refl where
   go : (o : Option P) → slice_get posts worker ≡ o → asks_among is_fault_end (worker_places journal worker) ≡ 0
   go None is = ap (asks_among is_fault_end) (run.ran.unbegun worker (get_past posts worker is))
   go (Some post) is =
       let did = (run.ran.each worker post (slice_get_within posts worker post is) is).2 in
       let none = faultless worker post is in
-      let link = none_rose (asks_among is_link_end (worker_places journal worker)) (link_faults post) did.link none.no_link_fault in
-      let keeper = none_rose (asks_among is_keeper_end (worker_places journal worker)) (keeper_faults post) did.keeper none.no_keeper_fault in
+      let link = none_rose (asks_among is_link_end (worker_places journal worker)) (faults post).link did.link none.no_link_fault in
+      let keeper = none_rose (asks_among is_keeper_end (worker_places journal worker)) (faults post).keeper did.keeper none.no_keeper_fault in
       let lost : asks_among is_lost_end (worker_places journal worker) ≤ lost_places (worker_places journal worker) = subst (λ ps. asks_among is_lost_end ps ≤ lost_places ps) (sym did.all) (all_lost_ends did.sittings did.each) in
       omega (arith, faults_split (worker_places journal worker), link, keeper, lost, lost_all journal worker kept)
 
-pub run_complete : {P : Type 0} (words : List (List ℕ)) (status : ℕ) (journal : List Event) (posts : List P) (scene : P → Option Scene) (accept_faults link_faults keeper_faults : P → ℕ) (ListenRose LogRose : Type 0)
-    → (status ≡ 0) ⊎ (status ≡ 7) ⊎ (status ≡ 10) → RunEnded status journal posts scene accept_faults link_faults keeper_faults → StatusHasCause words status plain_settings journal posts scene accept_faults ListenRose LogRose → IsComplete words status scene journal posts (NoFault ListenRose LogRose accept_faults keeper_faults link_faults posts)
-run_complete words status journal posts scene accept_faults link_faults keeper_faults ListenRose LogRose one_of run causes = record {
+pub run_complete : {P : Type 0} (words : List (List ℕ)) (status : ℕ) (journal : List Event) (posts : List P) (scene : P → Option Scene) (faults : P → Faults) (ListenRose LogRose : Type 0)
+    → (status ≡ 0) ⊎ (status ≡ 7) ⊎ (status ≡ 10) → RunEnded status journal posts scene faults → StatusHasCause words status plain_settings journal posts scene faults ListenRose LogRose → IsComplete words status scene journal posts (NoFault ListenRose LogRose faults posts)
+run_complete words status journal posts scene faults ListenRose LogRose one_of run causes = record {
   succeeds = λ serve none. by_status none one_of;
   kept = λ none zero_is. (causes.success zero_is).0;
-  ended = λ none zero_is. none_by_worker (λ e. is_fault_end e.ask) journal (λ worker. count_of-places (λ e. is_fault_end e.ask) worker journal ∙ no_fault_ends status journal posts scene accept_faults link_faults keeper_faults run (causes.success zero_is).0 none.each worker);
+  ended = λ none zero_is. none_by_worker (λ e. is_fault_end e.ask) journal (λ worker. count_of-places (λ e. is_fault_end e.ask) worker journal ∙ no_fault_ends status journal posts scene faults run (causes.success zero_is).0 none.each worker);
   answered = λ none zero_is worker post is.
       let did = run.ran.each worker post (slice_get_within posts worker post is) is in
-      let link = none_rose (asks_among is_link_end (worker_places journal worker)) (link_faults post) did.2.link (none.each worker post is).no_link_fault in
+      let link = none_rose (asks_among is_link_end (worker_places journal worker)) (faults post).link did.2.link (none.each worker post is).no_link_fault in
       let answered = all_answered did.2.sittings did.2.each (sym (ap (asks_among is_link_end) did.2.all) ∙ link) in
       IfSome-weaker (scene post) (IsStory did.2.sittings did.0) (λ s. (sittings : List Sitting) × (last : LastAccept) × AreSittingsOf journal worker sittings × IsStory sittings last s × AllByRecursion IsAnswered (parts_of sittings))
-      (λ s story. (did.2.sittings, did.0, sittings_of 1 did.0 journal worker (scene post) (accept_faults post) (link_faults post) (keeper_faults post) did.2, story, answered)) did.2.story;
+      (λ s story. (did.2.sittings, did.0, sittings_of 1 did.0 journal worker (scene post) (faults post) did.2, story, answered)) did.2.story;
 } where
-  by_status : NoFault ListenRose LogRose accept_faults keeper_faults link_faults posts → (status ≡ 0) ⊎ (status ≡ 7) ⊎ (status ≡ 10) → (status ≡ 0) ⊎ (status ≡ 9)
+  by_status : NoFault ListenRose LogRose faults posts → (status ≡ 0) ⊎ (status ≡ 7) ⊎ (status ≡ 10) → (status ≡ 0) ⊎ (status ≡ 9)
   by_status none (inl e) = inl e
   by_status none (inr (inl e)) = absurd (none.log (causes.log_lost e).1)
   by_status none (inr (inr e)) =
@@ -303,9 +308,9 @@ pub record Unserved (words : List (List ℕ)) (status : ℕ) (ListenRose : Type 
   pub serving : words ≡ serve_words → (status ≡ 6) ⊎ (status ≡ 9)
 
 -- its causes
-unused_causes : {P : Type 0} (words : List (List ℕ)) (status : ℕ) (journal : List Event) (posts : List P) (scene : P → Option Scene) (accept_faults : P → ℕ) (ListenRose LogRose : Type 0)
-    → Unserved words status ListenRose → journal ≡ [] → posts ≡ [] → StatusHasCause words status plain_settings journal posts scene accept_faults ListenRose LogRose
-unused_causes words status journal posts scene accept_faults ListenRose LogRose known events none = record {
+unused_causes : {P : Type 0} (words : List (List ℕ)) (status : ℕ) (journal : List Event) (posts : List P) (scene : P → Option Scene) (faults : P → Faults) (ListenRose LogRose : Type 0)
+    → Unserved words status ListenRose → journal ≡ [] → posts ≡ [] → StatusHasCause words status plain_settings journal posts scene faults ListenRose LogRose
+unused_causes words status journal posts scene faults ListenRose LogRose known events none = record {
   listed = known.listed;
   no_words = known.no_words;
   no_command = known.no_command;
@@ -338,9 +343,9 @@ unused_complete words status journal posts scene NoFaultRose succeeds events non
 }
 
 -- all promises, where nobody was served
-pub unused_promises : {P : Type 0} (words : List (List ℕ)) (status : ℕ) (journal : List Event) (posts : List P) (scene : P → Option Scene) (accept_faults link_faults keeper_faults : P → ℕ) (ListenRose LogRose : Type 0) (before after : Option (List ℕ))
-    → Unserved words status ListenRose → after ≡ before → journal ≡ [] → posts ≡ [] → Promises words status journal posts scene accept_faults link_faults keeper_faults ListenRose LogRose before after
-unused_promises words status journal posts scene accept_faults link_faults keeper_faults ListenRose LogRose before after known same events none =
+pub unused_promises : {P : Type 0} (words : List (List ℕ)) (status : ℕ) (journal : List Event) (posts : List P) (scene : P → Option Scene) (faults : P → Faults) (ListenRose LogRose : Type 0) (before after : Option (List ℕ))
+    → Unserved words status ListenRose → after ≡ before → journal ≡ [] → posts ≡ [] → Promises words status journal posts scene faults ListenRose LogRose before after
+unused_promises words status journal posts scene faults ListenRose LogRose before after known same events none =
     let conversations = unused_conversations scene journal posts none in
     record {
       legal = unused_legal journal events;
@@ -349,11 +354,11 @@ unused_promises words status journal posts scene accept_faults link_faults keepe
       conversations = conversations;
       log = rw same (subst (λ j. LogMatches plain_settings j before before) (sym events) (LogMatches-none plain_settings before));
       quota = record { quota = λ worker post is. no_post posts worker post none is };
-      causes = unused_causes words status journal posts scene accept_faults ListenRose LogRose known events none;
+      causes = unused_causes words status journal posts scene faults ListenRose LogRose known events none;
       fault_ends = record { link = λ worker post is. no_post posts worker post none is; keeper = λ worker post is. no_post posts worker post none is };
-      complete = unused_complete words status journal posts scene (NoFault ListenRose LogRose accept_faults keeper_faults link_faults posts) (λ serve no_fault. succeeds no_fault (known.serving serve)) events none;
+      complete = unused_complete words status journal posts scene (NoFault ListenRose LogRose faults posts) (λ serve no_fault. succeeds no_fault (known.serving serve)) events none;
     } where
-      succeeds : NoFault ListenRose LogRose accept_faults keeper_faults link_faults posts → (status ≡ 6) ⊎ (status ≡ 9) → (status ≡ 0) ⊎ (status ≡ 9)
+      succeeds : NoFault ListenRose LogRose faults posts → (status ≡ 6) ⊎ (status ≡ 9) → (status ≡ 0) ⊎ (status ≡ 9)
       succeeds no_fault (inl six) = absurd (no_fault.listen (known.listen six).1)
       succeeds no_fault (inr nine) = inr nine
 
@@ -431,21 +436,21 @@ moded words status ListenRose command unserved spoken of = record {
   listed = left (list_any (λ s. s == status) statuses) (not (list_any (λ s. s == status) (2 ∷ 6 ∷ 7 ∷ 10 ∷ []))) of
 
 -- all promises of a run that began
-pub run_promises : {P : Type 0} (status : ℕ) (journal : List Event) (posts : List P) (scene : P → Option Scene) (accept_faults link_faults keeper_faults : P → ℕ) (ListenRose LogRose : Type 0) (before after : Option (List ℕ))
+pub run_promises : {P : Type 0} (status : ℕ) (journal : List Event) (posts : List P) (scene : P → Option Scene) (faults : P → Faults) (ListenRose LogRose : Type 0) (before after : Option (List ℕ))
     → (status ≡ 0) ⊎ (status ≡ 7) ⊎ (status ≡ 10) → (has_lost journal ≡ true → status ≡ 7) → (status ≡ 7 → has_lost journal ≡ true) → (has_lost journal ≡ true → LogRose) → length posts ≡ 1
-    → RunEnded status journal posts scene accept_faults link_faults keeper_faults → JournalIsLegal plain_settings journal → LogMatches plain_settings journal before after
-    → Promises serve_words status journal posts scene accept_faults link_faults keeper_faults ListenRose LogRose before after
-run_promises status journal posts scene accept_faults link_faults keeper_faults ListenRose LogRose before after one_of lost log_lost rose len run legal log =
-    let conversations = conversations_match status journal posts scene accept_faults link_faults keeper_faults run in
-    let causes = run_causes serve_words status journal posts scene accept_faults link_faults keeper_faults ListenRose LogRose refl one_of lost log_lost rose len run in
+    → RunEnded status journal posts scene faults → JournalIsLegal plain_settings journal → LogMatches plain_settings journal before after
+    → Promises serve_words status journal posts scene faults ListenRose LogRose before after
+run_promises status journal posts scene faults ListenRose LogRose before after one_of lost log_lost rose len run legal log =
+    let conversations = conversations_match status journal posts scene faults run in
+    let causes = run_causes serve_words status journal posts scene faults ListenRose LogRose refl one_of lost log_lost rose len run in
     record {
       legal = legal;
-      sessions = sessions_in_order status journal posts scene accept_faults link_faults keeper_faults run;
+      sessions = sessions_in_order status journal posts scene faults run;
       operations = operations_match scene journal posts conversations;
       conversations = conversations;
       log = log;
-      quota = runs_to_quota status journal posts scene accept_faults link_faults keeper_faults run;
+      quota = runs_to_quota status journal posts scene faults run;
       causes = causes;
-      fault_ends = fault_ends_are_counted status journal posts scene accept_faults link_faults keeper_faults run legal.few;
-      complete = run_complete serve_words status journal posts scene accept_faults link_faults keeper_faults ListenRose LogRose one_of run causes;
+      fault_ends = fault_ends_are_counted status journal posts scene faults run legal.few;
+      complete = run_complete serve_words status journal posts scene faults ListenRose LogRose one_of run causes;
     }

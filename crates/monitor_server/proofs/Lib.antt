@@ -1,7 +1,6 @@
 pub mod Steps
 pub mod Serving
 pub mod Turns
-pub mod Faults
 pub mod Closing
 pub mod Opening
 pub mod Stories

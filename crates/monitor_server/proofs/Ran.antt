@@ -6,6 +6,7 @@ use Rattle.std.proofs.Math.ListN.{set, length-set}
 use Rattle.std.proofs.lemmas.Bool.{cases_lt}
 use Rattle.std.proofs.lemmas.List.{get_or-set_other, get_or-set_same}
 use Rattle.std.proofs.lemmas.Option.{get_or_from_slice_get, slice_get-get_or, slice_get_past, slice_get_within}
+use Rattle.outside.specs.declared.faults.Faults.{Faults}
 use Rattle.outside.specs.Scene.{IsFresh, IsUnplayed, Played, Scene, came_count}
 use Rattle.outside.specs.Told.{Goes}
 use Rattle.policy_model.specs.declared.event.Event.{Event}
@@ -34,22 +35,22 @@ get_other posts i k new other =
     ]
 
 -- before the first worker
-pub workers_none : {P : Type 0} (connections : ℕ) (posts : List P) (scene : P → Option Scene) (accept_faults link_faults keeper_faults : P → ℕ) → WorkersRan connections false 0 [] posts scene accept_faults link_faults keeper_faults
-workers_none connections posts scene accept_faults link_faults keeper_faults = record {
+pub workers_none : {P : Type 0} (connections : ℕ) (posts : List P) (scene : P → Option Scene) (faults : P → Faults) → WorkersRan connections false 0 [] posts scene faults
+workers_none connections posts scene faults = record {
   each = λ worker post lt is. absurd (omega (arith, lt));
   one = λ h. absurd cc;
   unbegun = λ worker le. refl;
 }
 
-pub fresh_all : {P : Type 0} (posts : List P) (scene : P → Option Scene) (accept_faults keeper_faults link_faults conn_faults : P → ℕ) → All (IsFresh scene accept_faults keeper_faults link_faults conn_faults) posts → AreFresh 0 posts scene accept_faults keeper_faults link_faults conn_faults
-fresh_all posts scene accept_faults keeper_faults link_faults conn_faults all = record {
+pub fresh_all : {P : Type 0} (posts : List P) (scene : P → Option Scene) (faults : P → Faults) → All (IsFresh scene faults) posts → AreFresh 0 posts scene faults
+fresh_all posts scene faults all = record {
   fresh = λ worker post le is.
-      subst (IsFresh scene accept_faults keeper_faults link_faults conn_faults) (get_or_from_slice_get posts worker post post is) (all worker post (slice_get_within posts worker post is));
+      subst (IsFresh scene faults) (get_or_from_slice_get posts worker post post is) (all worker post (slice_get_within posts worker post is));
 }
 
 -- the posts behind the one that was served stay fresh
-pub fresh_next : {P : Type 0} (posts : List P) (i : ℕ) (new : P) (scene : P → Option Scene) (accept_faults keeper_faults link_faults conn_faults : P → ℕ) → AreFresh i posts scene accept_faults keeper_faults link_faults conn_faults → AreFresh (i + 1) (set posts i new) scene accept_faults keeper_faults link_faults conn_faults
-fresh_next posts i new scene accept_faults keeper_faults link_faults conn_faults are = record {
+pub fresh_next : {P : Type 0} (posts : List P) (i : ℕ) (new : P) (scene : P → Option Scene) (faults : P → Faults) → AreFresh i posts scene faults → AreFresh (i + 1) (set posts i new) scene faults
+fresh_next posts i new scene faults are = record {
   fresh = λ worker post le is.
       let other : worker ≢ i = λ e. absurd (omega (arith, le, e)) in
       are.fresh worker post (omega (arith, le)) (sym (get_other posts i worker new other) ∙ is);
@@ -92,8 +93,8 @@ no_fault_end ends.NoMore h e = absurd cc
 no_fault_end ends.LogLost h e = absurd cc
 
 -- what one worker did, from a fresh post on
-pub worker_ran : (worker connections : ℕ) (end : WorkerEnd) (old new : List Event) (before after : Option Scene) (link_old keeper_old link_new keeper_new accept_faults : ℕ) → HasStory worker connections end old new before after link_old keeper_old link_new keeper_new → worker_places old worker ≡ [] → IfSome before IsUnplayed → link_old ≡ 0 → keeper_old ≡ 0 → (end ≡ ends.AcceptFault → 0 < accept_faults) → WorkerRan connections (last_of end) (worker_places new worker) after accept_faults link_new keeper_new
-worker_ran worker connections end old new before after link_old keeper_old link_new keeper_new accept_faults story unbegun fresh no_link no_keeper failed =
+pub worker_ran : (worker connections : ℕ) (end : WorkerEnd) (old new : List Event) (before after : Option Scene) (faults_old faults_new : Faults) → HasStory worker connections end old new before after faults_old faults_new → worker_places old worker ≡ [] → IfSome before IsUnplayed → faults_old.link ≡ 0 → faults_old.keeper ≡ 0 → (end ≡ ends.AcceptFault → 0 < faults_new.accept) → WorkerRan connections (last_of end) (worker_places new worker) after faults_new
+worker_ran worker connections end old new before after faults_old faults_new story unbegun fresh no_link no_keeper failed =
     let steps = step_places (flat_map all_steps story.sittings) in
     let places : worker_places new worker ≡ steps = story.are.steps.own ∙ ap (λ ps. ps ++ steps) unbegun in
     record {
@@ -104,8 +105,8 @@ worker_ran worker connections end old new before after link_old keeper_old link_
       story = story_told story.sittings (last_of end) before after fresh story.are.played story.are.planned story.halted;
       quota = λ last none. by_end connections end story.sittings (lost_places steps) last (sym (ap lost_places places) ∙ none) story.all story.lost;
       failed = λ last. failed (failed_end end last);
-      link = subst (λ ps. RoseBy (asks_among is_link_end ps) 0 link_new) (sym places) (subst (λ n. RoseBy (asks_among is_link_end steps) n link_new) no_link story.counted.link);
-      keeper = subst (λ ps. RoseBy (asks_among is_keeper_end ps) 0 keeper_new) (sym places) (subst (λ n. RoseBy (asks_among is_keeper_end steps) n keeper_new) no_keeper story.counted.keeper);
+      link = subst (λ ps. RoseBy (asks_among is_link_end ps) 0 faults_new.link) (sym places) (subst (λ n. RoseBy (asks_among is_link_end steps) n faults_new.link) no_link story.counted.link);
+      keeper = subst (λ ps. RoseBy (asks_among is_keeper_end ps) 0 faults_new.keeper) (sym places) (subst (λ n. RoseBy (asks_among is_keeper_end steps) n faults_new.keeper) no_keeper story.counted.keeper);
     }
 
 or_left : (a b : Bool) → (a || b) ≡ false → a ≡ false
@@ -121,17 +122,17 @@ or_either true b h = inl refl
 or_either false b h = inr h
 
 -- one worker more has run
-pub workers_next : {P : Type 0} (connections : ℕ) (failed : Bool) (end : WorkerEnd) (n i : ℕ) (old_journal journal : List Event) (posts : List P) (old new : P) (scene : P → Option Scene) (accept_faults keeper_faults link_faults conn_faults : P → ℕ)
+pub workers_next : {P : Type 0} (connections : ℕ) (failed : Bool) (end : WorkerEnd) (n i : ℕ) (old_journal journal : List Event) (posts : List P) (old new : P) (scene : P → Option Scene) (faults : P → Faults)
     → n ≡ i → i < length posts → slice_get posts i ≡ Some old
-    → WorkersRan connections failed n old_journal posts scene accept_faults link_faults keeper_faults → AreFresh i posts scene accept_faults keeper_faults link_faults conn_faults
-    → HasStory n connections end old_journal journal (scene old) (scene new) (link_faults old) (keeper_faults old) (link_faults new) (keeper_faults new) → (end ≡ ends.AcceptFault → 0 < accept_faults new)
-    → WorkersRan connections (failed || is_accept_fault end) (n + 1) journal (set posts i new) scene accept_faults link_faults keeper_faults
-workers_next {P} connections failed end n i old_journal journal posts old new scene accept_faults keeper_faults link_faults conn_faults place within here ran are story fault =
+    → WorkersRan connections failed n old_journal posts scene faults → AreFresh i posts scene faults
+    → HasStory n connections end old_journal journal (scene old) (scene new) (faults old) (faults new) → (end ≡ ends.AcceptFault → 0 < (faults new).accept)
+    → WorkersRan connections (failed || is_accept_fault end) (n + 1) journal (set posts i new) scene faults
+workers_next {P} connections failed end n i old_journal journal posts old new scene faults place within here ran are story fault =
     let fresh = are.fresh i old (omega arith) here in
-    let this : Ran connections journal scene accept_faults link_faults keeper_faults (last_of end) n new =
-    worker_ran n connections end old_journal journal (scene old) (scene new) (link_faults old) (keeper_faults old) (link_faults new) (keeper_faults new) (accept_faults new) story (ran.unbegun n (omega arith)) fresh.unplayed fresh.no_link_fault fresh.no_keeper_fault fault in
-    let stays : (last : LastAccept) (worker : ℕ) (post : P) → worker < n → Ran connections old_journal scene accept_faults link_faults keeper_faults last worker post → Ran connections journal scene accept_faults link_faults keeper_faults last worker post =
-    λ last worker post lt did. subst (λ ps. WorkerRan connections last ps (scene post) (accept_faults post) (link_faults post) (keeper_faults post)) (sym (story.are.steps.others worker (λ e. absurd (omega (arith, lt, e))))) did in
+    let this : Ran connections journal scene faults (last_of end) n new =
+    worker_ran n connections end old_journal journal (scene old) (scene new) (faults old) (faults new) story (ran.unbegun n (omega arith)) fresh.unplayed fresh.faultless.link fresh.faultless.keeper fault in
+    let stays : (last : LastAccept) (worker : ℕ) (post : P) → worker < n → Ran connections old_journal scene faults last worker post → Ran connections journal scene faults last worker post =
+    λ last worker post lt did. subst (λ ps. WorkerRan connections last ps (scene post) (faults post)) (sym (story.are.steps.others worker (λ e. absurd (omega (arith, lt, e))))) did in
     let own : slice_get (set posts i new) n ≡ Some new = ap (slice_get (set posts i new)) place ∙ get_same posts i new within in
     record {
       each = λ worker post lt is. elim (cases_lt worker n) [
@@ -142,13 +143,13 @@ workers_next {P} connections failed end n i old_journal journal posts old new sc
             let at : worker ≡ n = omega (arith, lt, le) in
             let same : Some post ≡ Some new = sym is ∙ ap (slice_get (set posts i new)) at ∙ own in
             let post_is : new ≡ post = cc in
-            (last_of end, λ h. no_fault_end end (or_right failed (is_accept_fault end) h), subst (λ w. Ran connections journal scene accept_faults link_faults keeper_faults (last_of end) w post) (sym at) (subst (Ran connections journal scene accept_faults link_faults keeper_faults (last_of end) n) post_is this))
+            (last_of end, λ h. no_fault_end end (or_right failed (is_accept_fault end) h), subst (λ w. Ran connections journal scene faults (last_of end) w post) (sym at) (subst (Ran connections journal scene faults (last_of end) n) post_is this))
       ];
       one = λ h. elim (or_either failed (is_accept_fault end) h) [
         | inl before ↦
             let some = ran.one before in
             (some.0, some.1, omega (arith, some.2), get_other posts i some.0 new (λ e. absurd (omega (arith, some.2, e, place))) ∙ some.3, stays AcceptFailed some.0 some.1 some.2 some.4)
-        | inr now ↦ (n, new, omega arith, own, subst (λ last. Ran connections journal scene accept_faults link_faults keeper_faults last n new) (fault_end end now) this)
+        | inr now ↦ (n, new, omega arith, own, subst (λ last. Ran connections journal scene faults last n new) (fault_end end now) this)
       ];
       unbegun = λ worker le. story.are.steps.others worker (λ e. absurd (omega (arith, le, e))) ∙ ran.unbegun worker (omega (arith, le));
     }

@@ -3,6 +3,8 @@ use Rattle.std.proofs.Common.{◌≡◌, ℕ, ◌+◌, ◌≤◌, Bool, true, fa
 use Rattle.std.specs.List.{AllByRecursion, flat_map}
 use Rattle.std.proofs.lemmas.List.{map-append}
 use Rattle.std.proofs.lemmas.List.Concat.{flat_map-append}
+use Rattle.outside.specs.declared.faults.Faults.{Faults}
+use Rattle.outside.specs.Faults.{NoneFell}
 use Rattle.outside.specs.declared.act.Act.{Act}
 use Rattle.outside.specs.declared.act.Act.TheVariants.{Accept}
 use Rattle.outside.specs.declared.act.Accepted.TheVariants as accepted
@@ -184,19 +186,19 @@ goes_on_behind s why ended other = go s.ending ended where
   go None ended = absurd (other ended)
   go (Some step) ended = ap is_lost_end ended ∙ not_lost why other
 
-pub counted_none : (link keeper : ℕ) → EndsCounted [] link keeper link keeper
-counted_none link keeper = record { link = RoseBy-none link; keeper = RoseBy-none keeper }
+pub counted_none : (f : Faults) → EndsCounted [] f f
+counted_none f = record { link = RoseBy-none f.link; keeper = RoseBy-none f.keeper }
 
 -- one session more, whose end has its cause
-pub counted_more : (ss : List Sitting) (s : Sitting) (why : Why) (a b c d e f : ℕ) → EndsCounted ss a b c d → IsSitting s → EndsFor why s.ending → EndHasCause why c d e f → EndsCounted (ss ++ s ∷ []) a b e f
-counted_more ss s why a b c d e f counted is ended cause = record {
-  link = subst (λ n. RoseBy n a e) (sym (among-more is_link_end ss s)) (RoseBy-then (asks_among is_link_end (step_places (flat_map all_steps ss))) (asks_among is_link_end (step_places (all_steps s))) a c e counted.link (faults_of is_link_end s why c e link_requests refl is ended cause.kept.link (λ h. cause.link (is_link why h))));
-  keeper = subst (λ n. RoseBy n b f) (sym (among-more is_keeper_end ss s)) (RoseBy-then (asks_among is_keeper_end (step_places (flat_map all_steps ss))) (asks_among is_keeper_end (step_places (all_steps s))) b d f counted.keeper (faults_of is_keeper_end s why d f keeper_requests refl is ended cause.kept.keeper (λ h. cause.keeper (is_keeper why h))));
+pub counted_more : (ss : List Sitting) (s : Sitting) (why : Why) (a b c : Faults) → EndsCounted ss a b → IsSitting s → EndsFor why s.ending → EndHasCause why b c → EndsCounted (ss ++ s ∷ []) a c
+counted_more ss s why a b c counted is ended cause = record {
+  link = subst (λ n. RoseBy n a.link c.link) (sym (among-more is_link_end ss s)) (RoseBy-then (asks_among is_link_end (step_places (flat_map all_steps ss))) (asks_among is_link_end (step_places (all_steps s))) a.link b.link c.link counted.link (faults_of is_link_end s why b.link c.link link_requests refl is ended cause.kept.link (λ h. cause.link (is_link why h))));
+  keeper = subst (λ n. RoseBy n a.keeper c.keeper) (sym (among-more is_keeper_end ss s)) (RoseBy-then (asks_among is_keeper_end (step_places (flat_map all_steps ss))) (asks_among is_keeper_end (step_places (all_steps s))) a.keeper b.keeper c.keeper counted.keeper (faults_of is_keeper_end s why b.keeper c.keeper keeper_requests refl is ended cause.kept.keeper (λ h. cause.keeper (is_keeper why h))));
 }
 
 -- counts that did not fall leave what was counted
-pub counted_kept : (ss : List Sitting) (a b c d e f : ℕ) → EndsCounted ss a b c d → c ≤ e → d ≤ f → EndsCounted ss a b e f
-counted_kept ss a b c d e f counted link keeper = record { link = record { by = omega (arith, counted.link.by, link) }; keeper = record { by = omega (arith, counted.keeper.by, keeper) } }
+pub counted_kept : (ss : List Sitting) (a b c : Faults) → EndsCounted ss a b → NoneFell b c → EndsCounted ss a c
+counted_kept ss a b c counted kept = record { link = record { by = omega (arith, counted.link.by, kept.link) }; keeper = record { by = omega (arith, counted.keeper.by, kept.keeper) } }
 
 -- a session that ended because a decision was lost has one
 lost_by_end : (s : Sitting) → IsSitting s → EndsFor whys.LogLost s.ending → 1 ≤ lost_places (step_places (all_steps s))

@@ -1,6 +1,12 @@
 -- All that the top call says, for each command and for words that are none.
-use Rattle.std.proofs.Common.{◌≡◌, ◌≢◌, ◌⊎◌, ℕ, List, [], ◌∷◌, Option, Some, None, Result, Ok, Err, refl, sym, ap, subst, ◌∙◌, inl, inr}
+use Rattle.std.proofs.Common.{◌≡◌, ◌≢◌, ◌⊎◌, ℕ, List, [], ◌∷◌, Option, Some, None, Result, Ok, Err, refl, sym, ap, subst, ◌∙◌, inl, inr, length, arith}
 use Rattle.std.specs.Prelude.{option_and_then}
+use Rattle.outside.specs.declared.faults.Faults.{Faults}
+use Rattle.outside.specs.declared.place.Place.{Place as SitePlace}
+use Rattle.outside.specs.Told.{Gains}
+use Rattle.outside.proofs.Told.{Gains-none}
+use Rattle.policy_model.specs.Settings.{Settings}
+use Rattle.monitor_server.specs.Headline.{ListensAt, setup_place}
 use Rattle.outside.specs.Files.{Contents}
 use Rattle.outside.specs.Link.{Link}
 use Rattle.outside.specs.Scene.{Scene}
@@ -120,11 +126,11 @@ moded-leaves unserved asked site unused unread silent unprinted plain = record {
   plain = plain;
 }
 
-module _ {F S E K P : Type 0} {words : List (List ℕ)} {status : ℕ} {detail : Detail} {journal : List Event} {posts : List P} {scene : P → Option Scene} {accept_faults link_faults keeper_faults : P → ℕ} {files_old files_new : F} {site_old site_new : S} {ends_old ends_new : E} {log_old log_new : K} {contents : Option Contents} {before after : Option Link} {held_old held_new : Option (List ℕ)} {ListenRose LogRose ReadFailed EndsFailed : Type 0} where
-  pub whole-served : words ≡ serve_words → Promises serve_words status journal posts scene accept_faults link_faults keeper_faults ListenRose LogRose held_old held_new → ((status ≡ 6) ⊎ (status ≡ 9) → IsUnused log_old log_new journal posts) → detail ≡ Nothing → files_new ≡ files_old → ends_new ≡ ends_old
-      → Whole words status detail journal posts scene accept_faults link_faults keeper_faults files_old files_new site_old site_new ends_old ends_new log_old log_new contents before after held_old held_new ListenRose LogRose ReadFailed EndsFailed
+module _ {F S E K P : Type 0} {words : List (List ℕ)} {status : ℕ} {detail : Detail} {journal : List Event} {posts : List P} {scene : P → Option Scene} {faults : P → Faults} {files_old files_new : F} {site_old site_new : S} {ends_old ends_new : E} {log_old log_new : K} {contents : Option Contents} {before after : Option Link} {held_old held_new : Option (List ℕ)} {ListenRose LogRose ReadFailed EndsFailed : Type 0} where
+  pub whole-served : words ≡ serve_words → Promises serve_words status journal posts scene faults ListenRose LogRose held_old held_new → ((status ≡ 6) ⊎ (status ≡ 9) → IsUnused log_old log_new journal posts) → detail ≡ Nothing → files_new ≡ files_old → ends_new ≡ ends_old
+      → Whole words status detail journal posts scene faults files_old files_new site_old site_new ends_old ends_new log_old log_new contents before after held_old held_new ListenRose LogRose ReadFailed EndsFailed
   whole-served serve promises unbegun plain files ends = record {
-    promises = subst (λ ws. Promises ws status journal posts scene accept_faults link_faults keeper_faults ListenRose LogRose held_old held_new) (sym serve) promises;
+    promises = subst (λ ws. Promises ws status journal posts scene faults ListenRose LogRose held_old held_new) (sym serve) promises;
     password = record { ran = λ parts asked. absurd (password_no_serve words parts asked serve) };
     check = record { ran = λ setup asked. absurd (check_no_serve words setup asked serve) };
     leaves = record {
@@ -142,12 +148,12 @@ module _ {F S E K P : Type 0} {words : List (List ℕ)} {status : ℕ} {detail :
   }
 
   pub whole-password : (parts : OtpParts) → asks_otp words ≡ Some parts → PasswordRan parts status detail contents before after ReadFailed EndsFailed → IsUnused log_old log_new journal posts → (parts.list ≡ None → files_new ≡ files_old) → ((status ≡ 3) ⊎ (status ≡ 9) → ends_new ≡ ends_old) → ((status ≡ 4) ⊎ (status ≡ 5) → ends_new ≡ ends_old) → held_new ≡ held_old → site_new ≡ site_old
-      → Whole words status detail journal posts scene accept_faults link_faults keeper_faults files_old files_new site_old site_new ends_old ends_new log_old log_new contents before after held_old held_new ListenRose LogRose ReadFailed EndsFailed
+      → Whole words status detail journal posts scene faults files_old files_new site_old site_new ends_old ends_new log_old log_new contents before after held_old held_new ListenRose LogRose ReadFailed EndsFailed
   whole-password parts asked ran unused unread silent at_list held site =
       let status_is = sym ran.status_is in
       let of : IsModeStatus status = subst IsModeStatus status_is (password_status ran.outcome) in
       record {
-        promises = unused_promises words status journal posts scene accept_faults link_faults keeper_faults ListenRose LogRose held_old held_new (moded words status ListenRose (inr (inl (parts, asked))) (password_no_serve words parts asked) (spoken otp_command words parts asked) of) held unused.events unused.workers;
+        promises = unused_promises words status journal posts scene faults ListenRose LogRose held_old held_new (moded words status ListenRose (inr (inl (parts, asked))) (password_no_serve words parts asked) (spoken otp_command words parts asked) of) held unused.events unused.workers;
         password = record {
           ran = λ other is.
               let same : parts ≡ other = (let e : Some parts ≡ Some other = sym asked ∙ is in cc) in
@@ -158,12 +164,12 @@ module _ {F S E K P : Type 0} {words : List (List ℕ)} {status : ℕ} {detail :
       }
 
   pub whole-checked : (setup : List ℕ) → asks_check words ≡ Some setup → CheckRan setup status detail contents before after ReadFailed EndsFailed → IsUnused log_old log_new journal posts → ((status ≡ 3) ⊎ (status ≡ 9) → ends_new ≡ ends_old) → held_new ≡ held_old → site_new ≡ site_old
-      → Whole words status detail journal posts scene accept_faults link_faults keeper_faults files_old files_new site_old site_new ends_old ends_new log_old log_new contents before after held_old held_new ListenRose LogRose ReadFailed EndsFailed
+      → Whole words status detail journal posts scene faults files_old files_new site_old site_new ends_old ends_new log_old log_new contents before after held_old held_new ListenRose LogRose ReadFailed EndsFailed
   whole-checked setup asked ran unused silent held site =
       let status_is = sym ran.status_is in
       let of : IsModeStatus status = subst IsModeStatus status_is (check_status ran.outcome) in
       record {
-        promises = unused_promises words status journal posts scene accept_faults link_faults keeper_faults ListenRose LogRose held_old held_new (moded words status ListenRose (inr (inr (setup, asked))) (check_no_serve words setup asked) (spoken check_command words setup asked) of) held unused.events unused.workers;
+        promises = unused_promises words status journal posts scene faults ListenRose LogRose held_old held_new (moded words status ListenRose (inr (inr (setup, asked))) (check_no_serve words setup asked) (spoken check_command words setup asked) of) held unused.events unused.workers;
         password = record { ran = λ parts is. none-some (asks_otp words) parts (check_no_password words setup asked) is };
         check = record {
           ran = λ other is.
@@ -175,9 +181,9 @@ module _ {F S E K P : Type 0} {words : List (List ℕ)} {status : ℕ} {detail :
 
   -- nothing was done
   pub whole-nothing : Unserved words status ListenRose → (status ≡ 9) ⊎ (IsCommand words → ⊥) → detail ≡ Nothing → IsUnused log_old log_new journal posts → held_new ≡ held_old → files_new ≡ files_old → site_new ≡ site_old → ends_new ≡ ends_old
-      → Whole words status detail journal posts scene accept_faults link_faults keeper_faults files_old files_new site_old site_new ends_old ends_new log_old log_new contents before after held_old held_new ListenRose LogRose ReadFailed EndsFailed
+      → Whole words status detail journal posts scene faults files_old files_new site_old site_new ends_old ends_new log_old log_new contents before after held_old held_new ListenRose LogRose ReadFailed EndsFailed
   whole-nothing known why plain unused held files site ends = record {
-    promises = unused_promises words status journal posts scene accept_faults link_faults keeper_faults ListenRose LogRose held_old held_new known held unused.events unused.workers;
+    promises = unused_promises words status journal posts scene faults ListenRose LogRose held_old held_new known held unused.events unused.workers;
     password = record { ran = λ parts asked. ran why (inr (inl (parts, asked))) };
     check = record { ran = λ setup asked. ran why (inr (inr (setup, asked))) };
     leaves = record {
@@ -196,3 +202,14 @@ module _ {F S E K P : Type 0} {words : List (List ℕ)} {status : ℕ} {detail :
     ran : {A : Type 0} → (status ≡ 9) ⊎ (IsCommand words → ⊥) → IsCommand words → (status ≡ 9) ⊎ A
     ran (inl nine) command = inl nine
     ran (inr none) command = absurd (none command)
+
+-- ---- where the site listened
+
+-- nobody is served, and the site is as it was
+pub listens-nowhere : {P : Type 0} (setup : Settings) (posts : List P) (l : Option (List SitePlace)) → posts ≡ [] → ListensAt setup posts l l
+listens-nowhere setup posts l none = subst (λ ps. ListensAt setup ps l l) (sym none) (Gains-none l)
+
+-- a post is there, and the site listened at its place
+pub listens-once : {P : Type 0} (setup : Settings) (place : SitePlace) (posts : List P) (before after : Option (List SitePlace)) → length posts ≡ 1 → place ≡ setup_place setup → Gains before (place ∷ []) after → ListensAt setup posts before after
+listens-once setup place [] before after one is gains = absurd (omega (arith, one))
+listens-once setup place (post ∷ posts) before after one is gains = subst (λ p. Gains before (p ∷ []) after) is gains

@@ -2,7 +2,9 @@
 use Rattle.std.specs.Prelude.{◌≡◌, ◌⊎◌, ℕ, ◌+◌, ◌<◌, ◌≤◌, Bool, true, false, ◌&&◌, ◌==◌, List, [], ◌∷◌, ◌++◌, length, take, find, count_by, slice_get, Option, Some, None, IfSome}
 use Rattle.std.specs.List.{AllByRecursion, last_or, list_any}
 use Rattle.command_line.specs.Words.{plain_words}
-use Rattle.outside.specs.Told.{Goes}
+use Rattle.outside.specs.declared.place.Place.{Place as SitePlace}
+use Rattle.outside.specs.Told.{Gains, Goes}
+use Rattle.outside.specs.declared.faults.Faults.{Faults}
 use Rattle.outside.specs.Scene.{Scene}
 use Rattle.outside.specs.declared.act.Act.{Act}
 use Rattle.outside.specs.declared.act.Act.TheVariants.{Accept}
@@ -77,6 +79,21 @@ lost_by journal worker = list_any (λ e. e.worker == worker && is_lost e.decisio
 pub record RunsToQuota {P : Type 0} (setup : Settings) (scene : P → Option Scene) (journal : List Event) (posts : List P) : Type 0 where
   pub quota : EachScene scene posts (λ worker s. list_any is_stop s.acts ≡ false → lost_by journal worker ≡ false → openings_by journal worker ≡ setup.connections)
 
+-- ---- where it listens
+
+-- where the workers of a setup serve
+abbrev pub setup_place : Settings → SitePlace
+setup_place setup = record { socket = setup.socket; launcher = setup.launcher; vault = setup.vault; workers = setup.workers }
+
+-- the places where posts serve: the setup's, and none where there are no posts
+abbrev pub served_places : {P : Type 0} → Settings → List P → List SitePlace
+served_places setup [] = []
+served_places setup (post ∷ posts) = setup_place setup ∷ []
+
+-- the site listened once, at the setup's place, where there are posts, and else nowhere
+abbrev pub ListensAt : {P : Type 0} → Settings → List P → Option (List SitePlace) → Option (List SitePlace) → Type 0
+ListensAt setup posts before after = Gains before (served_places setup posts) after
+
 -- ---- the statuses and their causes
 
 -- nothing was used: no event, no post, and the log is as it was
@@ -109,7 +126,7 @@ abbrev pub serve_statuses : List ℕ
 serve_statuses = 0 ∷ 6 ∷ 7 ∷ 9 ∷ 10 ∷ []
 
 -- what comes only for its cause, and what comes exactly for it; rose says that a count rose in this call
-pub record StatusHasCause {P : Type 0} (words : List (List ℕ)) (status : ℕ) (setup : Settings) (journal : List Event) (posts : List P) (scene : P → Option Scene) (accept_faults : P → ℕ) (ListenRose LogRose : Type 0) : Type 0 where
+pub record StatusHasCause {P : Type 0} (words : List (List ℕ)) (status : ℕ) (setup : Settings) (journal : List Event) (posts : List P) (scene : P → Option Scene) (faults : P → Faults) (ListenRose LogRose : Type 0) : Type 0 where
   pub listed : IsStatus status
   pub no_words : plain_words words ≡ None → status ≡ 2
   pub no_command : ¬ (IsCommand words) → (status ≡ 2) ⊎ (status ≡ 9)
@@ -118,7 +135,7 @@ pub record StatusHasCause {P : Type 0} (words : List (List ℕ)) (status : ℕ) 
   pub listen_fault : status ≡ 6 → (words ≡ serve_words) × ListenRose
   pub lost : has_lost journal ≡ true → status ≡ 7
   pub log_lost : status ≡ 7 → (has_lost journal ≡ true) × LogRose
-  pub accept_fault : status ≡ 10 → (worker : ℕ) × (post : P) × (slice_get posts worker ≡ Some post) × (0 < accept_faults post) × IfSome (scene post) (λ s. ends_by_accept_fault s ≡ true)
+  pub accept_fault : status ≡ 10 → (worker : ℕ) × (post : P) × (slice_get posts worker ≡ Some post) × (0 < (faults post).accept) × IfSome (scene post) (λ s. ends_by_accept_fault s ≡ true)
   pub success : status ≡ 0 → (has_lost journal ≡ false) × EachScene scene posts (λ worker s. ends_by_accept_fault s ≡ false) × RunsToQuota setup scene journal posts
   pub one_each : words ≡ serve_words → (status ≡ 0) ⊎ (status ≡ 7) ⊎ (status ≡ 10) → length posts ≡ setup.workers
 
@@ -128,23 +145,23 @@ abbrev pub ends_by : (Ask → Bool) → List Event → ℕ → ℕ
 ends_by test journal worker = count_by (λ e. e.worker == worker && test e.ask) journal
 
 -- of a worker's ends at most as many are by a fault of a link or of a start as its post counts
-pub record FaultEndsAreCounted {P : Type 0} (link_faults keeper_faults : P → ℕ) (journal : List Event) (posts : List P) : Type 0 where
-  pub link : (worker : ℕ) (post : P) → slice_get posts worker ≡ Some post → ends_by is_link_end journal worker ≤ link_faults post
-  pub keeper : (worker : ℕ) (post : P) → slice_get posts worker ≡ Some post → ends_by is_keeper_end journal worker ≤ keeper_faults post
+pub record FaultEndsAreCounted {P : Type 0} (faults : P → Faults) (journal : List Event) (posts : List P) : Type 0 where
+  pub link : (worker : ℕ) (post : P) → slice_get posts worker ≡ Some post → ends_by is_link_end journal worker ≤ (faults post).link
+  pub keeper : (worker : ℕ) (post : P) → slice_get posts worker ≡ Some post → ends_by is_keeper_end journal worker ≤ (faults post).keeper
 
 -- ---- completeness
 
 -- no count of a post is above 0
-pub record IsFaultless {P : Type 0} (accept_faults keeper_faults link_faults : P → ℕ) (post : P) : Type 0 where
-  pub no_accept_fault : accept_faults post ≡ 0
-  pub no_keeper_fault : keeper_faults post ≡ 0
-  pub no_link_fault : link_faults post ≡ 0
+pub record IsFaultless {P : Type 0} (faults : P → Faults) (post : P) : Type 0 where
+  pub no_accept_fault : (faults post).accept ≡ 0
+  pub no_keeper_fault : (faults post).keeper ≡ 0
+  pub no_link_fault : (faults post).link ≡ 0
 
 -- no call of the site, of a post and of the log failed, as their counts tell; a fault of a connection is itself answered
-pub record NoFault {P : Type 0} (ListenRose LogRose : Type 0) (accept_faults keeper_faults link_faults : P → ℕ) (posts : List P) : Type 0 where
+pub record NoFault {P : Type 0} (ListenRose LogRose : Type 0) (faults : P → Faults) (posts : List P) : Type 0 where
   pub listen : ¬ ListenRose
   pub log : ¬ LogRose
-  pub each : (worker : ℕ) (post : P) → slice_get posts worker ≡ Some post → IsFaultless accept_faults keeper_faults link_faults post
+  pub each : (worker : ℕ) (post : P) → slice_get posts worker ≡ Some post → IsFaultless faults post
 
 -- without a fault `serve` succeeds, unless memory is wanted: nothing is lost, each session ends by what its child did, and
 -- each of its requests is answered

@@ -5,6 +5,8 @@ use Rattle.imsg_frame.specs.Message.{Message}
 use Rattle.request_catalogue.specs.declared.request.Bad.{Bad}
 use Rattle.request_catalogue.specs.Catalogue.{RequestValue}
 use Rattle.request_catalogue.specs.Catalogue as requests
+use Rattle.outside.specs.declared.faults.Faults.{Faults}
+use Rattle.outside.specs.Faults.{NoneFell}
 use Rattle.outside.specs.declared.act.Act.{Act}
 use Rattle.outside.specs.declared.act.Act.TheVariants.{Accept}
 use Rattle.outside.specs.declared.act.Accepted.TheVariants.{Came}
@@ -36,11 +38,6 @@ use Rattle.monitor_server.specs.declared.worker.WorkerEnd.TheVariants as ends
 pub record Steps (worker : ℕ) (steps : List Step) (old new : List Event) : Type 0 where
   pub own : worker_places new worker ≡ worker_places old worker ++ step_places steps
   pub others : (other : ℕ) → other ≢ worker → worker_places new other ≡ worker_places old other
-
--- counts of faults of links and of starts did not fall
-pub record NoFewer (link_old keeper_old link_new keeper_new : ℕ) : Type 0 where
-  pub link : link_old ≤ link_new
-  pub keeper : keeper_old ≤ keeper_new
 
 -- the operation of a request that was decided so, if it has one
 abbrev pub request_operations : Result RequestValue Bad → Decision → List Operation
@@ -174,10 +171,10 @@ pub record HasSitting (worker : ℕ) (why : Why) (old new : List Event) (before 
   pub planned : Goes (λ b a. IsPlanned b.plan (came_count b.acts) sitting) before after
 
 -- a session ended by a fault of a link or a start only where such a count rose
-pub record EndHasCause (why : Why) (link_old keeper_old link_new keeper_new : ℕ) : Type 0 where
-  pub link : why ≡ whys.LinkFault → Rose link_old link_new
-  pub keeper : why ≡ whys.KeeperFault → Rose keeper_old keeper_new
-  pub kept : NoFewer link_old keeper_old link_new keeper_new
+pub record EndHasCause (why : Why) (faults_old faults_new : Faults) : Type 0 where
+  pub link : why ≡ whys.LinkFault → Rose faults_old.link faults_new.link
+  pub keeper : why ≡ whys.KeeperFault → Rose faults_old.keeper faults_new.keeper
+  pub kept : NoneFell faults_old faults_new
 
 -- a count rose at least so many times, or stands at its end
 pub record RoseBy (times before after : ℕ) : Type 0 where
@@ -195,9 +192,9 @@ pub record HasSittings (worker : ℕ) (sittings : List Sitting) (last : LastAcce
   pub planned : Goes (λ b a. ArePlanned b.plan (came_count b.acts) sittings) before after
 
 -- each end by a fault of a link or of a start raised the count of those
-pub record EndsCounted (sittings : List Sitting) (link_old keeper_old link_new keeper_new : ℕ) : Type 0 where
-  pub link : RoseBy (asks_among is_link_end (step_places (flat_map all_steps sittings))) link_old link_new
-  pub keeper : RoseBy (asks_among is_keeper_end (step_places (flat_map all_steps sittings))) keeper_old keeper_new
+pub record EndsCounted (sittings : List Sitting) (faults_old faults_new : Faults) : Type 0 where
+  pub link : RoseBy (asks_among is_link_end (step_places (flat_map all_steps sittings))) faults_old.link faults_new.link
+  pub keeper : RoseBy (asks_among is_keeper_end (step_places (flat_map all_steps sittings))) faults_old.keeper faults_new.keeper
 
 -- the last accept of a worker that ended so
 abbrev pub last_of : WorkerEnd → LastAccept
@@ -207,14 +204,14 @@ last_of ends.AcceptFault = AcceptFailed
 last_of ends.LogLost = Unasked
 
 -- all that a worker did before it ended so
-pub record HasStory (worker connections : ℕ) (end : WorkerEnd) (old new : List Event) (before after : Option Scene) (link_old keeper_old link_new keeper_new : ℕ) : Type 0 where
+pub record HasStory (worker connections : ℕ) (end : WorkerEnd) (old new : List Event) (before after : Option Scene) (faults_old faults_new : Faults) : Type 0 where
   pub sittings : List Sitting
   pub are : HasSittings worker sittings (last_of end) old new before after
   pub alone : NoneBehindLoss sittings
   pub halted : NoAcceptBehindLoss sittings (last_of end)
   pub all : end ≡ ends.AllServed → length sittings ≡ connections
   pub lost : end ≡ ends.LogLost → 1 ≤ count_by (λ p. is_lost p.event.decision) (step_places (flat_map all_steps sittings))
-  pub counted : EndsCounted sittings link_old keeper_old link_new keeper_new
+  pub counted : EndsCounted sittings faults_old faults_new
 
 -- a worker ended because an accept failed
 abbrev pub is_accept_fault : WorkerEnd → Bool

@@ -9,7 +9,7 @@ ghost use Rattle.monitor_server.specs.Frames.{IsForSessions};
 ghost use Rattle.monitor_server.specs.Book.{Logged};
 ghost use Rattle.monitor_server.specs.Ran.{Promises, RunEnded, status_by};
 ghost use Rattle.monitor_server.specs.Commands.{serve_words};
-ghost use Rattle.monitor_server.specs.Headline.{IsUnused, JournalIsLegal};
+ghost use Rattle.monitor_server.specs.Headline.{ListensAt, setup_place, IsUnused, JournalIsLegal};
 
 use crate::book::Book;
 use crate::buffers::{Buffers, FRAMES};
@@ -42,7 +42,7 @@ struct Prepared {
 /// Takes all memory that the run needs.
 fn prepare(alloc: Global) -> Result<Prepared, AllocError>
     ensures setup { IfOk result (λ p. p.setup ≡ plain_settings) }
-    ensures workers { IfOk result (λ p. p.place.workers ≡ 1) }
+    ensures place { IfOk result (λ p. p.place ≡ setup_place plain_settings) }
     ensures reader { IfOk result (λ p. IsForSessions p.reader) }
     ensures journal { IfOk result (λ p. p.journal.items ≡ []) }
     ensures room { IfOk result (λ p. vec_capacity p.journal ≡ events_max plain_settings) }
@@ -84,7 +84,7 @@ fn serve<P: Post, K: Sink>(prepared: Prepared, mut posts: Vec<P>, log: K) -> Rep
     requires reader { IsForSessions prepared.reader }
     requires journal { prepared.journal.items ≡ [] }
     requires room { vec_capacity prepared.journal ≡ events_max prepared.setup }
-    requires fresh { All (IsFresh P.scene P.accept_faults P.keeper_faults P.link_faults P.conn_faults) posts.items }
+    requires fresh { All (IsFresh P.scene P.faults) posts.items }
     ensures logged { Logged plain_settings [] result.journal.items (K.held log) (K.held result.log) (K.faults log) (K.faults result.log) }
     ensures lost { has_lost result.journal.items ≡ true → result.status ≡ 7 }
     ensures log_lost { result.status ≡ 7 → has_lost result.journal.items ≡ true }
@@ -92,7 +92,7 @@ fn serve<P: Post, K: Sink>(prepared: Prepared, mut posts: Vec<P>, log: K) -> Rep
     ensures legal { JournalIsLegal plain_settings result.journal.items }
     ensures status { (result.status ≡ 0) ⊎ (result.status ≡ 7) ⊎ (result.status ≡ 10) }
     ensures detail { result.detail ≡ Detail.Nothing }
-    ensures ran { RunEnded result.status result.journal.items result.posts.items P.scene P.accept_faults P.link_faults P.keeper_faults }
+    ensures ran { RunEnded result.status result.journal.items result.posts.items P.scene P.faults }
 {
     let Prepared {
         setup,
@@ -125,7 +125,8 @@ pub(crate) fn serve_plain<S: Site, K: Sink>(
     site: &mut S,
     log: K,
 ) -> Report<S::Post, K>
-    ensures promises { Promises serve_words result.status result.journal.items result.posts.items S.Post.scene S.Post.accept_faults S.Post.link_faults S.Post.keeper_faults (Rose (S.listen_faults site.old) (S.listen_faults site.new)) (Rose (K.faults log) (K.faults result.log)) (K.held log) (K.held result.log) }
+    ensures promises { Promises serve_words result.status result.journal.items result.posts.items S.Post.scene S.Post.faults (Rose (S.listen_faults site.old) (S.listen_faults site.new)) (Rose (K.faults log) (K.faults result.log)) (K.held log) (K.held result.log) }
+    ensures listens { ListensAt plain_settings result.posts.items (S.listens site.old) (S.listens site.new) }
     ensures unbegun { (result.status ≡ 6) ⊎ (result.status ≡ 9) → IsUnused log result.log result.journal.items result.posts.items }
     ensures detail { result.detail ≡ Detail.Nothing }
 {

@@ -3,6 +3,7 @@
 ghost use Rattle.std.specs.Prelude.{◌≡◌, ◌≢◌, ◌<◌, ◌≤◌, ◌+◌, ◌-◌, true, false, length, vec_len, vec_capacity, IfNone, IfSome, Some, is_ok};
 ghost use Rattle.imsg_frame.specs.Cut.{IsPartialFront};
 ghost use Rattle.imsg_frame.specs.Message.{IsMessage, message_of};
+ghost use Rattle.outside.specs.Faults.{NoneFell};
 ghost use Rattle.outside.specs.Scene.{IsUnused, planned_bytes};
 ghost use Rattle.policy_model.specs.Asks.{is_proper_why};
 ghost use Rattle.policy_model.specs.Journal.{ask_count, has_lost, open_session_of};
@@ -14,7 +15,7 @@ ghost use Rattle.monitor_server.specs.Asking.{read_value};
 ghost use Rattle.monitor_server.specs.Book.{Logged};
 ghost use Rattle.monitor_server.specs.Frames.{IsForSessions};
 ghost use Rattle.monitor_server.specs.Room.{HasRoom};
-ghost use Rattle.monitor_server.specs.Serving.{Advances, Concludes, EndHasCause, HasPart, HasRest, HasServed, HasSitting, NoFewer, Performs, Receives, Turns, request_operations};
+ghost use Rattle.monitor_server.specs.Serving.{Advances, Concludes, EndHasCause, HasPart, HasRest, HasServed, HasSitting, Performs, Receives, Turns, request_operations};
 ghost use Rattle.monitor_server.specs.Session.{Ended, GoesOn};
 
 use crate::asking::{answer_of, ask_of, end_of};
@@ -36,7 +37,7 @@ fn perform<P: Post>(
     decision: &Decision,
 ) -> Result<(), Failed>
     ensures done { Performs (request_operations (read_value request.now) decision.now) result (P.scene post.old) (P.scene post.new) }
-    ensures kept { NoFewer (P.link_faults post.old) (P.keeper_faults post.old) (P.link_faults post.new) (P.keeper_faults post.new) }
+    ensures kept { NoneFell (P.faults post.old) (P.faults post.new) }
 {
     match (request, decision) {
         (
@@ -80,7 +81,7 @@ fn serve_message<P: Post, K: Sink>(
     ensures served { HasServed worker (message_of message.now) result book.old.journal.items book.new.journal.items (P.scene post.old) (P.scene post.new) (P.Child.link child.old) (P.Child.link child.new) }
     ensures fault { result ≡ Some Why.LinkFault → 0 < P.Child.faults child.new }
     ensures role { P.Child.role child.new ≡ P.Child.role child.old }
-    ensures kept { NoFewer (P.link_faults post.old) (P.keeper_faults post.old) (P.link_faults post.new) (P.keeper_faults post.new) }
+    ensures kept { NoneFell (P.faults post.old) (P.faults post.new) }
 {
     let header = message.header;
     let request = read_request(FRAMES, header.kind, header.flags, message.body);
@@ -152,7 +153,7 @@ fn serve_turn<P: Post, K: Sink>(
     ensures turns { Turns worker result book.old.journal.items book.new.journal.items (P.scene post.old) (P.scene post.new) (P.Child.link child.old) (P.Child.link child.new) reader.old.bytes reader.new.bytes }
     ensures fault { result ≡ Some Why.LinkFault → 0 < P.Child.faults child.new }
     ensures role { P.Child.role child.new ≡ P.Child.role child.old }
-    ensures kept { NoFewer (P.link_faults post.old) (P.keeper_faults post.old) (P.link_faults post.new) (P.keeper_faults post.new) }
+    ensures kept { NoneFell (P.faults post.old) (P.faults post.new) }
 {
     match reader.next() {
         Next::Frame(message) => serve_message(
@@ -190,7 +191,7 @@ fn serve_child<P: Post, K: Sink>(
     ensures concludes { Concludes worker result book.old.journal.items book.new.journal.items (P.scene post.old) (P.scene post.new) (P.Child.link child.old) (P.Child.link child.new) reader.old.bytes }
     ensures fault { result ≡ Why.LinkFault → 0 < P.Child.faults child.new }
     ensures role { P.Child.role child.new ≡ P.Child.role child.old }
-    ensures kept { NoFewer (P.link_faults post.old) (P.keeper_faults post.old) (P.link_faults post.new) (P.keeper_faults post.new) }
+    ensures kept { NoneFell (P.faults post.old) (P.faults post.new) }
 {
     loop {
         let end = serve_turn(
@@ -230,7 +231,7 @@ fn serve_started<P: Post, K: Sink>(
     ensures logged { Logged setup.now book.old.journal.items book.new.journal.items (K.held book.old.log) (K.held book.new.log) (K.faults book.old.log) (K.faults book.new.log) }
     ensures frames { IsForSessions reader.new }
     ensures part { HasPart worker session result book.old.journal.items book.new.journal.items (P.scene post.old) (P.scene post.new) }
-    ensures cause { EndHasCause result (P.link_faults post.old) (P.keeper_faults post.old) (P.link_faults post.new) (P.keeper_faults post.new) }
+    ensures cause { EndHasCause result (P.faults post.old) (P.faults post.new) }
 {
     reader.clear();
     let why = serve_child(
@@ -265,7 +266,7 @@ fn serve_opened<P: Post, K: Sink>(
     ensures logged { Logged setup.now book.old.journal.items book.new.journal.items (K.held book.old.log) (K.held book.new.log) (K.faults book.old.log) (K.faults book.new.log) }
     ensures frames { IsForSessions reader.new }
     ensures rest { HasRest worker session result book.old.journal.items book.new.journal.items (P.scene post.old) (P.scene post.new) }
-    ensures cause { EndHasCause result (P.link_faults post.old) (P.keeper_faults post.old) (P.link_faults post.new) (P.keeper_faults post.new) }
+    ensures cause { EndHasCause result (P.faults post.old) (P.faults post.new) }
 {
     match post.start(&Role::Pre { session }) {
         Ok(child) => serve_started(
@@ -303,7 +304,7 @@ pub(crate) fn run_session<P: Post, K: Sink>(
     ensures logged { Logged setup.now book.old.journal.items book.new.journal.items (K.held book.old.log) (K.held book.new.log) (K.faults book.old.log) (K.faults book.new.log) }
     ensures frames { IsForSessions reader.new }
     ensures sitting { HasSitting worker result book.old.journal.items book.new.journal.items (P.scene post.old) (P.scene post.new) }
-    ensures cause { EndHasCause result (P.link_faults post.old) (P.keeper_faults post.old) (P.link_faults post.new) (P.keeper_faults post.new) }
+    ensures cause { EndHasCause result (P.faults post.old) (P.faults post.new) }
 {
     let opening = book.apply(setup, worker, &Ask::Begin);
     if opening.decision.is_lost() {

@@ -1,5 +1,5 @@
 ghost use Rattle.std.specs.Prelude.{◌<◌, ◌≤◌, All, IfOk, length};
-ghost use Rattle.outside.specs.MemPost.{accept_faults_of, conn_faults_of, keeper_faults_of, link_faults_of, scene_of};
+ghost use Rattle.outside.specs.MemPost.{faults_of, scene_of};
 ghost use Rattle.outside.specs.Scene.{IsFresh};
 
 use super::{Detail, FileKind, Report, otplogd};
@@ -47,14 +47,14 @@ fn fail(call: CallKind, number: u32, sent: usize) -> Fail {
 fn post(alloc: Global, pre: &[u8], cuts: &[usize], fails: &[Fail]) -> Result<MemPost, AllocError>
     requires some_cut { 0 < length cuts.now }
     requires each_cut { All (λ c. 1 ≤ c) cuts.now }
-    ensures { IfOk result (IsFresh scene_of accept_faults_of keeper_faults_of link_faults_of conn_faults_of) }
+    ensures { IfOk result (IsFresh scene_of faults_of) }
 {
     let script = Script {
         client: Bytes::of(alloc, b"")?,
         pre: Bytes::of(alloc, pre)?,
         user: Bytes::of(alloc, b"")?,
     };
-    MemPost::new(alloc, vec![in alloc; script]?, cuts, 100, fails)
+    MemPost::new(alloc, vec![in alloc; script]?, cuts, &[0], 100, fails)
 }
 
 /// A run of `serve` with one such post.

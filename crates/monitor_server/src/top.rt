@@ -4,7 +4,7 @@ ghost use Rattle.std.specs.Prelude.{◌≡◌};
 ghost use Rattle.outside.specs.Files.{SameFiles};
 ghost use Rattle.outside.specs.Told.{Goes, Rose};
 ghost use Rattle.policy_model.specs.Settings.{plain_settings};
-ghost use Rattle.monitor_server.specs.Headline.{ConversationsMatch, FaultEndsAreCounted, IsComplete, JournalIsLegal, LogMatches, NoFault, OperationsMatch, RunsToQuota, SessionsInOrder, StatusHasCause};
+ghost use Rattle.monitor_server.specs.Headline.{ConversationsMatch, FaultEndsAreCounted, IsComplete, JournalIsLegal, ListensAt, LogMatches, NoFault, OperationsMatch, RunsToQuota, SessionsInOrder, StatusHasCause};
 ghost use Rattle.monitor_server.specs.Modes.{CheckMode, LeavesRest, PasswordMode};
 ghost use Rattle.monitor_server.specs.Ran.{Whole};
 
@@ -27,7 +27,8 @@ fn run_command<F: Files, S: Site, K: Sink, E: Stream>(
     log: K,
     ends: &mut E,
 ) -> Report<S::Post, K>
-    ensures whole { Whole words.now result.status result.detail result.journal.items result.posts.items S.Post.scene S.Post.accept_faults S.Post.link_faults S.Post.keeper_faults files.old files.new site.old site.new ends.old ends.new log result.log (F.contents files.new) (E.link ends.old) (E.link ends.new) (K.held log) (K.held result.log) (Rose (S.listen_faults site.old) (S.listen_faults site.new)) (Rose (K.faults log) (K.faults result.log)) (Rose (F.read_faults files.old) (F.read_faults files.new)) (Rose (E.faults ends.old) (E.faults ends.new)) }
+    ensures whole { Whole words.now result.status result.detail result.journal.items result.posts.items S.Post.scene S.Post.faults files.old files.new site.old site.new ends.old ends.new log result.log (F.contents files.new) (E.link ends.old) (E.link ends.new) (K.held log) (K.held result.log) (Rose (S.listen_faults site.old) (S.listen_faults site.new)) (Rose (K.faults log) (K.faults result.log)) (Rose (F.read_faults files.old) (F.read_faults files.new)) (Rose (E.faults ends.old) (E.faults ends.new)) }
+    ensures listens { ListensAt plain_settings result.posts.items (S.listens site.old) (S.listens site.new) }
     ensures files { Goes SameFiles (F.contents files.old) (F.contents files.new) }
 {
     match read_command(alloc, words) {
@@ -61,6 +62,8 @@ pub fn otplogd<F: Files, S: Site, K: Sink, E: Stream>(
     ensures legal { JournalIsLegal plain_settings result.journal.items }
     // Each worker's events are its sessions, one after the other.
     ensures sessions { SessionsInOrder result.journal.items }
+    // The site listens once, at the setup's place, where there are posts, and else nowhere.
+    ensures listens { ListensAt plain_settings result.posts.items (S.listens site.old) (S.listens site.new) }
     // The operations done are those of the sessions, and the bytes that passed are theirs.
     ensures operations { OperationsMatch S.Post.scene result.journal.items result.posts.items }
     ensures conversations { ConversationsMatch S.Post.scene result.journal.items result.posts.items }
@@ -69,7 +72,7 @@ pub fn otplogd<F: Files, S: Site, K: Sink, E: Stream>(
     // A worker that nothing stopped has served all its connections.
     ensures quota { RunsToQuota plain_settings S.Post.scene result.journal.items result.posts.items }
     // Each status has its cause.
-    ensures causes { StatusHasCause words.now result.status plain_settings result.journal.items result.posts.items S.Post.scene S.Post.accept_faults (Rose (S.listen_faults site.old) (S.listen_faults site.new)) (Rose (K.faults log) (K.faults result.log)) }
+    ensures causes { StatusHasCause words.now result.status plain_settings result.journal.items result.posts.items S.Post.scene S.Post.faults (Rose (S.listen_faults site.old) (S.listen_faults site.new)) (Rose (K.faults log) (K.faults result.log)) }
     // The mode `otp` prints the password that its words, files and input spell, or says why not.
     ensures password { PasswordMode words.now result.status result.detail (F.contents files.new) (E.link ends.old) (E.link ends.new) (Rose (F.read_faults files.old) (F.read_faults files.new)) (Rose (E.faults ends.old) (E.faults ends.new)) }
     // The mode `check` says what its files hold of a setup, or why it says nothing.
@@ -78,9 +81,9 @@ pub fn otplogd<F: Files, S: Site, K: Sink, E: Stream>(
     ensures leaves { LeavesRest words.now result.status result.detail files.old files.new site.old site.new ends.old ends.new log result.log result.journal.items result.posts.items }
     ensures files { Goes SameFiles (F.contents files.old) (F.contents files.new) }
     // Sessions end by a fault only as often as it was counted.
-    ensures fault_ends { FaultEndsAreCounted S.Post.link_faults S.Post.keeper_faults result.journal.items result.posts.items }
+    ensures fault_ends { FaultEndsAreCounted S.Post.faults result.journal.items result.posts.items }
     // Without a fault the run succeeds, or memory is wanted.
-    ensures complete { IsComplete words.now result.status S.Post.scene result.journal.items result.posts.items (NoFault (Rose (S.listen_faults site.old) (S.listen_faults site.new)) (Rose (K.faults log) (K.faults result.log)) S.Post.accept_faults S.Post.keeper_faults S.Post.link_faults result.posts.items) }
+    ensures complete { IsComplete words.now result.status S.Post.scene result.journal.items result.posts.items (NoFault (Rose (S.listen_faults site.old) (S.listen_faults site.new)) (Rose (K.faults log) (K.faults result.log)) S.Post.faults result.posts.items) }
 {
     run_command(alloc, words, files, site, log, ends)
 }

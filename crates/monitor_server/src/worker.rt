@@ -59,8 +59,8 @@ pub(crate) fn serve_worker<P: Post, K: Sink>(
     ensures capacity { vec_capacity book.new.journal ≡ vec_capacity book.old.journal }
     ensures logged { Logged setup.now book.old.journal.items book.new.journal.items (K.held book.old.log) (K.held book.new.log) (K.faults book.old.log) (K.faults book.new.log) }
     ensures frames { IsForSessions reader.new }
-    ensures story { HasStory worker setup.now.connections result book.old.journal.items book.new.journal.items (P.scene post.old) (P.scene post.new) (P.link_faults post.old) (P.keeper_faults post.old) (P.link_faults post.new) (P.keeper_faults post.new) }
-    ensures accept_fault { result ≡ WorkerEnd.AcceptFault → 0 < P.accept_faults post.new }
+    ensures story { HasStory worker setup.now.connections result book.old.journal.items book.new.journal.items (P.scene post.old) (P.scene post.new) (P.faults post.old) (P.faults post.new) }
+    ensures accept_fault { result ≡ WorkerEnd.AcceptFault → 0 < (P.faults post.new).accept }
 {
     for _ in 0..setup.connections() {
         let conn = match post.accept() {

@@ -8,7 +8,7 @@ mod complaint;
 use complaint::Complaint;
 use monitor_server::{Detail, otplogd};
 use outside::Word;
-use outside_real::{RealEnds, RealFiles, RealSink, RealSite};
+use outside_real::{RealEnds, RealFiles, RealSink, RealSite, fill_standard_streams};
 use std::alloc::{AllocError, Global};
 use std::env;
 use std::env::Args;
@@ -23,6 +23,9 @@ const NO_COMMAND: u8 = 2;
 
 /// Memory was wanted before the run began.
 const NO_MEMORY: u8 = 9;
+
+/// A standard stream was closed, and nothing can be opened in its place.
+const NO_STREAM: u8 = 11;
 
 /// The words of the command line, without the program's name.
 fn words_of(alloc: Global, args: Args) -> Result<Vec<Word>, AllocError> {
@@ -40,6 +43,9 @@ fn complain(rt: &impl Eprint, status: u8, detail: Detail) -> ExitCode {
 }
 
 fn main(rt: HostRuntime) -> ExitCode {
+    if fill_standard_streams(&rt).is_err() {
+        return complain(&rt, NO_STREAM, Detail::Nothing);
+    }
     let alloc = rt.alloc();
     let Ok(args) = env::args(&rt) else {
         return complain(&rt, NO_COMMAND, Detail::Nothing);

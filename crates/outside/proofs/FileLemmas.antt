@@ -1,4 +1,4 @@
-use Rattle.std.proofs.Common.{◌≡◌, ◌≢◌, ℕ, ◌≤◌, Bool, true, false, cond, ltb, List, [], ◌∷◌, ◌++◌, length, get_or, set, Option, Some, None, option_map, sym, ap, ◌∙◌, refl, arith, rules}
+use Rattle.std.proofs.Common.{◌≡◌, ◌≢◌, ℕ, ◌≤◌, Bool, true, false, List, [], ◌∷◌, ◌++◌, length, get_or, set, Option, Some, None, option_map, sym, ap, ◌∙◌, refl, arith}
 use Rattle.std.specs.List.{find, position, position_or_len}
 use Rattle.std.specs.Option.{option_or}
 use Rattle.std.specs.Str.{bytes_eq}
@@ -11,19 +11,19 @@ use Rattle.outside.specs.Files.{Replaced}
 use Rattle.outside.specs.MemFiles.{file_of}
 
 -- a name passes its own test, and no other
-bytes_eq-same : (a b : List ℕ) → a ≡ b → bytes_eq a b ≡ true
+pub bytes_eq-same : (a b : List ℕ) → a ≡ b → bytes_eq a b ≡ true
 bytes_eq-same a b e = (bytes_eq-Decides a b).1 e
 
-bytes_eq-other : (a b c : List ℕ) → bytes_eq a b ≡ true → c ≢ b → bytes_eq a c ≡ false
+pub bytes_eq-other : (a b c : List ℕ) → bytes_eq a b ≡ true → c ≢ b → bytes_eq a c ≡ false
 bytes_eq-other a b c e ne =
     false_from_ne_true (bytes_eq a c) (λ t. ne (sym ((bytes_eq-Decides a c).0 t) ∙ (bytes_eq-Decides a b).0 e))
 
 -- the place of the first that passes, where one does
-position-is : {X : Type 0} (p : X → Bool) (xs : List X) (i : ℕ) → position p xs ≡ Some i → i ≡ position_or_len p xs
+pub position-is : {X : Type 0} (p : X → Bool) (xs : List X) (i : ℕ) → position p xs ≡ Some i → i ≡ position_or_len p xs
 position-is p xs i e = grind arith
 
 -- nothing passes where there is no place
-find-none : {X : Type 0} (p : X → Bool) (xs : List X) → position p xs ≡ None → find p xs ≡ None
+pub find-none : {X : Type 0} (p : X → Bool) (xs : List X) → position p xs ≡ None → find p xs ≡ None
 find-none p xs e =
     let past : length xs ≤ position_or_len p xs = grind arith in
     find_at p xs ∙ slice_get_past xs (position_or_len p xs) past
@@ -39,10 +39,10 @@ Replaced-set pairs name bytes i pair named holds at =
     }
 
 -- where the first part has none, the second counts, and where the second has none, the first
-find-first-none : {X : Type 0} (p : X → Bool) (xs : List X) (x : X) → find p xs ≡ None → p x ≡ true → find p (xs ++ x ∷ []) ≡ Some x
+pub find-first-none : {X : Type 0} (p : X → Bool) (xs : List X) (x : X) → find p xs ≡ None → p x ≡ true → find p (xs ++ x ∷ []) ≡ Some x
 find-first-none p xs x none passes = rw (find-append p xs (x ∷ []), none, passes) refl
 
-find-second-none : {X : Type 0} (p : X → Bool) (xs : List X) (x : X) → p x ≡ false → find p (xs ++ x ∷ []) ≡ find p xs
+pub find-second-none : {X : Type 0} (p : X → Bool) (xs : List X) (x : X) → p x ≡ false → find p (xs ++ x ∷ []) ≡ find p xs
 find-second-none p xs x fails = rw (find-append p xs (x ∷ []), fails) (or-none (find p xs))
   where
     or-none : {Y : Type 0} (o : Option Y) → option_or o None ≡ o

@@ -1,7 +1,9 @@
 pub mod Told
+pub mod Counts
 pub mod Exchanges
 pub mod Scenes
-mod CutLemmas
+mod RepeatingLemmas
 mod FileLemmas
 mod ReceivingLemmas
 mod ScriptLemmas
+mod VaultLemmas

@@ -5,7 +5,7 @@ use Rattle.std.proofs.lemmas.Grind.{common_steps}
 use Rattle.outside.specs.Told.{Goes, told_if}
 use Rattle.outside.specs.Link.{Exchanged}
 use Rattle.outside.specs.MemStream.{link_at}
-use Rattle.outside.specs.Cuts.{next_piece}
+use Rattle.outside.specs.Repeating.{next_item}
 
 -- the next n bytes of the input are received
 Exchanged-next : (input sent : List ℕ) (at n : ℕ) → Exchanged (take n (drop at input)) [] (link_at input sent at) (link_at input sent (at + n))
@@ -22,13 +22,13 @@ Goes-received true input sent lent part rest at n same fits short is =
     let e : take n (part ++ rest) ≡ take n (drop at input) = grind (arith, common_steps) in rw e (Exchanged-next input sent at n)
 
 -- the first cut is at least 1, where each is and there is one
-next_piece-pos : (cs : List ℕ) → All (λ c. 1 ≤ c) cs → 0 < length cs → 1 ≤ next_piece cs
-next_piece-pos [] each some = absurd (omega arith)
-next_piece-pos (c ∷ cs) each some = each 0 0 (omega arith)
+next_item-pos : (cs : List ℕ) → All (λ c. 1 ≤ c) cs → 0 < length cs → 1 ≤ next_item cs
+next_item-pos [] each some = absurd (omega arith)
+next_item-pos (c ∷ cs) each some = each 0 0 (omega arith)
 
 -- nothing is received from a stream that tells only where nothing is left
-pub left-none : (telling : Bool) (input sent lent cs : List ℕ) (at n room : ℕ) → All (λ c. 1 ≤ c) cs → (IsTrue telling → 0 < length cs) → lent ≡ input → 0 < room → n ≡ min (min (next_piece cs) room) (length (take (length lent - at) (drop at lent))) → n ≡ 0 → IfSome (told_if telling (link_at input sent (at + n))) (λ l. l.left ≡ [])
+pub left-none : (telling : Bool) (input sent lent cs : List ℕ) (at n room : ℕ) → All (λ c. 1 ≤ c) cs → (IsTrue telling → 0 < length cs) → lent ≡ input → 0 < room → n ≡ min (min (next_item cs) room) (length (take (length lent - at) (drop at lent))) → n ≡ 0 → IfSome (told_if telling (link_at input sent (at + n))) (λ l. l.left ≡ [])
 left-none false input sent lent cs at n room each some same roomy is none = tt
 left-none true input sent lent cs at n room each some same roomy is none =
-    let pos = next_piece-pos cs each (some refl) in
+    let pos = next_item-pos cs each (some refl) in
     drop_all (at + n) input (omega (arith, ap length same, length-take (length lent - at) (drop at lent), length-drop at lent))

@@ -1,7 +1,6 @@
-use Rattle.std.proofs.Common.{◌≡◌, ℕ, zero, suc, ◌-◌, ◌<◌, ◌≤◌, List, [], ◌∷◌, length, get_or, Some, unwrap_or, option_map, ap, sym, ◌∙◌, refl, arith}
+use Rattle.std.proofs.Common.{◌≡◌, ℕ, zero, suc, ◌-◌, ◌<◌, ◌≤◌, List, [], ◌∷◌, length, get_or, Some, unwrap_or, option_map, ap, sym, ◌∙◌, arith}
 use Rattle.std.specs.Prelude.{slice_get}
 use Rattle.outside.specs.declared.act.Role.{Role}
-use Rattle.outside.specs.declared.act.Role.TheVariants.{Pre}
 use Rattle.outside.specs.declared.memory.script.Script.{Script}
 use Rattle.outside.specs.Scene.{bytes_at, bytes_for}
 use Rattle.outside.specs.Script.{plan_of}
@@ -18,7 +17,3 @@ bytes_at-plan_of role scripts zero script some fits is = absurd (omega arith)
 bytes_at-plan_of role scripts (suc k) script some fits is =
     let before : suc k - 1 ≡ k = omega arith in
     ap (λ e. unwrap_or (option_map (bytes_for role) e) []) (slice_get-plan_of scripts k script (omega arith) (is ∙ ap (λ i. get_or scripts i script) before))
-
--- the bytes for a child before the login
-pub bytes_for-pre : (role : Role) (entry : List ℕ × List ℕ) → bytes_for role entry ≡ entry.0
-bytes_for-pre (Pre session) entry = refl

@@ -1,6 +1,6 @@
-use Rattle.std.specs.Prelude.{ℕ, ◌+◌, ◌-◌, ◌^◌, ◌==◌, ◌&&◌, min, Bool, true, false, List, find, take, Option, Some, None, option_map}
+use Rattle.std.specs.Prelude.{ℕ, ◌==◌, ◌&&◌, Bool, true, false, List, find, take, Option, Some, None, option_map}
 use Rattle.outside.specs.declared.memory.fail.CallKind.{CallKind}
-use Rattle.outside.specs.declared.memory.fail.CallKind.TheVariants.{Recv, Send, Append, Read, Replace, Accept, Start, ConnSend}
+use Rattle.outside.specs.declared.memory.fail.CallKind.TheVariants.{Recv, Send, Append, Read, Replace, Accept, Start, ConnRecv, ConnSend, VaultRead, VaultWrite}
 use Rattle.outside.specs.declared.memory.fail.Fail.{Fail}
 
 -- whether two calls are of one kind
@@ -12,7 +12,10 @@ same_kind Read Read = true
 same_kind Replace Replace = true
 same_kind Accept Accept = true
 same_kind Start Start = true
+same_kind ConnRecv ConnRecv = true
 same_kind ConnSend ConnSend = true
+same_kind VaultRead VaultRead = true
+same_kind VaultWrite VaultWrite = true
 same_kind _ _ = false
 
 -- how many bytes still go out by the call of this kind with this number, if it is to fail: as the
@@ -25,7 +28,3 @@ failure_of fails call number =
 abbrev pub bytes_let_out : Option ℕ → List ℕ → List ℕ
 bytes_let_out None bytes = bytes
 bytes_let_out (Some sent) bytes = take sent bytes
-
--- the number of the call after so many, which stands still at its type's end
-abbrev pub next_number : ℕ → ℕ
-next_number made = min (made + 1) (2 ^ 64 - 1)

@@ -3,9 +3,9 @@ use Rattle.std.specs.Str.{bytes_eq}
 use Rattle.outside.specs.declared.memory.fail.CallKind.TheVariants.{Read, Replace}
 use Rattle.outside.specs.declared.memory.fail.Fail.{Fail}
 use Rattle.outside.specs.declared.memory.files.MemFiles.{MemFiles}
-use Rattle.outside.specs.Failures.{failure_of, next_number}
+use Rattle.outside.specs.Failures.{failure_of}
 use Rattle.outside.specs.Files.{Contents}
-use Rattle.outside.specs.Told.{told_if}
+use Rattle.outside.specs.Told.{next_count, told_if}
 
 -- the bytes of the first of these pairs that has the name, if there is one
 abbrev pub file_of : List (List ℕ × List ℕ) → List ℕ → Option (List ℕ)
@@ -36,8 +36,8 @@ files_schedule f = record { fails = f.fails.items; reads = f.reads; replaces = f
 
 -- the failure of the next reading, if it is to fail
 abbrev pub read_failure : FilesSchedule → Option ℕ
-read_failure s = failure_of s.fails Read (next_number s.reads)
+read_failure s = failure_of s.fails Read (next_count s.reads)
 
 -- the failure of the next replacing, if it is to fail
 abbrev pub replace_failure : FilesSchedule → Option ℕ
-replace_failure s = failure_of s.fails Replace (next_number s.replaces)
+replace_failure s = failure_of s.fails Replace (next_count s.replaces)

@@ -1,46 +1,51 @@
-use Rattle.std.specs.Prelude.{ℕ, List, Option}
-use Rattle.outside.specs.declared.memory.fail.CallKind.TheVariants.{Accept, Start, ConnSend}
+-- What contracts see of a post in memory.
+use Rattle.std.specs.Prelude.{◌≡◌, ℕ, ◌+◌, ◌-◌, ◌^◌, min, List, [], drop, get_or, length, slice_get, Option, option_map, unwrap_or}
+use Rattle.outside.specs.declared.faults.Faults.{Faults}
+use Rattle.outside.specs.declared.memory.conn.MemConn.{MemConn}
+use Rattle.outside.specs.declared.memory.fail.CallKind.TheVariants.{Accept, Start, ConnRecv, ConnSend, VaultRead, VaultWrite}
 use Rattle.outside.specs.declared.memory.fail.Fail.{Fail}
 use Rattle.outside.specs.declared.memory.script.Script.{Script}
 use Rattle.outside.specs.declared.memory.post.MemPost.{MemPost}
-use Rattle.outside.specs.Failures.{failure_of, next_number}
+use Rattle.outside.specs.Failures.{failure_of}
 use Rattle.outside.specs.Scene.{Scene}
 use Rattle.outside.specs.Script.{plan_of}
+use Rattle.outside.specs.Told.{next_count}
 use Rattle.outside.specs.Transcript.{scene_with}
-
--- what a post in memory goes by: the calls of it and of the child that it starts next that are to
--- fail, the cuts of its children, the room for acts, the scripts, and how many connections came and
--- how many calls of each kind were made
-pub record PostSchedule : Type 0 where
-  pub fails : List Fail
-  pub child_fails : List Fail
-  pub cuts : List ℕ
-  pub room : ℕ
-  pub scripts : List Script
-  pub came : ℕ
-  pub accepts : ℕ
-  pub starts : ℕ
-  pub conn_sends : ℕ
+use Rattle.outside.specs.Vaults.{Vault, vault_of}
 
 -- what the post tells
 abbrev pub scene_of : MemPost → Option Scene
 scene_of p = scene_with p.transcript (plan_of p.scripts.items)
 
--- how many accepts failed
-abbrev pub accept_faults_of : MemPost → ℕ
-accept_faults_of p = p.accept_faults
+-- how many faults it had, by kind
+abbrev pub faults_of : MemPost → Faults
+faults_of p = p.faults
 
--- how many starts failed
-abbrev pub keeper_faults_of : MemPost → ℕ
-keeper_faults_of p = p.keeper_faults
+-- what stands in the users' files, if it is told
+abbrev pub users_files : MemPost → Option Vault
+users_files p = vault_of p.vault
 
--- how many children that were given back had a fault
-abbrev pub link_faults_of : MemPost → ℕ
-link_faults_of p = p.link_faults
+-- how many calls of each kind were made
+pub record CallsMade : Type 0 where
+  pub accepts : ℕ
+  pub starts : ℕ
+  pub conn_recvs : ℕ
+  pub conn_sends : ℕ
+  pub vault_reads : ℕ
+  pub vault_writes : ℕ
 
--- how many sends to a client failed
-abbrev pub conn_faults_of : MemPost → ℕ
-conn_faults_of p = p.conn_faults
+-- what a post in memory goes by: the calls of it and of the child that it starts next that are to
+-- fail, the cuts of its children and connections, the moments that its clock has still to give, the
+-- room for acts, the scripts, how many connections came, and the calls made
+pub record PostSchedule : Type 0 where
+  pub fails : List Fail
+  pub child_fails : List Fail
+  pub cuts : List ℕ
+  pub moments : List ℕ
+  pub room : ℕ
+  pub scripts : List Script
+  pub came : ℕ
+  pub made : CallsMade
 
 -- what the post goes by
 abbrev pub post_schedule : MemPost → PostSchedule
@@ -48,22 +53,58 @@ post_schedule p = record {
   fails = p.fails.items;
   child_fails = p.child_fails.items;
   cuts = p.cuts.items;
+  moments = p.moments;
   room = p.transcript.room;
   scripts = p.scripts.items;
   came = p.came;
-  accepts = p.accepts;
-  starts = p.starts;
-  conn_sends = p.conn_sends;
+  made = record {
+    accepts = p.made.accepts;
+    starts = p.made.starts;
+    conn_recvs = p.made.conn_recvs;
+    conn_sends = p.made.conn_sends;
+    vault_reads = p.made.vault_reads;
+    vault_writes = p.made.vault_writes;
+  };
 }
 
 -- the failure of the next accept, if it is to fail
 abbrev pub accept_failure : PostSchedule → Option ℕ
-accept_failure s = failure_of s.fails Accept (next_number s.accepts)
+accept_failure s = failure_of s.fails Accept (next_count s.made.accepts)
 
 -- the failure of the next start, if it is to fail
 abbrev pub start_failure : PostSchedule → Option ℕ
-start_failure s = failure_of s.fails Start (next_number s.starts)
+start_failure s = failure_of s.fails Start (next_count s.made.starts)
+
+-- the failure of the next receiving from a client, if it is to fail
+abbrev pub conn_recv_failure : PostSchedule → Option ℕ
+conn_recv_failure s = failure_of s.fails ConnRecv (next_count s.made.conn_recvs)
 
 -- the failure of the next send to a client, if it is to fail
 abbrev pub conn_send_failure : PostSchedule → Option ℕ
-conn_send_failure s = failure_of s.fails ConnSend (next_number s.conn_sends)
+conn_send_failure s = failure_of s.fails ConnSend (next_count s.made.conn_sends)
+
+-- the failure of the next reading of a user's file, if it is to fail
+abbrev pub vault_read_failure : PostSchedule → Option ℕ
+vault_read_failure s = failure_of s.fails VaultRead (next_count s.made.vault_reads)
+
+-- the failure of the next writing into a user's file, if it is to fail
+abbrev pub vault_write_failure : PostSchedule → Option ℕ
+vault_write_failure s = failure_of s.fails VaultWrite (next_count s.made.vault_writes)
+
+-- what the client of the script with this number sends; nothing where there is none
+abbrev pub client_bytes : List Script → ℕ → List ℕ
+client_bytes scripts number = unwrap_or (option_map (λ s. s.client) (slice_get scripts number)) []
+
+-- what the client of a connection has still to send
+abbrev pub client_left : List Script → MemConn → List ℕ
+client_left scripts conn = drop conn.taken (client_bytes scripts conn.script)
+
+-- the length of a connection's next piece: the cut of its number, or the last one
+abbrev pub conn_piece : List ℕ → MemConn → ℕ
+conn_piece cuts conn = get_or cuts (min conn.pieces (length cuts - 1)) 0
+
+-- a connection by which so many more bytes were received
+pub record HasReceived (count : ℕ) (before after : MemConn) : Type 0 where
+  pub script : after.script ≡ before.script
+  pub taken : after.taken ≡ min (before.taken + count) (2 ^ 64 - 1)
+  pub pieces : after.pieces ≡ next_count before.pieces

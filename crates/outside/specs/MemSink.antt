@@ -2,8 +2,9 @@ use Rattle.std.specs.Prelude.{ℕ, List, Option}
 use Rattle.outside.specs.declared.memory.fail.CallKind.TheVariants.{Append}
 use Rattle.outside.specs.declared.memory.fail.Fail.{Fail}
 use Rattle.outside.specs.declared.memory.sink.MemSink.{MemSink}
-use Rattle.outside.specs.Failures.{failure_of, next_number}
+use Rattle.outside.specs.Failures.{failure_of}
 use Rattle.outside.specs.Output.{told_bytes}
+use Rattle.outside.specs.Told.{next_count}
 
 -- the bytes that the sink holds, if it tells them
 abbrev pub held_of : MemSink → Option (List ℕ)
@@ -24,4 +25,4 @@ sink_schedule s = record { fails = s.fails.items; appends = s.appends }
 
 -- how many bytes still go out by the next append, if it is to fail
 abbrev pub append_failure : SinkSchedule → Option ℕ
-append_failure s = failure_of s.fails Append (next_number s.appends)
+append_failure s = failure_of s.fails Append (next_count s.appends)

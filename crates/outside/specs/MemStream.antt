@@ -4,9 +4,9 @@ use Rattle.outside.specs.declared.memory.fail.CallKind.TheVariants.{Recv, Send}
 use Rattle.outside.specs.declared.memory.fail.Fail.{Fail}
 use Rattle.outside.specs.declared.memory.stream.Closed.{Closed}
 use Rattle.outside.specs.declared.memory.stream.MemStream.{MemStream}
-use Rattle.outside.specs.Failures.{failure_of, next_number}
+use Rattle.outside.specs.Failures.{failure_of}
 use Rattle.outside.specs.Link.{Link}
-use Rattle.outside.specs.Told.{told_if}
+use Rattle.outside.specs.Told.{next_count, told_if}
 
 -- what a stream that has received so many bytes of its input tells
 abbrev pub link_at : List ℕ → List ℕ → ℕ → Link
@@ -40,11 +40,11 @@ stream_schedule s =
 
 -- the failure of the next receiving, if it is to fail
 abbrev pub recv_failure : StreamSchedule → Option ℕ
-recv_failure s = failure_of s.fails Recv (next_number s.recvs)
+recv_failure s = failure_of s.fails Recv (next_count s.recvs)
 
 -- how many bytes still go out by the next send, if it is to fail
 abbrev pub send_failure : StreamSchedule → Option ℕ
-send_failure s = failure_of s.fails Send (next_number s.sends)
+send_failure s = failure_of s.fails Send (next_count s.sends)
 
 -- what a stream to a child of this role told, as it stands once the stream is closed
 pub record IsClosed (role : Role) (closed : Closed) (link : Link) : Type 0 where

@@ -1,12 +1,14 @@
-use Rattle.std.specs.Prelude.{◌≡◌, ℕ, Bool, true, false, List, [], ◌∷◌, ◌++◌, count_by, slice_get, zero, suc, unwrap_or, Option, Some, None, option_map, Result, Ok, Err, IfSome}
+use Rattle.std.specs.Prelude.{◌≡◌, ℕ, Bool, true, false, List, [], ◌∷◌, ◌++◌, count_by, slice_get, take, zero, suc, unwrap_or, Option, Some, None, option_map, Result, Ok, Err, IfSome}
 use Rattle.outside.specs.declared.act.Failed.{Failed}
 use Rattle.outside.specs.declared.act.Role.{Role}
-use Rattle.outside.specs.declared.act.Role.TheVariants.{Pre}
+use Rattle.outside.specs.declared.act.Role.TheVariants.{Pre, User}
 use Rattle.outside.specs.declared.act.Accepted.{Accepted}
 use Rattle.outside.specs.declared.act.Accepted.TheVariants.{Came, NoneLeft, Failed as AcceptFailed}
 use Rattle.outside.specs.declared.act.Act.{Act}
 use Rattle.outside.specs.declared.act.Act.TheVariants.{Accept, Finish}
 use Rattle.outside.specs.declared.act.Talk.{Talk}
+use Rattle.outside.specs.declared.faults.Faults.{Faults}
+use Rattle.outside.specs.Faults.{AreCounts}
 use Rattle.outside.specs.Told.{Goes}
 use Rattle.outside.specs.Link.{Link}
 
@@ -41,6 +43,11 @@ abbrev pub started_outcome : {Child : Type 0} → Result Child Failed → Result
 started_outcome (Ok _) = Ok tt
 started_outcome (Err failed) = Err failed
 
+-- what a receiving or a reading came to: the bytes that it put to the front of the buffer
+abbrev pub received_outcome : Result ℕ Failed → List ℕ → Result (List ℕ) Failed
+received_outcome (Ok n) buffer = Ok (take n buffer)
+received_outcome (Err failed) buffer = Err failed
+
 -- whether the operation is an accept by which a connection came
 abbrev pub is_coming : Act → Bool
 is_coming (Accept Came) = true
@@ -53,6 +60,7 @@ came_count acts = count_by is_coming acts
 -- the bytes that the child of this role has to send, of a connection's two
 abbrev pub bytes_for : Role → List ℕ × List ℕ → List ℕ
 bytes_for (Pre _) entry = entry.0
+bytes_for (User _ _ _) entry = entry.1
 
 -- the bytes of the entry that stands at this place of the plan, counted from 1; none at no place
 abbrev pub bytes_at : Role → List (List ℕ × List ℕ) → ℕ → List ℕ
@@ -82,9 +90,6 @@ pub record IsUnplayed (scene : Scene) : Type 0 where
 
 -- a post that was just made, by what these say of it: where it tells, nothing was asked of it, and
 -- its counts are 0
-pub record IsFresh {P : Type 0} (scene : P → Option Scene) (accept_faults keeper_faults link_faults conn_faults : P → ℕ) (post : P) : Type 0 where
+pub record IsFresh {P : Type 0} (scene : P → Option Scene) (faults : P → Faults) (post : P) : Type 0 where
   pub unplayed : IfSome (scene post) IsUnplayed
-  pub no_accept_fault : accept_faults post ≡ 0
-  pub no_keeper_fault : keeper_faults post ≡ 0
-  pub no_link_fault : link_faults post ≡ 0
-  pub no_conn_fault : conn_faults post ≡ 0
+  pub faultless : AreCounts 0 0 0 0 0 (faults post)

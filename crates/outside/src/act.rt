@@ -1,4 +1,5 @@
 use crate::bytes::Bytes;
+use request_catalogue::{Label, Name};
 
 /// A fault of the outside. An object answers it only where its count of such faults rose in the
 /// same call.
@@ -10,6 +11,8 @@ pub struct Failed;
 pub enum Role {
     /// The child before the login, of the session with this number.
     Pre { session: u32 },
+    /// The child of a user who is logged in: the session's number, and the user's id and name.
+    User { session: u32, uid: u32, user: Name },
 }
 
 /// What an accept came to.
@@ -41,10 +44,36 @@ pub enum Act {
     },
     /// The connection was closed.
     HangUp,
+    /// Up to `max` bytes of the client were waited for, and these came.
+    ConnRecv {
+        max: usize,
+        outcome: Result<Bytes, Failed>,
+    },
     /// The client was sent these bytes; where that failed, perhaps a part of them.
     ConnSend {
         bytes: Bytes,
         outcome: Result<(), Failed>,
+    },
+    /// Up to `max` bytes of a user's file were read from `offset` on, and there were these.
+    VaultRead {
+        uid: u32,
+        name: Label,
+        offset: u64,
+        max: usize,
+        outcome: Result<Bytes, Failed>,
+    },
+    /// These bytes were written into a user's file from `offset` on; where that failed, perhaps a
+    /// part of them.
+    VaultWrite {
+        uid: u32,
+        name: Label,
+        offset: u64,
+        bytes: Bytes,
+        outcome: Result<(), Failed>,
+    },
+    /// The clock was read, and it was this moment, in milliseconds.
+    Clock {
+        moment: u64,
     },
 }
 

@@ -1,6 +1,7 @@
 ghost use Rattle.std.specs.Prelude.{◌≡◌, ℕ, ◌≤◌, length, Option, IfOk, IfSome, OnErr, OnOk};
 ghost use Rattle.outside.specs.Files.{Contents, MayBeReplaced, Replaced, SameFiles, bytes_read, piece_of};
-ghost use Rattle.outside.specs.Told.{Goes, Rose};
+ghost use Rattle.outside.specs.Faults.{count_after};
+ghost use Rattle.outside.specs.Told.{Goes};
 
 use crate::act::Failed;
 use crate::bytes::Word;
@@ -23,10 +24,10 @@ pub trait Files: Drop {
         ensures bound { IfOk result (λ found. IfSome found (λ n. n ≤ length buf.old)) }
         ensures found { IfOk result (λ found. IfSome (contents self.new) (λ files.
             bytes_read found buf.new ≡ piece_of (files name.now) offset (length buf.old))) }
-        ensures kept { Goes SameFiles (contents self.old) (contents self.new) }
-        ensures failed { OnErr result (Rose (read_faults self.old) (read_faults self.new)) }
-        ensures read_faults { read_faults self.old ≤ read_faults self.new }
-        ensures replace_faults { replace_faults self.old ≤ replace_faults self.new };
+        ensures same { Goes SameFiles (contents self.old) (contents self.new) }
+        ensures counts { read_faults self.new ≡ count_after result (read_faults self.old) }
+        ensures kept { read_faults self.old ≤ read_faults self.new }
+        ensures others { replace_faults self.new ≡ replace_faults self.old };
 
     /// Replaces what a file holds, or makes the file. `Failed`: it is as it was, or has been
     /// replaced.
@@ -35,7 +36,7 @@ pub trait Files: Drop {
             (contents self.new)) }
         ensures err { OnErr result (Goes (MayBeReplaced name.now bytes.now) (contents self.old)
             (contents self.new)) }
-        ensures failed { OnErr result (Rose (replace_faults self.old) (replace_faults self.new)) }
-        ensures read_faults { read_faults self.old ≤ read_faults self.new }
-        ensures replace_faults { replace_faults self.old ≤ replace_faults self.new };
+        ensures counts { replace_faults self.new ≡ count_after result (replace_faults self.old) }
+        ensures kept { replace_faults self.old ≤ replace_faults self.new }
+        ensures others { read_faults self.new ≡ read_faults self.old };
 }

@@ -4,6 +4,7 @@
 
 mod act;
 mod bytes;
+mod faults;
 mod files;
 mod memory;
 mod place;
@@ -14,6 +15,7 @@ mod stream;
 
 pub use act::{Accepted, Act, Failed, Role, Talk};
 pub use bytes::{Bytes, Word};
+pub use faults::Faults;
 pub use files::Files;
 pub use memory::{CallKind, Fail, MemConn, MemFiles, MemPost, MemSink, MemSite, MemStream, Script};
 pub use place::Place;

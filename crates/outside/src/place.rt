@@ -1,4 +1,7 @@
+ghost use Rattle.std.specs.Prelude.{◌≡◌, IfOk};
+
 use crate::bytes::Word;
+use std::alloc::{AllocError, Global};
 
 /// Where and how a site listens.
 #[derive(Debug, Drop)]
@@ -11,4 +14,18 @@ pub struct Place {
     pub vault: Word,
     /// The number of workers, each with a post of its own: at least 1 where a site listens.
     pub workers: u32,
+}
+
+impl Place {
+    /// A copy of the place.
+    pub fn copy(&self, alloc: Global) -> Result<Place, AllocError>
+        ensures { IfOk result (λ place. place ≡ self.now) }
+    {
+        Ok(Place {
+            socket: self.socket.copy(alloc)?,
+            launcher: self.launcher.copy(alloc)?,
+            vault: self.vault.copy(alloc)?,
+            workers: self.workers,
+        })
+    }
 }

@@ -1,5 +1,6 @@
 ghost use Rattle.std.specs.Prelude.{◌≡◌, ℕ, ◌≤◌, List, take, Option, OnErr, OnOk};
-ghost use Rattle.outside.specs.Told.{Gains, GainsPart, Rose};
+ghost use Rattle.outside.specs.Faults.{count_after};
+ghost use Rattle.outside.specs.Told.{Gains, GainsPart};
 
 use crate::act::Failed;
 
@@ -15,6 +16,6 @@ pub trait Sink: Drop + Send {
     fn append(&mut self, bytes: &[u8]) -> Result<(), Failed>
         ensures ok { OnOk result (Gains (held self.old) bytes.now (held self.new)) }
         ensures part { OnErr result (GainsPart (held self.old) bytes.now (held self.new)) }
-        ensures failed { OnErr result (Rose (faults self.old) (faults self.new)) }
-        ensures faults { faults self.old ≤ faults self.new };
+        ensures counts { faults self.new ≡ count_after result (faults self.old) }
+        ensures kept { faults self.old ≤ faults self.new };
 }

@@ -1,6 +1,9 @@
-ghost use Rattle.std.specs.Prelude.{◌≡◌, ℕ, ◌+◌, ◌≤◌, All, Option, IfOk, OnErr, OnOk, vec_len};
+ghost use Rattle.std.specs.Prelude.{◌≡◌, ℕ, ◌≤◌, List, [], ◌∷◌, ◌++◌, All, Option, IfOk, vec_len};
+ghost use Rattle.outside.specs.declared.place.Place.{Place};
+ghost use Rattle.outside.specs.Faults.{count_after};
+ghost use Rattle.outside.specs.Places.{places_listened};
 ghost use Rattle.outside.specs.Scene.{IsFresh};
-ghost use Rattle.outside.specs.Told.{Goes, Rose};
+ghost use Rattle.outside.specs.Told.{Gains};
 
 use crate::act::Failed;
 use crate::place::Place;
@@ -11,8 +14,8 @@ pub trait Site: Drop {
     /// The outside of one worker.
     type Post: Post;
 
-    // How many of its calls answered `Ok`, where it tells that.
-    ghost listens: { Self → Option ℕ };
+    // The places where it listened: those of its calls that answered `Ok`, in order.
+    ghost listens: { Self → Option (List Place) };
 
     // How many of its calls failed.
     ghost listen_faults: { Self → ℕ };
@@ -21,12 +24,9 @@ pub trait Site: Drop {
     fn listen(&mut self, place: &Place) -> Result<Vec<Self::Post>, Failed>
         requires { 1 ≤ place.now.workers }
         ensures workers { IfOk result (λ posts. vec_len posts ≡ place.now.workers) }
-        ensures fresh { IfOk result (λ posts. All (IsFresh Self.Post.scene Self.Post.accept_faults
-            Self.Post.keeper_faults Self.Post.link_faults Self.Post.conn_faults) posts.items) }
-        ensures ok { OnOk result
-            (Goes (λ before after. after ≡ before + 1) (listens self.old) (listens self.new)) }
-        ensures err { OnErr result
-            (Goes (λ before after. after ≡ before) (listens self.old) (listens self.new)) }
-        ensures failed { OnErr result (Rose (listen_faults self.old) (listen_faults self.new)) }
-        ensures listen_faults { listen_faults self.old ≤ listen_faults self.new };
+        ensures fresh { IfOk result (λ posts.
+            All (IsFresh Self.Post.scene Self.Post.faults) posts.items) }
+        ensures listens { Gains (listens self.old) (places_listened result place.now)
+            (listens self.new) }
+        ensures counts { listen_faults self.new ≡ count_after result (listen_faults self.old) };
 }

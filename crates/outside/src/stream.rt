@@ -1,7 +1,8 @@
 ghost use Rattle.std.specs.Prelude.{◌≡◌, ℕ, ◌<◌, ◌≤◌, [], length, Option, IfOk, IfSome, OnErr, OnOk};
 ghost use Rattle.outside.specs.declared.act.Role.{Role};
 ghost use Rattle.outside.specs.Link.{Exchanged, Link, SendsPart, received_bytes};
-ghost use Rattle.outside.specs.Told.{Goes, Rose};
+ghost use Rattle.outside.specs.Faults.{count_after};
+ghost use Rattle.outside.specs.Told.{Goes};
 
 use crate::act::Failed;
 
@@ -24,15 +25,15 @@ pub trait Stream: Drop + Send {
         ensures link { Goes (Exchanged (received_bytes result buf.new) []) (link self.old)
             (link self.new) }
         ensures end { result ≡ Ok 0 → IfSome (link self.new) (λ l. l.left ≡ []) }
-        ensures failed { OnErr result (Rose (faults self.old) (faults self.new)) }
-        ensures faults { faults self.old ≤ faults self.new }
+        ensures counts { faults self.new ≡ count_after result (faults self.old) }
+        ensures kept { faults self.old ≤ faults self.new }
         ensures role { role self.new ≡ role self.old };
 
     /// Sends all bytes. `Failed`: a first part of them was sent, perhaps none.
     fn send(&mut self, bytes: &[u8]) -> Result<(), Failed>
         ensures ok { OnOk result (Goes (Exchanged [] bytes.now) (link self.old) (link self.new)) }
         ensures part { OnErr result (SendsPart bytes.now (link self.old) (link self.new)) }
-        ensures failed { OnErr result (Rose (faults self.old) (faults self.new)) }
-        ensures faults { faults self.old ≤ faults self.new }
+        ensures counts { faults self.new ≡ count_after result (faults self.old) }
+        ensures kept { faults self.old ≤ faults self.new }
         ensures role { role self.new ≡ role self.old };
 }

@@ -1,11 +1,12 @@
 ghost use Rattle.std.specs.Prelude.{◌≡◌, ◌<◌, ◌≤◌, IfOk, IfSome, length};
-ghost use Rattle.outside.specs.MemPost.{accept_faults_of, conn_faults_of, keeper_faults_of, link_faults_of, scene_of};
+ghost use Rattle.outside.specs.MemPost.{faults_of, scene_of};
 ghost use Rattle.outside.specs.Scene.{IsFresh};
 
 use super::{
     Accepted, Act, Bytes, CallKind, Fail, Failed, Files, MemConn, MemFiles, MemPost, MemSink,
     MemSite, MemStream, Place, Post, Role, Script, Sink, Site, Stream, Talk, Word,
 };
+use request_catalogue::Label;
 use std::alloc::{AllocError, Global};
 use std::test::Fail as Fault;
 
@@ -130,11 +131,10 @@ fn script(alloc: Global, pre: &[u8]) -> Result<Script, AllocError> {
 }
 
 fn post(alloc: Global, room: usize, fails: &[Fail]) -> Result<MemPost, AllocError>
-    ensures { IfOk result
-        (IsFresh scene_of accept_faults_of keeper_faults_of link_faults_of conn_faults_of) }
+    ensures { IfOk result (IsFresh scene_of faults_of) }
 {
     let scripts = vec![in alloc; script(alloc, b"hello")?, script(alloc, b"later")?]?;
-    MemPost::new(alloc, scripts, &[3], room, fails)
+    MemPost::new(alloc, scripts, &[3], &[5, 9], room, fails)
 }
 
 /// One connection with one child, through the bound: whether a connection came.
@@ -243,6 +243,87 @@ fn a_site_gives_its_posts_once_to_as_many_workers(rt: HostRuntime) -> Result<(),
     assert_eq!(rt; listen(&mut site, &place), Ok(2));
     assert_eq!(rt; listen(&mut site, &place), Err(Failed));
     assert!(rt; site.tells());
-    assert_eq!(rt; place.socket.as_str(), "/run/otp");
+    assert_eq!(rt; site.listens().len(), 1);
+    assert_eq!(rt; site.listens()[0].socket.as_str(), "/run/otp");
+    assert_eq!(rt; site.listens()[0].workers, 2);
+    Ok(())
+}
+
+/// What a reading of a user's file gives, through the bound.
+fn file_piece<P: Post>(
+    post: &mut P,
+    uid: u32,
+    name: &Label,
+    offset: u64,
+) -> Result<([u8; 8], usize), Failed> {
+    let mut buf = [0; 8];
+    let n = post.vault_read(uid, name, offset, &mut buf)?;
+    Ok((buf, n))
+}
+
+/// Writes into a user's file, through the bound.
+fn write_file<P: Post>(
+    post: &mut P,
+    uid: u32,
+    name: &Label,
+    offset: u64,
+    bytes: &[u8],
+) -> Result<(), Failed> {
+    post.vault_write(uid, name, offset, bytes)
+}
+
+#[test]
+fn users_files_are_kept_read_and_written(rt: HostRuntime) -> Result<(), Fault> {
+    let mut post = post(rt.alloc(), 40, &[fail(CallKind::VaultWrite, 4, 0)])?;
+    let name = Label::of(b"notes").ok_or("a label")?;
+    assert_eq!(rt; post.user_file(7, &name), None);
+    assert_eq!(rt; file_piece(&mut post, 7, &name, 0), Ok(([0; 8], 0)));
+    // A missing file is made, and a gap is filled with zeros.
+    assert_eq!(rt; write_file(&mut post, 7, &name, 2, b"cd"), Ok(()));
+    assert_eq!(rt; post.user_file(7, &name), Some(b"\0\0cd".as_slice()));
+    // What a write doesn't cover stays.
+    assert_eq!(rt; write_file(&mut post, 7, &name, 0, b"abC"), Ok(()));
+    assert_eq!(rt; write_file(&mut post, 7, &name, 9, b""), Ok(()));
+    assert_eq!(rt; write_file(&mut post, 7, &name, 0, b"lost"), Err(Failed));
+    assert_eq!(rt; post.user_file(7, &name), Some(b"abCd".as_slice()));
+    assert_eq!(rt;
+        file_piece(&mut post, 7, &name, 1),
+        Ok((*b"bCd\0\0\0\0\0", 3))
+    );
+    assert_eq!(rt; file_piece(&mut post, 7, &name, u64::MAX), Ok(([0; 8], 0)));
+    post.keep(8, &name, b"theirs")?;
+    assert_eq!(rt; post.user_file(8, &name), Some(b"theirs".as_slice()));
+    assert_eq!(rt; post.user_file(7, &name), Some(b"abCd".as_slice()));
+    assert!(rt; post.tells());
+    Ok(())
+}
+
+/// What the client of a post's next connection sends, through the bound: up to two pieces.
+fn from_client<P: Post>(post: &mut P) -> Result<([u8; 8], usize), Failed> {
+    let Some(mut conn) = post.accept()? else {
+        return Err(Failed);
+    };
+    let mut buf = [0; 8];
+    let first = post.conn_recv(&mut conn, &mut buf[..4]);
+    let second = match first {
+        Ok(n) => post.conn_recv(&mut conn, &mut buf[n..]),
+        Err(Failed) => Ok(0),
+    };
+    post.hang_up(conn);
+    Ok((buf, first? + second?))
+}
+
+/// The moments that a post's clock gives, through the bound.
+fn three_moments<P: Post>(post: &mut P) -> [u64; 3] {
+    [post.now(), post.now(), post.now()]
+}
+
+#[test]
+fn a_client_is_received_in_pieces_and_the_clock_goes_on(rt: HostRuntime) -> Result<(), Fault> {
+    let mut post = post(rt.alloc(), 40, &[fail(CallKind::ConnRecv, 3, 0)])?;
+    assert_eq!(rt; from_client(&mut post), Ok((*b"client\0\0", 6)));
+    assert_eq!(rt; from_client(&mut post), Err(Failed));
+    assert_eq!(rt; three_moments(&mut post), [5, 9, 9]);
+    assert_eq!(rt; post.acts().len(), 10);
     Ok(())
 }

@@ -1,4 +1,3 @@
-pub mod Counts
 pub mod Launching
 pub mod RealEnds
 pub mod RealFiles

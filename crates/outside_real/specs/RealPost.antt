@@ -1,23 +1,22 @@
-use Rattle.std.specs.Prelude.{ℕ, None}
+-- What contracts see of a real post.
+use Rattle.std.specs.Prelude.{◌≡◌, None}
+use Rattle.outside.specs.declared.faults.Faults.{Faults}
+use Rattle.outside.specs.declared.place.Place.{Place}
 use Rattle.outside.specs.Scene.{IsFresh}
 use Rattle.outside_real.specs.declared.post.RealPost.{RealPost}
 
--- how many accepts failed
-abbrev pub accept_faults_of : {R : Type 0} → RealPost R → ℕ
-accept_faults_of p = p.accept_faults
+-- how many faults it had, by kind
+abbrev pub faults_of : {R : Type 0} → RealPost R → Faults
+faults_of p = p.faults
 
--- how many starts failed
-abbrev pub keeper_faults_of : {R : Type 0} → RealPost R → ℕ
-keeper_faults_of p = p.keeper_faults
-
--- how many children that were given back had a fault, the waiting for their ends included
-abbrev pub link_faults_of : {R : Type 0} → RealPost R → ℕ
-link_faults_of p = p.link_faults
-
--- how many sends to a client failed
-abbrev pub conn_faults_of : {R : Type 0} → RealPost R → ℕ
-conn_faults_of p = p.conn_faults
+-- the place where its clients come in, whose launcher starts its children and whose vault has its users' files
+abbrev pub place_of : {R : Type 0} → RealPost R → Place
+place_of p = p.place
 
 -- a post that was just made: its counts are 0
 abbrev pub IsFreshPost : {R : Type 0} → RealPost R → Type 0
-IsFreshPost post = IsFresh (λ _. None) accept_faults_of keeper_faults_of link_faults_of conn_faults_of post
+IsFreshPost post = IsFresh (λ _. None) faults_of post
+
+-- a post of this place
+pub record IsPostAt {R : Type 0} (place : Place) (post : RealPost R) : Type 0 where
+  pub at : place_of post ≡ place

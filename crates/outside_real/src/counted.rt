@@ -1,5 +1,5 @@
-ghost use Rattle.std.specs.Prelude.{◌≡◌, IfOk, IsErr, Ok, OnErr};
-ghost use Rattle.outside_real.specs.Counts.{Counts};
+ghost use Rattle.std.specs.Prelude.{◌≡◌, ◌≤◌, IfOk, IsErr, Ok, OnErr};
+ghost use Rattle.outside.specs.Faults.{count_after};
 
 use outside::Failed;
 use std::io;
@@ -9,7 +9,8 @@ use std::io;
 pub fn counted<T>(count: &mut u64, outcome: io::Result<T>) -> Result<T, Failed>
     ensures ok { IfOk result (λ value. outcome ≡ Ok value) }
     ensures err { OnErr result (IsErr outcome) }
-    ensures count { Counts result count.old count.new }
+    ensures count { count.new ≡ count_after result count.old }
+    ensures kept { count.old ≤ count.new }
 {
     match outcome {
         Ok(value) => Ok(value),

@@ -1,8 +1,9 @@
 ghost use Rattle.std.specs.Prelude.{◌≡◌, ◌≤◌, IfOk, None, OnOk, length};
 ghost use Rattle.std.specs.Io.KnownBytes.{Appends};
 ghost use Rattle.outside.specs.declared.act.Role.{Role};
-ghost use Rattle.outside_real.specs.Counts.{Counts};
+ghost use Rattle.outside.specs.Faults.{count_after};
 
+use crate::again::read_again;
 use crate::counted::counted;
 use outside::{Failed, Role, Stream};
 use std::io::{Read, Write};
@@ -42,16 +43,18 @@ impl<I: Read + Drop + Send, O: Write + Drop + Send> Stream for RealEnds<I, O> {
     /// Reads what there is. It fails exactly where the reader does.
     fn recv(&mut self, buf: &mut [u8]) -> Result<usize, Failed>
         ensures bound { IfOk result (λ n. n ≤ length buf.old) }
-        ensures count { Counts result (faults_of self.old) (faults_of self.new) }
+        ensures counts { faults_of self.new ≡ count_after result (faults_of self.old) }
+        ensures kept { faults_of self.old ≤ faults_of self.new }
     {
-        counted(&mut self.faults, self.input.read(buf))
+        counted(&mut self.faults, read_again(&mut self.input, buf))
     }
 
     /// Writes all bytes. It fails exactly where the writer does.
     fn send(&mut self, bytes: &[u8]) -> Result<(), Failed>
         ensures written { OnOk result (Appends (O.contents (output_of self.old))
             (O.contents (output_of self.new)) bytes.now) }
-        ensures count { Counts result (faults_of self.old) (faults_of self.new) }
+        ensures counts { faults_of self.new ≡ count_after result (faults_of self.old) }
+        ensures kept { faults_of self.old ≤ faults_of self.new }
     {
         counted(&mut self.faults, self.output.write_all(bytes))
     }

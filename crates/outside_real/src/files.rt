@@ -1,7 +1,8 @@
 ghost use Rattle.std.specs.Prelude.{◌≡◌, ◌<◌, ◌≤◌, IfOk, IfSome, None, length, take};
 ghost use Rattle.std.specs.Io.KnownBytes.{Consumes, IsAtEnd};
-ghost use Rattle.outside_real.specs.Counts.{Counts};
+ghost use Rattle.outside.specs.Faults.{count_after};
 
+use crate::again::read_again;
 use crate::counted::counted;
 use outside::{Failed, Files, Word};
 use std::alloc::Global;
@@ -16,10 +17,14 @@ use std::{fs, io};
 const OWNER_ALONE: u32 = 0o600;
 
 /// The machine's files. A name is a path.
+///
+/// A file is read as one: a reading from its front opens it, and those of the pieces behind are of
+/// the same open file, also where another file is given its name in between.
 #[derive(Drop)]
 pub struct RealFiles<R> {
     rt: R,
     alloc: Global,
+    reading: Option<Reading>,
     read_faults: u64,
     replace_faults: u64,
 }
@@ -35,13 +40,14 @@ impl<R> RealFiles<R> {
         RealFiles {
             rt,
             alloc,
+            reading: None,
             read_faults: 0,
             replace_faults: 0,
         }
     }
 }
 
-impl<R: FileSystem + Drop> Files for RealFiles<R> {
+impl<R: FileSystem<File = File> + Drop> Files for RealFiles<R> {
     ghost use Rattle.outside_real.specs.RealFiles.{read_faults_of, replace_faults_of};
 
     ghost contents = { λ _. None };
@@ -53,10 +59,11 @@ impl<R: FileSystem + Drop> Files for RealFiles<R> {
     /// Reads from the offset on until the buffer is full or the file ends.
     fn read(&mut self, name: &Word, offset: u64, buf: &mut [u8]) -> Result<Option<usize>, Failed>
         ensures bound { IfOk result (λ found. IfSome found (λ n. n ≤ length buf.old)) }
-        ensures read_faults { Counts result (read_faults_of self.old) (read_faults_of self.new) }
-        ensures replace_faults { replace_faults_of self.new ≡ replace_faults_of self.old }
+        ensures counts { read_faults_of self.new ≡ count_after result (read_faults_of self.old) }
+        ensures kept { read_faults_of self.old ≤ read_faults_of self.new }
+        ensures others { replace_faults_of self.new ≡ replace_faults_of self.old }
     {
-        let outcome = read_file(&self.rt, name.as_str(), offset, buf);
+        let outcome = self.read_piece(name.as_str(), offset, buf);
         counted(&mut self.read_faults, outcome)
     }
 
@@ -64,35 +71,110 @@ impl<R: FileSystem + Drop> Files for RealFiles<R> {
     /// name. So whoever reads the file sees what it held or the new bytes, and after a crash it
     /// holds one of these.
     fn replace(&mut self, name: &Word, bytes: &[u8]) -> Result<(), Failed>
-        ensures read_faults { read_faults_of self.new ≡ read_faults_of self.old }
-        ensures replace_faults { Counts result (replace_faults_of self.old)
-            (replace_faults_of self.new) }
+        ensures counts { replace_faults_of self.new
+            ≡ count_after result (replace_faults_of self.old) }
+        ensures kept { replace_faults_of self.old ≤ replace_faults_of self.new }
+        ensures others { read_faults_of self.new ≡ read_faults_of self.old }
     {
+        self.reading = None;
         let outcome = replace_file(&self.rt, self.alloc, name.as_str(), bytes);
         counted(&mut self.replace_faults, outcome)
     }
 }
 
-/// Reads a file from an offset on into the front of a buffer. `None`: there is no such file.
-fn read_file<R: FileSystem>(
+impl<R: FileSystem<File = File>> RealFiles<R> {
+    ghost use Rattle.outside_real.specs.RealFiles.{read_faults_of, replace_faults_of};
+
+    /// Reads a file from an offset on into the front of a buffer. `None`: there is no such file.
+    fn read_piece(&mut self, path: &str, offset: u64, buf: &mut [u8]) -> io::Result<Option<usize>>
+        ensures bound { IfOk result (λ found. IfSome found (λ n. n ≤ length buf.old)) }
+        ensures read_faults { read_faults_of self.new ≡ read_faults_of self.old }
+        ensures replace_faults { replace_faults_of self.new ≡ replace_faults_of self.old }
+    {
+        let begun = self.reading.take();
+        let Some(mut reading) = reading_at(&self.rt, self.alloc, begun, path, offset)? else {
+            return Ok(None);
+        };
+        let count = reading.fill(buf)?;
+        if count > 0 {
+            self.reading = Some(reading);
+        }
+        Ok(Some(count))
+    }
+}
+
+/// A file that is being read.
+#[derive(Drop)]
+struct Reading {
+    path: String,
+    file: File,
+    /// How far it was read.
+    position: u64,
+}
+
+impl Reading {
+    /// Reads on until the buffer is full or the file ends.
+    fn fill(&mut self, buf: &mut [u8]) -> io::Result<usize>
+        ensures { IfOk result (λ n. n ≤ length buf.old) }
+    {
+        let count = fill(&mut self.file, buf)?;
+        self.position = self.position.saturating_add(count as u64);
+        Ok(count)
+    }
+}
+
+/// A file at an offset: the one that is being read, or, at its front and for another path, one that
+/// is opened. `None`: there is no such file. What is read in order is never sought, as a pipe can't
+/// be.
+fn reading_at<R: FileSystem<File = File>>(
     rt: &R,
+    alloc: Global,
+    begun: Option<Reading>,
     path: &str,
     offset: u64,
-    buf: &mut [u8],
-) -> io::Result<Option<usize>>
-    ensures { IfOk result (λ found. IfSome found (λ n. n ≤ length buf.old)) }
-{
-    let mut file = match File::open(rt, path) {
-        Ok(file) => file,
-        Err(error) if error.kind() == ErrorKind::NotFound => return Ok(None),
-        Err(error) => return Err(error),
+) -> io::Result<Option<Reading>> {
+    let opened = match resumed(begun, path, offset) {
+        Some(reading) => Some(reading),
+        None => open(rt, alloc, path)?,
     };
-    file.seek(SeekFrom::Start(offset))?;
-    Ok(Some(fill(&mut file, buf)?))
+    let Some(mut reading) = opened else {
+        return Ok(None);
+    };
+    if reading.position != offset {
+        reading.file.seek(SeekFrom::Start(offset))?;
+        reading.position = offset;
+    }
+    Ok(Some(reading))
+}
+
+/// The file that is being read, where it is of this path and not to be read from its front.
+fn resumed(begun: Option<Reading>, path: &str, offset: u64) -> Option<Reading> {
+    let reading = begun?;
+    if offset > 0 && reading.path.as_str() == path {
+        return Some(reading);
+    }
+    None
+}
+
+/// Opens a file at its front. `None`: there is no such file.
+fn open<R: FileSystem<File = File>>(
+    rt: &R,
+    alloc: Global,
+    path: &str,
+) -> io::Result<Option<Reading>> {
+    match File::open(rt, path) {
+        Ok(file) => Ok(Some(Reading {
+            path: String::from_str(alloc, path)?,
+            file,
+            position: 0,
+        })),
+        Err(error) if error.kind() == ErrorKind::NotFound => Ok(None),
+        Err(error) => Err(error),
+    }
 }
 
 /// Reads until the buffer is full or the reader ends, and gives how many bytes were read.
-fn fill<R: Read>(reader: &mut R, buf: &mut [u8]) -> io::Result<usize>
+pub fn fill<R: Read>(reader: &mut R, buf: &mut [u8]) -> io::Result<usize>
     ensures bound { IfOk result (λ n. n ≤ length buf.old) }
     ensures bytes { IfOk result (λ n.
         Consumes (R.remaining reader.old) (R.remaining reader.new) (take n buf.new)) }
@@ -100,7 +182,7 @@ fn fill<R: Read>(reader: &mut R, buf: &mut [u8]) -> io::Result<usize>
 {
     let mut filled = 0;
     while filled < buf.len() {
-        match reader.read(&mut buf[filled..])? {
+        match read_again(reader, &mut buf[filled..])? {
             0 => break,
             n => filled += n,
         }

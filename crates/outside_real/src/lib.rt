@@ -1,20 +1,29 @@
-//! The real outside: a Unix socket, child programs over pipes, files, standard input and output, and
-//! a log to any writer. Each object counts its faults and tells nothing of the bytes that pass.
+//! The real outside: a Unix socket, child programs, files, standard input and output, and a log to
+//! any writer. Each object counts its faults and tells nothing of the bytes that pass.
 #![tactic(auto)]
 
+mod again;
+mod clock;
 mod counted;
 mod ends;
 mod files;
+mod limits;
 mod post;
+mod seat;
 mod sink;
 mod site;
+mod socket;
+mod standard;
 mod stream;
+mod vault;
 
 pub use ends::RealEnds;
 pub use files::RealFiles;
+pub use limits::Limits;
 pub use post::RealPost;
 pub use sink::RealSink;
 pub use site::RealSite;
+pub use standard::fill_standard_streams;
 pub use stream::RealStream;
 
 #[cfg(test)]

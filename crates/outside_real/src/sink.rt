@@ -1,6 +1,6 @@
-ghost use Rattle.std.specs.Prelude.{◌≡◌, None, OnOk};
+ghost use Rattle.std.specs.Prelude.{◌≡◌, ◌≤◌, None, OnOk};
 ghost use Rattle.std.specs.Io.KnownBytes.{Appends};
-ghost use Rattle.outside_real.specs.Counts.{Counts};
+ghost use Rattle.outside.specs.Faults.{count_after};
 
 use crate::counted::counted;
 use outside::{Failed, Sink};
@@ -35,7 +35,8 @@ impl<W: Write + Drop + Send> Sink for RealSink<W> {
     fn append(&mut self, bytes: &[u8]) -> Result<(), Failed>
         ensures written { OnOk result (Appends (W.contents (writer_of self.old))
             (W.contents (writer_of self.new)) bytes.now) }
-        ensures count { Counts result (faults_of self.old) (faults_of self.new) }
+        ensures counts { faults_of self.new ≡ count_after result (faults_of self.old) }
+        ensures kept { faults_of self.old ≤ faults_of self.new }
     {
         counted(&mut self.faults, self.writer.write_all(bytes))
     }

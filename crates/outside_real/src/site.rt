@@ -1,43 +1,56 @@
 ghost use Rattle.std.specs.Prelude.{◌≡◌, All, IfOk, None, vec_len};
-ghost use Rattle.outside_real.specs.Counts.{Counts};
-ghost use Rattle.outside_real.specs.RealPost.{IsFreshPost};
+ghost use Rattle.outside.specs.Faults.{count_after};
+ghost use Rattle.outside_real.specs.RealPost.{IsFreshPost, IsPostAt};
 
+use crate::clock::PostClock;
 use crate::counted::counted;
+use crate::limits::Limits;
 use crate::post::RealPost;
+use crate::seat::Seat;
 use outside::{Failed, Place, Site};
 use std::alloc::Global;
+use std::fs::File;
+use std::io;
 use std::net::Net;
-use std::os::unix::fs::FileTypeExt;
-use std::os::unix::net::UnixListener;
 use std::process::{Processes, SystemProcess};
 use std::rt::Files;
-use std::{fs, io};
+use std::time::Clock;
 
 /// The machine's site: it listens on a Unix socket.
 #[derive(Drop)]
 pub struct RealSite<R> {
     rt: R,
     alloc: Global,
+    limits: Limits,
     listen_faults: u64,
 }
 
 impl<R> RealSite<R> {
     ghost use Rattle.outside_real.specs.RealSite.{listen_faults_of};
 
-    /// A site that reaches the system by this runtime.
+    /// A site that reaches the system by this runtime, with the usual limits.
     pub fn new(rt: R, alloc: Global) -> RealSite<R>
+        ensures faultless { listen_faults_of result ≡ 0 }
+    {
+        RealSite::with_limits(rt, alloc, Limits::usual())
+    }
+
+    /// The same, with other limits.
+    pub fn with_limits(rt: R, alloc: Global, limits: Limits) -> RealSite<R>
         ensures faultless { listen_faults_of result ≡ 0 }
     {
         RealSite {
             rt,
             alloc,
+            limits,
             listen_faults: 0,
         }
     }
 }
 
-impl<R: Processes<Started = SystemProcess> + Files + Net + Clone + Drop + Send> Site
-    for RealSite<R> {
+impl<
+    R: Processes<Started = SystemProcess> + Files<File = File> + Net + Clock + Clone + Drop + Send,
+> Site for RealSite<R> {
     ghost use Rattle.outside_real.specs.RealSite.{listen_faults_of};
 
     type Post = RealPost<R>;
@@ -50,40 +63,32 @@ impl<R: Processes<Started = SystemProcess> + Files + Net + Clone + Drop + Send> 
     fn listen(&mut self, place: &Place) -> Result<Vec<RealPost<R>>, Failed>
         ensures workers { IfOk result (λ posts. vec_len posts ≡ place.now.workers) }
         ensures fresh { IfOk result (λ posts. All IsFreshPost posts.items) }
-        ensures listen_faults { Counts result (listen_faults_of self.old)
-            (listen_faults_of self.new) }
+        ensures from { IfOk result (λ posts. All (IsPostAt place.now) posts.items) }
+        ensures counts { listen_faults_of self.new
+            ≡ count_after result (listen_faults_of self.old) }
     {
-        let opened = open_posts(&self.rt, self.alloc, place);
+        let opened = open_posts(&self.rt, self.alloc, place, &self.limits);
         counted(&mut self.listen_faults, opened)
     }
 }
 
-/// Removes the socket at the path. What else may stand there stays.
-fn remove_socket<R: Files>(rt: &R, path: &str) -> io::Result<()> {
-    if fs::symlink_metadata(rt, path)?.file_type().is_socket() {
-        fs::remove_file(rt, path)?;
-    }
-    Ok(())
-}
-
-/// Listens on the place's socket, in place of one that an earlier run left there, and gives each
-/// worker a post on it.
-fn open_posts<R: Files + Net + Clone + Drop>(
+/// Takes the place's socket, and gives each worker a post on it.
+fn open_posts<R: Files<File = File> + Net + Clock + Clone + Drop>(
     rt: &R,
     alloc: Global,
     place: &Place,
+    limits: &Limits,
 ) -> io::Result<Vec<RealPost<R>>>
     ensures workers { IfOk result (λ posts. vec_len posts ≡ place.now.workers) }
     ensures fresh { IfOk result (λ posts. All IsFreshPost posts.items) }
+    ensures from { IfOk result (λ posts. All (IsPostAt place.now) posts.items) }
 {
-    let socket = place.socket.as_str();
-    // Where something stays there, the new socket can't be bound.
-    let _ = remove_socket(rt, socket);
-    let listener = UnixListener::bind(rt, socket)?;
+    let seat = Seat::take(rt, alloc, place.socket.as_str())?;
+    let clock = PostClock::start(rt);
     let mut posts = Vec::new(alloc);
     for _ in 0..place.workers {
-        let launcher = String::from_str(alloc, place.launcher.as_str())?;
-        posts.push(RealPost::new(rt.clone()?, alloc, listener.try_clone()?, launcher))?;
+        let seat = seat.try_clone()?;
+        posts.push(RealPost::new(rt.clone()?, alloc, seat, place.copy(alloc)?, *limits, clock))?;
     }
     Ok(posts)
 }

@@ -1,25 +1,35 @@
 ghost use Rattle.std.specs.Prelude.{◌≡◌, ◌≤◌, IfOk, None, length, true};
 ghost use Rattle.std.specs.Process.{command_args, command_program};
-ghost use Rattle.outside_real.specs.Counts.{Counts};
+ghost use Rattle.outside.specs.Faults.{count_after};
 ghost use Rattle.outside_real.specs.Launching.{launch_words};
 
+use crate::again::read_again;
 use crate::counted::counted;
+use crate::socket;
 use outside::{Failed, Role, Stream};
-use std::alloc::{AllocError, Global};
-use std::io;
-use std::io::{ErrorKind, Read, Write};
-use std::process::{Child, ChildStdin, ChildStdout, Command, Processes, Stdio, SystemProcess};
+use std::alloc::Global;
+use std::io::{ErrorKind, Write};
+use std::net::Net;
+use std::os::fd::OwnedFd;
+use std::os::unix::net::UnixStream;
+use std::process::{Child, Command, Processes, Stdio, SystemProcess};
+use std::time::{Clock, Duration, Instant};
+use std::{io, thread};
 
 /// The word that tells a launcher to start the child before the login.
 const PRE_MODE: &str = "child-pre";
 
-/// A child program: what is sent goes to its standard input, and what is received comes from its
-/// standard output.
+/// The word that tells a launcher to start a user's child.
+const USER_MODE: &str = "child-user";
+
+/// How many milliseconds are slept before a child's end is looked for once more.
+const NAP: u64 = 1;
+
+/// A child program, over a socket that is both its standard input and its standard output.
 #[derive(Drop)]
 pub struct RealStream {
     program: Child<SystemProcess>,
-    input: ChildStdin,
-    output: ChildStdout,
+    socket: UnixStream,
     role: Role,
     faults: u64,
 }
@@ -35,72 +45,120 @@ impl Stream for RealStream {
 
     fn recv(&mut self, buf: &mut [u8]) -> Result<usize, Failed>
         ensures bound { IfOk result (λ n. n ≤ length buf.old) }
-        ensures count { Counts result (faults_of self.old) (faults_of self.new) }
+        ensures counts { faults_of self.new ≡ count_after result (faults_of self.old) }
+        ensures kept { faults_of self.old ≤ faults_of self.new }
         ensures role { role_of self.new ≡ role_of self.old }
     {
-        counted(&mut self.faults, self.output.read(buf))
+        counted(&mut self.faults, receive(&mut self.socket, buf))
     }
 
     fn send(&mut self, bytes: &[u8]) -> Result<(), Failed>
-        ensures count { Counts result (faults_of self.old) (faults_of self.new) }
+        ensures counts { faults_of self.new ≡ count_after result (faults_of self.old) }
+        ensures kept { faults_of self.old ≤ faults_of self.new }
         ensures role { role_of self.new ≡ role_of self.old }
     {
-        counted(&mut self.faults, self.input.write_all(bytes))
+        counted(&mut self.faults, self.socket.write_all(bytes))
+    }
+}
+
+/// Reads what a child sent. One that ended without reading all that it was sent resets the socket,
+/// behind all that it had sent itself: that is the end of input too.
+fn receive(socket: &mut UnixStream, buf: &mut [u8]) -> io::Result<usize>
+    ensures { IfOk result (λ n. n ≤ length buf.new) }
+{
+    match read_again(socket, buf) {
+        Err(error) if error.kind() == ErrorKind::ConnectionReset => Ok(0),
+        outcome => outcome,
     }
 }
 
 /// The launcher's command for a child of this role. Its standard error goes nowhere.
-pub fn command_of(alloc: Global, launcher: &str, role: &Role) -> Result<Command, AllocError>
+pub fn command_of(alloc: Global, launcher: &str, role: &Role) -> io::Result<Command>
     ensures program { IfOk result (λ command. command_program command ≡ launcher.now) }
     ensures words { IfOk result (λ command. command_args command ≡ launch_words role.now) }
 {
-    let Role::Pre { session } = *role;
     let mut command = Command::new(alloc, launcher)?;
-    let session = format!(in alloc; "{session}")?;
-    command.arg(PRE_MODE)?.arg(session.as_str())?;
-    command
-        .stdin(Stdio::piped())
-        .stdout(Stdio::piped())
-        .stderr(Stdio::null());
+    match role {
+        Role::Pre { session } => {
+            let session = format!(in alloc; "{session}")?;
+            command.arg(PRE_MODE)?.arg(session.as_str())?;
+        }
+        Role::User { session, uid, user } => {
+            let session = format!(in alloc; "{session}")?;
+            let uid = format!(in alloc; "{uid}")?;
+            command.arg(USER_MODE)?.arg(session.as_str())?;
+            let Ok(user) = str::from_utf8(user.as_slice()) else {
+                return Err(io::Error::from(ErrorKind::InvalidInput));
+            };
+            command.arg(uid.as_str())?.arg(user)?;
+        }
+    }
+    command.stderr(Stdio::null());
     Ok(command)
 }
 
-/// Starts a child of this role by the launcher.
-pub fn launch<R: Processes<Started = SystemProcess>>(
+/// Starts a child of this role by the launcher, which may keep a reading or a writing waiting for
+/// this long.
+pub fn launch<R: Processes<Started = SystemProcess> + Net>(
     rt: &R,
     alloc: Global,
     launcher: &str,
     role: Role,
+    limit: Duration,
 ) -> io::Result<RealStream>
     ensures role { IfOk result (λ child. child.role ≡ role) }
     ensures faultless { IfOk result (λ child. child.faults ≡ 0) }
 {
-    let mut program = command_of(alloc, launcher, &role)?.spawn(rt)?;
-    let (Some(input), Some(output)) = (program.stdin.take(), program.stdout.take()) else {
-        return Err(io::Error::from(ErrorKind::BrokenPipe));
-    };
+    let (ours, theirs) = UnixStream::pair(rt)?;
+    socket::limit(&ours, limit)?;
+    let theirs = OwnedFd::from(theirs);
+    let mut command = command_of(alloc, launcher, &role)?;
+    command.stdin(theirs.try_clone()?).stdout(theirs);
     Ok(RealStream {
-        program,
-        input,
-        output,
+        program: command.spawn(rt)?,
+        socket: ours,
         role,
         faults: 0,
     })
 }
 
-/// Closes the child's pipes and waits for its end. The answer is whether nothing failed, from the
-/// child's start to its end.
-pub fn close(child: RealStream) -> bool
-    ensures { result ≡ true → child.faults ≡ 0 }
+/// Closes the child's socket and waits for its end. One that isn't gone in time is killed. The
+/// answer is the child's faults from its start to its end, with one more where it was killed.
+pub fn close<R: Clock>(rt: &R, child: RealStream, limit: Duration) -> u64
+    ensures { child.faults ≤ result }
 {
     let RealStream {
         mut program,
-        input,
-        output,
+        socket,
         role: _,
         faults,
     } = child;
-    drop(input);
-    drop(output);
-    program.wait().is_ok() && faults == 0
+    socket::close(socket);
+    if has_ended(rt, &mut program, limit).unwrap_or(false) {
+        return faults;
+    }
+    // Where it can't be killed, waiting for it could last for ever.
+    if program.kill().is_ok() {
+        let _ = program.wait();
+    }
+    faults.saturating_add(1)
+}
+
+/// Whether a child ends within a time.
+fn has_ended<R: Clock>(
+    rt: &R,
+    program: &mut Child<SystemProcess>,
+    limit: Duration,
+) -> io::Result<bool> {
+    let start = Instant::now(rt)?;
+    for _ in 0..u64::MAX {
+        if program.try_wait()?.is_some() {
+            return Ok(true);
+        }
+        if start.elapsed(rt)? >= limit {
+            break;
+        }
+        thread::sleep(rt, Duration::from_millis(NAP));
+    }
+    Ok(false)
 }

@@ -72,7 +72,11 @@ same_coming (acts.Accept accepted.Failed) = refl
 same_coming (acts.Start role outcome) = refl
 same_coming (acts.Finish role) = refl
 same_coming acts.HangUp = refl
+same_coming (acts.ConnRecv max outcome) = refl
 same_coming (acts.ConnSend bytes outcome) = refl
+same_coming (acts.VaultRead uid name offset max outcome) = refl
+same_coming (acts.VaultWrite uid name offset bytes outcome) = refl
+same_coming (acts.Clock moment) = refl
 
 same_stop : (act : Act) → is_stop act ≡ stops (asked act)
 unfolding stops
@@ -82,7 +86,11 @@ same_stop (acts.Accept accepted.Failed) = refl
 same_stop (acts.Start role outcome) = refl
 same_stop (acts.Finish role) = refl
 same_stop acts.HangUp = refl
+same_stop (acts.ConnRecv max outcome) = refl
 same_stop (acts.ConnSend bytes outcome) = refl
+same_stop (acts.VaultRead uid name offset max outcome) = refl
+same_stop (acts.VaultWrite uid name offset bytes outcome) = refl
+same_stop (acts.Clock moment) = refl
 
 came_once : (e : Event) (d : Decision) → (is_permit d ≡ true) ⊎ (is_lost d ≡ true) → count_by comes (opening_operations e d) ≡ 1
 unfolding comes
@@ -108,14 +116,22 @@ coming_accepts (acts.Accept outcome) h = refl
 coming_accepts (acts.Start role outcome) h = absurd cc
 coming_accepts (acts.Finish role) h = absurd cc
 coming_accepts acts.HangUp h = absurd cc
+coming_accepts (acts.ConnRecv max outcome) h = absurd cc
 coming_accepts (acts.ConnSend bytes outcome) h = absurd cc
+coming_accepts (acts.VaultRead uid name offset max outcome) h = absurd cc
+coming_accepts (acts.VaultWrite uid name offset bytes outcome) h = absurd cc
+coming_accepts (acts.Clock moment) h = absurd cc
 
 stop_accepts : (act : Act) → is_stop act ≡ true → is_accept act ≡ true
 stop_accepts (acts.Accept outcome) h = refl
 stop_accepts (acts.Start role outcome) h = absurd cc
 stop_accepts (acts.Finish role) h = absurd cc
 stop_accepts acts.HangUp h = absurd cc
+stop_accepts (acts.ConnRecv max outcome) h = absurd cc
 stop_accepts (acts.ConnSend bytes outcome) h = absurd cc
+stop_accepts (acts.VaultRead uid name offset max outcome) h = absurd cc
+stop_accepts (acts.VaultWrite uid name offset bytes outcome) h = absurd cc
+stop_accepts (acts.Clock moment) h = absurd cc
 
 -- a session is served over one connection that came
 pub one_came : (sitting : Sitting) → IsSitting sitting → came_count (step_acts (all_steps sitting)) ≡ 1

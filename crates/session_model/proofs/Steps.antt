@@ -40,7 +40,11 @@ same_accept (acts.Accept outcome) = refl
 same_accept (acts.Start role outcome) = refl
 same_accept (acts.Finish role) = refl
 same_accept acts.HangUp = refl
+same_accept (acts.ConnRecv max outcome) = refl
 same_accept (acts.ConnSend bytes outcome) = refl
+same_accept (acts.VaultRead uid name offset max outcome) = refl
+same_accept (acts.VaultWrite uid name offset bytes outcome) = refl
+same_accept (acts.Clock moment) = refl
 
 -- what was asked for tells how many accepts there are
 pub accepts_asked : (done : List Act) → count_by is_accept done ≡ count_by accepts (map asked done)

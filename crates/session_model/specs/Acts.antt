@@ -3,6 +3,7 @@ use Rattle.std.specs.Prelude.{◌≡◌, ℕ, zero, Bool, true, false, List, [],
 use Rattle.std.specs.List.{list_any}
 use Rattle.imsg_frame.specs.Message.{Message}
 use Rattle.request_catalogue.specs.declared.request.Bad.{Bad}
+use Rattle.request_catalogue.specs.declared.texts.Label.{Label}
 use Rattle.request_catalogue.specs.Catalogue.{RequestValue}
 use Rattle.request_catalogue.specs.Catalogue as requests
 use Rattle.request_catalogue.specs.Reading.{request_of}
@@ -28,14 +29,22 @@ pub data Operation : Type 0 where
   Starts : (role : Role) → Operation
   Finishes : (role : Role) → Operation
   HangsUp : Operation
+  Receives : (max : ℕ) → Operation
   Sends : (bytes : List ℕ) → Operation
+  ReadsFile : (uid : ℕ) → (name : Label) → (offset max : ℕ) → Operation
+  WritesFile : (uid : ℕ) → (name : Label) → (offset : ℕ) → (bytes : List ℕ) → Operation
+  ReadsClock : (moment : ℕ) → Operation
 
 abbrev pub asked : Act → Operation
 asked (acts.Accept outcome) = Accepts outcome
 asked (acts.Start role outcome) = Starts role
 asked (acts.Finish role) = Finishes role
 asked acts.HangUp = HangsUp
+asked (acts.ConnRecv max outcome) = Receives max
 asked (acts.ConnSend bytes outcome) = Sends bytes
+asked (acts.VaultRead uid name offset max outcome) = ReadsFile uid name offset max
+asked (acts.VaultWrite uid name offset bytes outcome) = WritesFile uid name offset bytes
+asked (acts.Clock moment) = ReadsClock moment
 
 -- the bytes that a WRITE has to write
 abbrev pub written_by : Result RequestValue Bad → List ℕ

@@ -1,12 +1,14 @@
 //! A child that says nothing more until it was sent its reply.
 
-ghost use Rattle.std.specs.Prelude.{◌≡◌, IfOk, None};
+ghost use Rattle.std.specs.Prelude.{◌≡◌, ◌<◌, ◌≤◌, IfOk, None};
+ghost use Rattle.outside.specs.Told.{next_count};
 ghost use Rattle.outside.specs.declared.act.Role.{Role};
 ghost use Rattle.outside.specs.Scene.{IsFresh};
 
 use super::{FINISH, SMALLEST_LOG, WRITE_HI};
 use crate::otplogd;
-use outside::{Failed, MemFiles, MemSink, MemSite, MemStream, Post, Role, Stream, Word};
+use outside::{Failed, Faults, MemFiles, MemSink, MemSite, MemStream, Post, Role, Stream, Word};
+use request_catalogue::Label;
 use std::test::Fail as Fault;
 
 /// The frames that the child sends.
@@ -53,7 +55,7 @@ impl Stream for PoliteChild {
 #[derive(Drop)]
 struct PolitePost {
     has_come: bool,
-    link_faults: u64,
+    faults: Faults,
 }
 
 impl Post for PolitePost {
@@ -63,13 +65,7 @@ impl Post for PolitePost {
 
     ghost scene = { λ _. None };
 
-    ghost accept_faults = { λ _. 0 };
-
-    ghost keeper_faults = { λ _. 0 };
-
-    ghost link_faults = { λ post. post.link_faults };
-
-    ghost conn_faults = { λ _. 0 };
+    ghost faults = { λ post. post.faults };
 
     fn accept(&mut self) -> Result<Option<()>, Failed> {
         if self.has_come {
@@ -89,15 +85,55 @@ impl Post for PolitePost {
     }
 
     fn finish(&mut self, child: PoliteChild) {
-        if child.faults > 0 {
-            self.link_faults = self.link_faults.saturating_add(1);
-        }
+        self.faults.link = link_count(self.faults.link, child.faults);
     }
 
     fn hang_up(&mut self, _conn: ()) {}
 
+    fn conn_recv(&mut self, _conn: &mut (), _buf: &mut [u8]) -> Result<usize, Failed> {
+        Ok(0)
+    }
+
     fn conn_send(&mut self, _conn: &mut (), _bytes: &[u8]) -> Result<(), Failed> {
         Ok(())
+    }
+
+    fn vault_read(
+        &mut self,
+        _uid: u32,
+        _name: &Label,
+        _offset: u64,
+        _buf: &mut [u8],
+    ) -> Result<usize, Failed> {
+        Ok(0)
+    }
+
+    fn vault_write(
+        &mut self,
+        _uid: u32,
+        _name: &Label,
+        _offset: u64,
+        _bytes: &[u8],
+    ) -> Result<(), Failed> {
+        Ok(())
+    }
+
+    fn now(&mut self) -> u64 {
+        0
+    }
+}
+
+/// The count of the links' faults after a child with so many was given back.
+fn link_count(count: u64, child_faults: u64) -> u64
+    ensures counted { 0 < child_faults → result ≡ next_count count }
+    ensures uncounted { child_faults ≡ 0 → result ≡ count }
+    ensures least { count ≤ result }
+    ensures most { result ≤ next_count count }
+{
+    if child_faults > 0 {
+        count.saturating_add(1)
+    } else {
+        count
     }
 }
 
@@ -106,7 +142,7 @@ fn a_child_that_waits_for_its_replies_is_served(rt: HostRuntime) -> Result<(), F
     let alloc = rt.alloc();
     let post = PolitePost {
         has_come: false,
-        link_faults: 0,
+        faults: Faults::none(),
     };
     let mut site = MemSite::new(alloc, vec![in alloc; post]?)?;
     let words = [Word::of(alloc, "serve".as_bytes())?];

@@ -18,8 +18,14 @@ pub enum CallKind {
     Accept,
     /// A post's `start`.
     Start,
+    /// A post's `conn_recv`.
+    ConnRecv,
     /// A post's `conn_send`.
     ConnSend,
+    /// A post's `vault_read`.
+    VaultRead,
+    /// A post's `vault_write`.
+    VaultWrite,
 }
 
 /// A call that is to fail: the one of this kind with this number, counted from 1. Of two entries

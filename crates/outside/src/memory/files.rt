@@ -2,9 +2,10 @@ ghost use Rattle.std.specs.Prelude.{◌≡◌, ◌↔◌, ◌≤◌, [], ◌++�
 ghost use Rattle.std.specs.List.{position};
 ghost use Rattle.std.specs.Str.{bytes_eq};
 ghost use Rattle.outside.specs.MemFiles.{file_of};
-ghost use Rattle.outside.specs.Failures.{next_number};
+ghost use Rattle.outside.specs.Told.{next_count};
 ghost use Rattle.outside.specs.Files.{MayBeReplaced, Replaced, SameFiles, bytes_read, piece_of};
-ghost use Rattle.outside.specs.Told.{Goes, Rose};
+ghost use Rattle.outside.specs.Faults.{count_after};
+ghost use Rattle.outside.specs.Told.{Goes};
 
 use super::fail::{CallKind, Fail, find_failure};
 use crate::act::Failed;
@@ -29,10 +30,7 @@ pub struct MemFiles {
 fn pair_of(alloc: Global, name: &Word, bytes: &[u8]) -> Result<(Word, Bytes), AllocError>
     ensures { IfOk result (λ pair. (pair.0 ≡ name.now) × (pair.1 ≡ bytes.now)) }
 {
-    Ok((
-        Word::of(alloc, name.as_str().as_bytes())?,
-        Bytes::of(alloc, bytes)?,
-    ))
+    Ok((name.copy(alloc)?, Bytes::of(alloc, bytes)?))
 }
 
 impl MemFiles {
@@ -134,16 +132,16 @@ impl Files for MemFiles {
         ensures bound { IfOk result (λ found. IfSome found (λ n. n ≤ length buf.old)) }
         ensures found { IfOk result (λ found. IfSome (contents_of self.new) (λ files.
             bytes_read found buf.new ≡ piece_of (files name.now) offset (length buf.old))) }
-        ensures kept { Goes SameFiles (contents_of self.old) (contents_of self.new) }
-        ensures failed { OnErr result (Rose (read_faults_of self.old) (read_faults_of self.new)) }
-        ensures read_faults { read_faults_of self.old ≤ read_faults_of self.new }
-        ensures replace_faults { replace_faults_of self.new ≡ replace_faults_of self.old }
+        ensures same { Goes SameFiles (contents_of self.old) (contents_of self.new) }
+        ensures counts { read_faults_of self.new ≡ count_after result (read_faults_of self.old) }
+        ensures kept { read_faults_of self.old ≤ read_faults_of self.new }
+        ensures others { replace_faults_of self.new ≡ replace_faults_of self.old }
 
         ensures listed { IsErr result ↔ IsSome (read_failure (files_schedule self.old)) }
         ensures tells { IsSome (contents_of self.old) → IsSome (contents_of self.new) }
         ensures rest { IfOk result (λ found. IfSome found (λ n. drop n buf.new ≡ drop n buf.old)) }
         ensures schedule { files_schedule self.new ≡ record (files_schedule self.old) {
-          reads = next_number (files_schedule self.old).reads;
+          reads = next_count (files_schedule self.old).reads;
         } }
     {
         self.reads = self.reads.saturating_add(1);
@@ -163,14 +161,15 @@ impl Files for MemFiles {
             (contents_of self.new)) }
         ensures err { OnErr result (Goes (MayBeReplaced name.now bytes.now) (contents_of self.old)
             (contents_of self.new)) }
-        ensures failed { OnErr result (Rose (replace_faults_of self.old) (replace_faults_of self.new)) }
-        ensures read_faults { read_faults_of self.new ≡ read_faults_of self.old }
-        ensures replace_faults { replace_faults_of self.old ≤ replace_faults_of self.new }
+        ensures counts { replace_faults_of self.new
+            ≡ count_after result (replace_faults_of self.old) }
+        ensures kept { replace_faults_of self.old ≤ replace_faults_of self.new }
+        ensures others { read_faults_of self.new ≡ read_faults_of self.old }
 
         ensures listed { IsErr result ↔ IsSome (replace_failure (files_schedule self.old)) }
-        ensures kept { OnErr result (contents_of self.new ≡ contents_of self.old) }
+        ensures unchanged { OnErr result (contents_of self.new ≡ contents_of self.old) }
         ensures schedule { files_schedule self.new ≡ record (files_schedule self.old) {
-          replaces = next_number (files_schedule self.old).replaces;
+          replaces = next_count (files_schedule self.old).replaces;
         } }
     {
         self.replaces = self.replaces.saturating_add(1);
@@ -187,7 +186,7 @@ impl Files for MemFiles {
 
 /// Copies bytes from an offset on to the front of a buffer, as many as there is room for, and gives
 /// how many.
-fn copy_from(bytes: &[u8], offset: u64, buf: &mut [u8]) -> usize
+pub(super) fn copy_from(bytes: &[u8], offset: u64, buf: &mut [u8]) -> usize
     ensures bound { result ≤ length buf.old }
     ensures piece { take result buf.new ≡ take (length buf.old) (drop offset bytes.now) }
     ensures rest { drop result buf.new ≡ drop result buf.old }

@@ -28,5 +28,6 @@ pub(super) fn planned(scripts: &[Script], came: usize, role: Role) -> &[u8]
     let script = &scripts[came - 1];
     match role {
         Role::Pre { .. } => script.pre.as_slice(),
+        Role::User { .. } => script.user.as_slice(),
     }
 }

@@ -1,6 +1,7 @@
 ghost use Rattle.std.specs.Prelude.{◌≡◌, ◌↔◌, ◌≤◌, [], IfOk, IfSome, IsErr, IsSome, IsTrue, OnErr, OnOk, Some};
-ghost use Rattle.outside.specs.Failures.{bytes_let_out, next_number};
-ghost use Rattle.outside.specs.Told.{Gains, GainsPart, Rose};
+ghost use Rattle.outside.specs.Failures.{bytes_let_out};
+ghost use Rattle.outside.specs.Faults.{count_after};
+ghost use Rattle.outside.specs.Told.{Gains, GainsPart, next_count};
 
 use super::fail::{CallKind, Fail, find_failure};
 use super::output::Output;
@@ -61,14 +62,14 @@ impl Sink for MemSink {
     fn append(&mut self, bytes: &[u8]) -> Result<(), Failed>
         ensures ok { OnOk result (Gains (held_of self.old) bytes.now (held_of self.new)) }
         ensures part { OnErr result (GainsPart (held_of self.old) bytes.now (held_of self.new)) }
-        ensures failed { OnErr result (Rose (faults_of self.old) (faults_of self.new)) }
-        ensures faults { faults_of self.old ≤ faults_of self.new }
+        ensures counts { faults_of self.new ≡ count_after result (faults_of self.old) }
+        ensures kept { faults_of self.old ≤ faults_of self.new }
 
         ensures listed { IsErr result ↔ IsSome (append_failure (sink_schedule self.old)) }
         ensures let_out { Gains (held_of self.old)
             (bytes_let_out (append_failure (sink_schedule self.old)) bytes.now) (held_of self.new) }
         ensures schedule { sink_schedule self.new ≡ record (sink_schedule self.old) {
-          appends = next_number (sink_schedule self.old).appends;
+          appends = next_count (sink_schedule self.old).appends;
         } }
     {
         self.appends = self.appends.saturating_add(1);

@@ -1,13 +1,14 @@
 ghost use Rattle.std.specs.Prelude.{◌≡◌, ◌↔◌, ◌<◌, ◌≤◌, [], All, drop, IfOk, IfSome, IsErr, IsSome, IsSomeAnd, IsTrue, length, min, OnErr, OnOk, OnSome, Ok, Some};
-ghost use Rattle.outside.specs.Cuts.{cuts_after, next_piece};
-ghost use Rattle.outside.specs.Failures.{bytes_let_out, next_number};
+ghost use Rattle.outside.specs.Repeating.{items_after, next_item};
+ghost use Rattle.outside.specs.Failures.{bytes_let_out};
 ghost use Rattle.outside.specs.Link.{Exchanged, SendsPart, received_bytes};
-ghost use Rattle.outside.specs.Told.{Goes, Rose};
+ghost use Rattle.outside.specs.Faults.{count_after};
+ghost use Rattle.outside.specs.Told.{Goes, next_count};
 ghost use Rattle.std.proofs.Props.{props};
 
-use super::cuts::Cuts;
 use super::fail::{CallKind, Fail, find_failure};
 use super::output::Output;
+use super::repeating::Repeating;
 use crate::act::{Failed, Role, Talk};
 use crate::bytes::Bytes;
 use crate::stream::Stream;
@@ -19,7 +20,7 @@ pub struct MemStream {
     role: Role,
     input: Vec<u8>,
     taken: usize,
-    cuts: Cuts,
+    cuts: Repeating<usize>,
     output: Output,
     fails: Vec<Fail>,
     recvs: u64,
@@ -37,11 +38,15 @@ pub(super) struct Closed {
 }
 
 /// Copies of the input and the cuts of a stream.
-fn copies(alloc: Global, input: &[u8], cuts: &[usize]) -> Result<(Vec<u8>, Cuts), AllocError>
+fn copies(
+    alloc: Global,
+    input: &[u8],
+    cuts: &[usize],
+) -> Result<(Vec<u8>, Repeating<usize>), AllocError>
     ensures input { IfOk result (λ made. made.0.items ≡ input.now) }
     ensures cuts { IfOk result (λ made. made.1 ≡ cuts.now) }
 {
-    Ok((Vec::from_slice(alloc, input)?, Cuts::of(alloc, cuts)?))
+    Ok((Vec::from_slice(alloc, input)?, Repeating::of(alloc, cuts)?))
 }
 
 impl MemStream {
@@ -94,12 +99,24 @@ impl MemStream {
             Ok((input, cuts)) => MemStream::with(role, input, cuts, Output::new(alloc), fails),
             Err(AllocError) => {
                 let input = Vec::new(alloc);
-                MemStream::with(role, input, Cuts::none(alloc), Output::silent(alloc), fails)
+                MemStream::with(
+                    role,
+                    input,
+                    Repeating::none(alloc),
+                    Output::silent(alloc),
+                    fails,
+                )
             }
         }
     }
 
-    fn with(role: Role, input: Vec<u8>, cuts: Cuts, output: Output, fails: Vec<Fail>) -> MemStream
+    fn with(
+        role: Role,
+        input: Vec<u8>,
+        cuts: Repeating<usize>,
+        output: Output,
+        fails: Vec<Fail>,
+    ) -> MemStream
         requires some_cut { IsTrue output.telling → 0 < length cuts }
         requires each_cut { All (λ c. 1 ≤ c) cuts }
         ensures role { role_of result ≡ role }
@@ -162,11 +179,11 @@ impl MemStream {
         self.role
     }
 
-    /// Whether a call of it failed.
-    pub(super) fn is_faulty(&self) -> bool
-        ensures { IsTrue result ↔ (0 < faults_of self.now) }
+    /// How many faults it had.
+    pub(super) fn faults(&self) -> u64
+        ensures { result ≡ faults_of self.now }
     {
-        self.faults > 0
+        self.faults
     }
 
     /// Whether it tells what passes.
@@ -194,7 +211,7 @@ impl Stream for MemStream {
     ghost role = { role_of };
 
     /// Receives the next piece. It fails exactly where its list says so.
-    #[tactic(auto, using(crate::proofs::CutLemmas::cut_laws))]
+    #[tactic(auto, using(crate::proofs::RepeatingLemmas::cut_laws))]
     fn recv(&mut self, buf: &mut [u8]) -> Result<usize, Failed>
         requires { 0 < length buf.old }
 
@@ -202,23 +219,23 @@ impl Stream for MemStream {
         ensures link { Goes (Exchanged (received_bytes result buf.new) []) (link_of self.old)
             (link_of self.new) }
         ensures end { result ≡ Ok 0 → IfSome (link_of self.new) (λ l. l.left ≡ []) }
-        ensures failed { OnErr result (Rose (faults_of self.old) (faults_of self.new)) }
-        ensures faults { faults_of self.old ≤ faults_of self.new }
+        ensures counts { faults_of self.new ≡ count_after result (faults_of self.old) }
+        ensures kept { faults_of self.old ≤ faults_of self.new }
         ensures role { role_of self.new ≡ role_of self.old }
 
         ensures listed { IsErr result ↔ IsSome (recv_failure (stream_schedule self.old)) }
         ensures piece { IfOk result (λ n. IfSome (link_of self.old) (λ l.
-            n ≡ min (next_piece (stream_schedule self.old).cuts)
+            n ≡ min (next_item (stream_schedule self.old).cuts)
             (min (length buf.old) (length l.left)))) }
         ensures rest { IfOk result (λ n. drop n buf.new ≡ drop n buf.old) }
         ensures schedule_ok { OnOk result
             (stream_schedule self.new ≡ record (stream_schedule self.old) {
-              recvs = next_number (stream_schedule self.old).recvs;
-              cuts = cuts_after (stream_schedule self.old).cuts;
+              recvs = next_count (stream_schedule self.old).recvs;
+              cuts = items_after (stream_schedule self.old).cuts;
             }) }
         ensures schedule_err { OnErr result
             (stream_schedule self.new ≡ record (stream_schedule self.old) {
-              recvs = next_number (stream_schedule self.old).recvs;
+              recvs = next_count (stream_schedule self.old).recvs;
             }) }
     {
         self.recvs = self.recvs.saturating_add(1);
@@ -226,7 +243,7 @@ impl Stream for MemStream {
             self.faults = self.faults.saturating_add(1);
             return Err(Failed);
         }
-        let piece = self.cuts.take();
+        let piece = self.cuts.take().unwrap_or(0);
         let left = &self.input[self.taken..];
         let n = piece.min(buf.len()).min(left.len());
         buf[..n].copy_from_slice(&left[..n]);
@@ -239,8 +256,8 @@ impl Stream for MemStream {
         ensures ok { OnOk result
             (Goes (Exchanged [] bytes.now) (link_of self.old) (link_of self.new)) }
         ensures part { OnErr result (SendsPart bytes.now (link_of self.old) (link_of self.new)) }
-        ensures failed { OnErr result (Rose (faults_of self.old) (faults_of self.new)) }
-        ensures faults { faults_of self.old ≤ faults_of self.new }
+        ensures counts { faults_of self.new ≡ count_after result (faults_of self.old) }
+        ensures kept { faults_of self.old ≤ faults_of self.new }
         ensures role { role_of self.new ≡ role_of self.old }
 
         ensures listed { IsErr result ↔ IsSome (send_failure (stream_schedule self.old)) }
@@ -248,7 +265,7 @@ impl Stream for MemStream {
             (Exchanged [] (bytes_let_out (send_failure (stream_schedule self.old)) bytes.now))
             (link_of self.old) (link_of self.new) }
         ensures schedule { stream_schedule self.new ≡ record (stream_schedule self.old) {
-          sends = next_number (stream_schedule self.old).sends;
+          sends = next_count (stream_schedule self.old).sends;
         } }
     {
         self.sends = self.sends.saturating_add(1);

@@ -1,11 +1,13 @@
 ghost use Rattle.std.specs.Prelude.{◌≡◌, ◌≤◌, ℕ, ◌+◌, [], ◌∷◌, length, List, None, Some};
+ghost use Rattle.outside.specs.declared.act.Act.{Act};
 ghost use Rattle.outside.specs.Scene.{came_count, Did, GivenBack, Played};
 ghost use Rattle.outside.specs.Told.{Goes};
 
 use super::stream::{Closed, MemStream};
-use crate::act::{Act, Talk};
+use super::vault::Spot;
+use crate::act::{Act, Failed, Talk};
 use crate::bytes::Bytes;
-use std::alloc::Global;
+use std::alloc::{AllocError, Global};
 
 /// What was asked of a post, told up to `room` acts and as long as memory is found for it.
 #[derive(Debug, Drop)]
@@ -77,6 +79,32 @@ impl Transcript {
         let Closed { talk, unread } = closed;
         if self.talks.push(talk).is_err() || self.unread.push(unread).is_err() {
             self.telling = false;
+        }
+    }
+
+    /// Adds the act of a write into a user's file.
+    pub(super) fn wrote(
+        &mut self,
+        alloc: Global,
+        spot: Spot,
+        bytes: &[u8],
+        outcome: Result<(), Failed>,
+    )
+        ensures did { (plan : List (List ℕ × List ℕ)) →
+            Did (Act.VaultWrite spot.uid spot.name spot.offset bytes.now outcome)
+            (scene_with self.old plan) (scene_with self.new plan) }
+        ensures came { (n : ℕ) → HasCome self.old n → HasCome self.new n }
+        ensures room { self.new.room ≡ self.old.room }
+    {
+        match Bytes::of(alloc, bytes) {
+            Ok(bytes) => self.act(Act::VaultWrite {
+                uid: spot.uid,
+                name: spot.name,
+                offset: spot.offset,
+                bytes,
+                outcome,
+            }),
+            Err(AllocError) => self.cease(),
         }
     }
 

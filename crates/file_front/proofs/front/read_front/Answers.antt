@@ -19,8 +19,8 @@ loop-piece-preserved g c =
     let added = c.in_ok-extend_from_slice-in-Some.ensures.len in
     let short = length-take n (c.read.new.buf ++ drop c.min-room.result c.loop-piece.piece) in (
       omega (arith, added, short, in_room, room_left, held.0),
-      rw c.in_ok-extend_from_slice-in-Some.ensures.items (HasFront-more before after c.in_ok-word.word c.args.name.now same c.loop-piece.bytes.items c.read.new.buf _ c.in_ok-read.field-0 n _ _ read.kept held.1 found (grind arith) within read.found),
-      SameFiles-then (contents c.args.files.now) before after held.2 read.kept,
-      omega (arith, held.3, read.read_faults),
-      omega (arith, held.4, read.replace_faults),
+      rw c.in_ok-extend_from_slice-in-Some.ensures.items (HasFront-more before after c.in_ok-word.word c.args.name.now same c.loop-piece.bytes.items c.read.new.buf _ c.in_ok-read.field-0 n _ _ read.same held.1 found (grind arith) within read.found),
+      SameFiles-then (contents c.args.files.now) before after held.2 read.same,
+      omega (arith, held.3, read.kept),
+      omega (arith, held.4, read.others),
     )

@@ -11,16 +11,16 @@ use Rattle.monitor_server.proofs.Steps.{IsBetween-next}
 use Rattle.monitor_server.proofs.run.serve.Given as given
 use Rattle.monitor_server.proofs.run.serve.Goals as goal
 
-ran_next : (g : given.Over) (c : goal.After-is_accept_fault-accept_failed g) → WorkersRan 1 (c.loop-post.accept_failed || c.is_accept_fault-accept_failed.result) (c.loop-post.worker + 1) c.serve_worker-end.new.book.journal.items (set c.loop-post.post-items c.loop-post.post-index c.serve_worker-end.new.post) g.P.Post.scene g.P.Post.accept_faults g.P.Post.link_faults g.P.Post.keeper_faults
+ran_next : (g : given.Over) (c : goal.After-is_accept_fault-accept_failed g) → WorkersRan 1 (c.loop-post.accept_failed || c.is_accept_fault-accept_failed.result) (c.loop-post.worker + 1) c.serve_worker-end.new.book.journal.items (set c.loop-post.post-items c.loop-post.post-index c.serve_worker-end.new.post) g.P.Post.scene g.P.Post.faults
 ran_next g c =
     let kept = c.loop-post.invariant in
     let end = c.serve_worker-end in
     let within : c.loop-post.post-index < length c.loop-post.post-items = omega (arith, c.loop-post-test.true, c.loop-post.auto.post-items) in
     let old = get_or c.loop-post.post-items c.loop-post.post-index c.post-item.result in
-    let story = subst (λ n. HasStory c.loop-post.worker n end.result c.loop-post.book.journal.items end.new.book.journal.items (g.P.Post.scene old) (g.P.Post.scene end.new.post) (g.P.Post.link_faults old) (g.P.Post.keeper_faults old) (g.P.Post.link_faults end.new.post) (g.P.Post.keeper_faults end.new.post)) (ap (λ s. s.connections) c.requires.setup) end.ensures.story in
-    subst (λ b. WorkersRan 1 (c.loop-post.accept_failed || b) (c.loop-post.worker + 1) end.new.book.journal.items (set c.loop-post.post-items c.loop-post.post-index end.new.post) g.P.Post.scene g.P.Post.accept_faults g.P.Post.link_faults g.P.Post.keeper_faults) (sym c.is_accept_fault-accept_failed.ensures)
+    let story = subst (λ n. HasStory c.loop-post.worker n end.result c.loop-post.book.journal.items end.new.book.journal.items (g.P.Post.scene old) (g.P.Post.scene end.new.post) (g.P.Post.faults old) (g.P.Post.faults end.new.post)) (ap (λ s. s.connections) c.requires.setup) end.ensures.story in
+    subst (λ b. WorkersRan 1 (c.loop-post.accept_failed || b) (c.loop-post.worker + 1) end.new.book.journal.items (set c.loop-post.post-items c.loop-post.post-index end.new.post) g.P.Post.scene g.P.Post.faults) (sym c.is_accept_fault-accept_failed.ensures)
     (workers_next 1 c.loop-post.accept_failed end.result c.loop-post.worker c.loop-post.post-index c.loop-post.book.journal.items end.new.book.journal.items c.loop-post.post-items old end.new.post
-    g.P.Post.scene g.P.Post.accept_faults g.P.Post.keeper_faults g.P.Post.link_faults g.P.Post.conn_faults kept.place within (slice_get-get_or c.loop-post.post-items c.loop-post.post-index c.post-item.result within) kept.ran kept.fresh story end.ensures.accept_fault)
+    g.P.Post.scene g.P.Post.faults kept.place within (slice_get-get_or c.loop-post.post-items c.loop-post.post-index c.post-item.result within) kept.ran kept.fresh story end.ensures.accept_fault)
 
 pub loop-post-preserved : goal.loop-post-preserved
 loop-post-preserved g c =
@@ -33,7 +33,7 @@ loop-post-preserved g c =
       capacity = end.ensures.capacity ∙ kept.capacity;
       frames = end.ensures.frames;
       ran = ran_next g c;
-      fresh = fresh_next c.loop-post.post-items c.loop-post.post-index end.new.post g.P.Post.scene g.P.Post.accept_faults g.P.Post.keeper_faults g.P.Post.link_faults g.P.Post.conn_faults kept.fresh;
+      fresh = fresh_next c.loop-post.post-items c.loop-post.post-index end.new.post g.P.Post.scene g.P.Post.faults kept.fresh;
       logged = Logged-then kept.logged end.ensures.logged;
     }
 
@@ -44,10 +44,10 @@ loop-post-init g c = record {
   between = search rules;
   capacity = search rules;
   frames = search rules;
-  ran = subst (λ journal. WorkersRan 1 false 0 journal c.deref_mut-post-items.result.now g.P.Post.scene g.P.Post.accept_faults g.P.Post.link_faults g.P.Post.keeper_faults) (sym c.requires.journal)
-      (workers_none 1 c.deref_mut-post-items.result.now g.P.Post.scene g.P.Post.accept_faults g.P.Post.link_faults g.P.Post.keeper_faults);
-  fresh = subst (λ posts. AreFresh 0 posts g.P.Post.scene g.P.Post.accept_faults g.P.Post.keeper_faults g.P.Post.link_faults g.P.Post.conn_faults) (sym c.deref_mut-post-items.ensures.value)
-      (fresh_all c.args.posts.items g.P.Post.scene g.P.Post.accept_faults g.P.Post.keeper_faults g.P.Post.link_faults g.P.Post.conn_faults c.requires.fresh);
+  ran = subst (λ journal. WorkersRan 1 false 0 journal c.deref_mut-post-items.result.now g.P.Post.scene g.P.Post.faults) (sym c.requires.journal)
+      (workers_none 1 c.deref_mut-post-items.result.now g.P.Post.scene g.P.Post.faults);
+  fresh = subst (λ posts. AreFresh 0 posts g.P.Post.scene g.P.Post.faults) (sym c.deref_mut-post-items.ensures.value)
+      (fresh_all c.args.posts.items g.P.Post.scene g.P.Post.faults c.requires.fresh);
   logged = search rules;
 }
 
@@ -58,9 +58,9 @@ returns-clause-ran g c =
     let len : c.args.posts.len ≡ length items = omega (arith, c.deref_mut-post-items.ensures.len, c.deref_mut-post-items.ensures.value, c.loop-post.auto.post-items) in
     let posts : take c.args.posts.len (items ++ drop (length items) c.args.posts.items) ≡ items = ap (λ n. take n (items ++ drop (length items) c.args.posts.items)) len ∙ take-append_seam items (drop (length items) c.args.posts.items) in
     let count : c.loop-post.worker ≡ length items = omega (arith, kept.place, c.loop-post-test.false, c.loop-post.auto.post-items, c.loop-post.auto.post-index-end) in
-    subst (λ posts. RunEnded c.status_of.result c.loop-post.book.journal.items posts g.P.Post.scene g.P.Post.accept_faults g.P.Post.link_faults g.P.Post.keeper_faults) (sym posts) (record {
+    subst (λ posts. RunEnded c.status_of.result c.loop-post.book.journal.items posts g.P.Post.scene g.P.Post.faults) (sym posts) (record {
       failed = c.loop-post.accept_failed;
-      ran = subst (λ n. WorkersRan 1 c.loop-post.accept_failed n c.loop-post.book.journal.items items g.P.Post.scene g.P.Post.accept_faults g.P.Post.link_faults g.P.Post.keeper_faults) count kept.ran;
+      ran = subst (λ n. WorkersRan 1 c.loop-post.accept_failed n c.loop-post.book.journal.items items g.P.Post.scene g.P.Post.faults) count kept.ran;
       success = λ h. no_failure c.has_lost.result c.loop-post.accept_failed (sym c.status_of.ensures ∙ h);
       accept_fault = λ h. failure c.has_lost.result c.loop-post.accept_failed (sym c.status_of.ensures ∙ h);
     })

@@ -13,7 +13,7 @@ invariant-loop-post g l = record {
   between : IsBetween l.setup l.worker l.book.journal.items (vec_len l.book.journal);
   capacity : vec_capacity l.book.journal ≡ events_max l.setup;
   frames : IsForSessions l.reader;
-  ran : WorkersRan plain_settings.connections l.accept_failed l.worker l.book.journal.items l.post-items g.P.Post.scene g.P.Post.accept_faults g.P.Post.link_faults g.P.Post.keeper_faults;
-  fresh : AreFresh l.post-index l.post-items g.P.Post.scene g.P.Post.accept_faults g.P.Post.keeper_faults g.P.Post.link_faults g.P.Post.conn_faults;
+  ran : WorkersRan plain_settings.connections l.accept_failed l.worker l.book.journal.items l.post-items g.P.Post.scene g.P.Post.faults;
+  fresh : AreFresh l.post-index l.post-items g.P.Post.scene g.P.Post.faults;
   logged : Logged l.setup [] l.book.journal.items (g.K.Sink.held l.fn.log) (g.K.Sink.held l.book.log) (g.K.Sink.faults l.fn.log) (g.K.Sink.faults l.book.log);
 }

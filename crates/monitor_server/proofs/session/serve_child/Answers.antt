@@ -1,6 +1,6 @@
 use Rattle.std.proofs.Common.{arith, rules, ◌∙◌}
 use Rattle.policy_model.proofs.Runs.{OthersStay-then}
-use Rattle.monitor_server.proofs.Faults.{NoFewer-none, NoFewer-then}
+use Rattle.outside.proofs.Counts.{NoneFell-none, NoneFell-then}
 use Rattle.monitor_server.proofs.Logs.{Logged-then}
 use Rattle.monitor_server.proofs.Turns.{Concludes-after, Proceeds-none, Proceeds-then}
 use Rattle.monitor_server.proofs.session.serve_child.Goals as goal
@@ -13,7 +13,7 @@ loop-why-init g c = record {
   logged = search rules;
   proceeds = Proceeds-none c.args.worker c.args.book.now.journal.items (g.P.Post.scene c.args.post.now) (g.P.Child.Stream.link c.args.child.now) c.args.reader.now.bytes;
   role = search rules;
-  kept = NoFewer-none (g.P.Post.link_faults c.args.post.now) (g.P.Post.keeper_faults c.args.post.now);
+  kept = NoneFell-none (g.P.Post.faults c.args.post.now);
 }
 
 pub returns-in-Some-clause-logged : goal.returns-in-Some-clause-logged
@@ -45,5 +45,5 @@ loop-why-preserved g c =
       proceeds = Proceeds-then c.args.worker c.args.book.now.journal.items c.loop-why.book.journal.items turn.new.book.journal.items (g.P.Post.scene c.args.post.now) (g.P.Post.scene c.loop-why.post) (g.P.Post.scene turn.new.post)
           (g.P.Child.Stream.link c.args.child.now) (g.P.Child.Stream.link c.loop-why.child) (g.P.Child.Stream.link turn.new.child) c.args.reader.now.bytes c.loop-why.reader.bytes turn.new.reader.bytes kept.proceeds c.in_default.ensures.turns;
       role = turn.ensures.role ∙ kept.role;
-      kept = NoFewer-then (g.P.Post.link_faults c.args.post.now) (g.P.Post.keeper_faults c.args.post.now) (g.P.Post.link_faults c.loop-why.post) (g.P.Post.keeper_faults c.loop-why.post) (g.P.Post.link_faults turn.new.post) (g.P.Post.keeper_faults turn.new.post) kept.kept turn.ensures.kept;
+      kept = NoneFell-then (g.P.Post.faults c.args.post.now) (g.P.Post.faults c.loop-why.post) (g.P.Post.faults turn.new.post) kept.kept turn.ensures.kept;
     }

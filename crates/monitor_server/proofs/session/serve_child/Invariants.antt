@@ -2,7 +2,8 @@ use Rattle.std.proofs.Common.{◌≡◌, length, vec_len, vec_capacity}
 use Rattle.policy_model.specs.Journal.{ask_count}
 use Rattle.monitor_server.specs.Frames.{IsForSessions}
 use Rattle.monitor_server.specs.Book.{Logged}
-use Rattle.monitor_server.specs.Serving.{NoFewer, Proceeds, work_left}
+use Rattle.outside.specs.Faults.{NoneFell}
+use Rattle.monitor_server.specs.Serving.{Proceeds, work_left}
 use Rattle.monitor_server.specs.Session.{IsUnderway}
 use Rattle.monitor_server.proofs.session.serve_child.Given as goal
 
@@ -14,7 +15,7 @@ invariant-loop-why g l = record {
   logged : Logged l.setup l.fn.book.journal.items l.book.journal.items (g.K.Sink.held l.fn.book.log) (g.K.Sink.held l.book.log) (g.K.Sink.faults l.fn.book.log) (g.K.Sink.faults l.book.log);
   proceeds : Proceeds l.worker l.fn.book.journal.items l.book.journal.items (g.P.Post.scene l.fn.post) (g.P.Post.scene l.post) (g.P.Child.Stream.link l.fn.child) (g.P.Child.Stream.link l.child) l.fn.reader.bytes l.reader.bytes;
   role : g.P.Child.Stream.role l.child ≡ g.P.Child.Stream.role l.fn.child;
-  kept : NoFewer (g.P.Post.link_faults l.fn.post) (g.P.Post.keeper_faults l.fn.post) (g.P.Post.link_faults l.post) (g.P.Post.keeper_faults l.post);
+  kept : NoneFell (g.P.Post.faults l.fn.post) (g.P.Post.faults l.post);
 }
 
 -- the asks that are left, and within one of them the bytes that the reader has room for

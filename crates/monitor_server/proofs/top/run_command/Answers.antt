@@ -1,10 +1,11 @@
 use Rattle.std.proofs.Common.{Err, Ok, ap, inl, inr, refl, subst}
 use Rattle.outside.specs.Files.{SameFiles}
+use Rattle.policy_model.specs.Settings.{plain_settings}
 use Rattle.outside.proofs.Told.{Goes-same}
 use Rattle.otp_mode.specs.Command.{command_parts}
 use Rattle.monitor_server.specs.Commands.{IsReading}
 use Rattle.monitor_server.proofs.Headline.{uncommanded, unremembered}
-use Rattle.monitor_server.proofs.Whole.{whole-checked, whole-nothing, whole-password, whole-served}
+use Rattle.monitor_server.proofs.Whole.{listens-nowhere, whole-checked, whole-nothing, whole-password, whole-served}
 use Rattle.monitor_server.proofs.top.run_command.Goals as goal
 
 pub returns-in-Ok-Password-clause-whole : goal.returns-in-Ok-Password-clause-whole
@@ -38,3 +39,15 @@ returns-in-Err-OutOfMemory-clause-whole g c =
     let spoken = subst (λ unread. IsReading c.args.words.now (Err unread)) c.in-Err-OutOfMemory.field-0-is c.in-Err-OutOfMemory.ensures in
     let nine = c.unused-in-Err-OutOfMemory.ensures.status in
     whole-nothing (unremembered _ _ _ spoken nine) (inl nine) c.unused-in-Err-OutOfMemory.ensures.detail unused (ap g.K.Sink.held unused.log) refl refl refl
+
+pub returns-in-Ok-Password-clause-listens : goal.returns-in-Ok-Password-clause-listens
+returns-in-Ok-Password-clause-listens g c = listens-nowhere plain_settings _ (g.S.Site.listens c.args.site.now) c.print_password.ensures.unused.workers
+
+pub returns-in-Ok-Check-clause-listens : goal.returns-in-Ok-Check-clause-listens
+returns-in-Ok-Check-clause-listens g c = listens-nowhere plain_settings _ (g.S.Site.listens c.args.site.now) c.check_setup.ensures.unused.workers
+
+pub returns-in-Err-NoCommand-clause-listens : goal.returns-in-Err-NoCommand-clause-listens
+returns-in-Err-NoCommand-clause-listens g c = listens-nowhere plain_settings _ (g.S.Site.listens c.args.site.now) c.unused.ensures.unused.workers
+
+pub returns-in-Err-OutOfMemory-clause-listens : goal.returns-in-Err-OutOfMemory-clause-listens
+returns-in-Err-OutOfMemory-clause-listens g c = listens-nowhere plain_settings _ (g.S.Site.listens c.args.site.now) c.unused-in-Err-OutOfMemory.ensures.unused.workers

@@ -18,7 +18,7 @@ loop-init g c = record {
   len = search rules;
   capacity = search rules;
   frames = search rules;
-  story = ([], sittings_none c.args.worker c.args.book.now.journal.items (g.P.Post.scene c.args.post.now), refl, counted_none (g.P.Post.link_faults c.args.post.now) (g.P.Post.keeper_faults c.args.post.now), tt);
+  story = ([], sittings_none c.args.worker c.args.book.now.journal.items (g.P.Post.scene c.args.post.now), refl, counted_none (g.P.Post.faults c.args.post.now), tt);
   logged = search rules;
 }
 
@@ -39,8 +39,8 @@ returns-then-eq-clause-story g c =
       halted = λ h. refl;
       all = λ e. absurd cc;
       lost = λ e. lost_more story.0 one.sitting one.is (subst (λ why. EndsFor why one.sitting.ending) lost one.ended);
-      counted = counted_more story.0 one.sitting run.result (g.P.Post.link_faults c.args.post.now) (g.P.Post.keeper_faults c.args.post.now) (g.P.Post.link_faults c.accept.new.self) (g.P.Post.keeper_faults c.accept.new.self) (g.P.Post.link_faults run.new.post) (g.P.Post.keeper_faults run.new.post)
-          (counted_kept story.0 (g.P.Post.link_faults c.args.post.now) (g.P.Post.keeper_faults c.args.post.now) (g.P.Post.link_faults c.loop.post) (g.P.Post.keeper_faults c.loop.post) (g.P.Post.link_faults c.accept.new.self) (g.P.Post.keeper_faults c.accept.new.self) story.3 c.accept.ensures.link_faults c.accept.ensures.keeper_faults)
+      counted = counted_more story.0 one.sitting run.result (g.P.Post.faults c.args.post.now) (g.P.Post.faults c.accept.new.self) (g.P.Post.faults run.new.post)
+          (counted_kept story.0 (g.P.Post.faults c.args.post.now) (g.P.Post.faults c.loop.post) (g.P.Post.faults c.accept.new.self) story.3 c.accept.ensures.kept)
           one.is one.ended run.ensures.cause;
     }
 
@@ -54,7 +54,7 @@ returns-in-Ok-None-clause-story g c =
       halted = halted-none story.0 NoneLeft story.4;
       all = λ e. absurd cc;
       lost = λ e. absurd cc;
-      counted = counted_kept story.0 (g.P.Post.link_faults c.args.post.now) (g.P.Post.keeper_faults c.args.post.now) (g.P.Post.link_faults c.loop.post) (g.P.Post.keeper_faults c.loop.post) (g.P.Post.link_faults c.accept.new.self) (g.P.Post.keeper_faults c.accept.new.self) story.3 c.accept.ensures.link_faults c.accept.ensures.keeper_faults;
+      counted = counted_kept story.0 (g.P.Post.faults c.args.post.now) (g.P.Post.faults c.loop.post) (g.P.Post.faults c.accept.new.self) story.3 c.accept.ensures.kept;
     }
 
 pub returns-in-Err-clause-story : goal.returns-in-Err-clause-story
@@ -67,7 +67,7 @@ returns-in-Err-clause-story g c =
       halted = halted-none story.0 AcceptFailed story.4;
       all = λ e. absurd cc;
       lost = λ e. absurd cc;
-      counted = counted_kept story.0 (g.P.Post.link_faults c.args.post.now) (g.P.Post.keeper_faults c.args.post.now) (g.P.Post.link_faults c.loop.post) (g.P.Post.keeper_faults c.loop.post) (g.P.Post.link_faults c.accept.new.self) (g.P.Post.keeper_faults c.accept.new.self) story.3 c.accept.ensures.link_faults c.accept.ensures.keeper_faults;
+      counted = counted_kept story.0 (g.P.Post.faults c.args.post.now) (g.P.Post.faults c.loop.post) (g.P.Post.faults c.accept.new.self) story.3 c.accept.ensures.kept;
     }
 
 pub returns-clause-story : goal.returns-clause-story
@@ -100,8 +100,8 @@ loop-preserved g c =
         story.0 ++ one.sitting ∷ [],
         sittings_more c.args.worker story.0 run.result c.args.book.now.journal.items c.loop.book.journal.items run.new.book.journal.items (g.P.Post.scene c.args.post.now) (g.P.Post.scene c.loop.post) (g.P.Post.scene c.accept.new.self) (g.P.Post.scene run.new.post) story.1 came one,
         more,
-        counted_more story.0 one.sitting run.result (g.P.Post.link_faults c.args.post.now) (g.P.Post.keeper_faults c.args.post.now) (g.P.Post.link_faults c.accept.new.self) (g.P.Post.keeper_faults c.accept.new.self) (g.P.Post.link_faults run.new.post) (g.P.Post.keeper_faults run.new.post)
-            (counted_kept story.0 (g.P.Post.link_faults c.args.post.now) (g.P.Post.keeper_faults c.args.post.now) (g.P.Post.link_faults c.loop.post) (g.P.Post.keeper_faults c.loop.post) (g.P.Post.link_faults c.accept.new.self) (g.P.Post.keeper_faults c.accept.new.self) story.3 c.accept.ensures.link_faults c.accept.ensures.keeper_faults)
+        counted_more story.0 one.sitting run.result (g.P.Post.faults c.args.post.now) (g.P.Post.faults c.accept.new.self) (g.P.Post.faults run.new.post)
+            (counted_kept story.0 (g.P.Post.faults c.args.post.now) (g.P.Post.faults c.loop.post) (g.P.Post.faults c.accept.new.self) story.3 c.accept.ensures.kept)
             one.is one.ended run.ensures.cause,
         All-push GoesOnBehind story.0 one.sitting story.4 (goes_on_behind one.sitting run.result one.ended other),
       );

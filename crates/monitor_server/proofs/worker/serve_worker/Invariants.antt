@@ -16,7 +16,7 @@ invariant-loop g l = record {
   capacity : vec_capacity l.book.journal ≡ vec_capacity l.fn.book.journal;
   frames : IsForSessions l.reader;
   story : (sittings : List Sitting) × HasSittings l.worker sittings Unasked l.fn.book.journal.items l.book.journal.items (g.P.Post.scene l.fn.post) (g.P.Post.scene l.post)
-      × (length sittings ≡ l.counter) × EndsCounted sittings (g.P.Post.link_faults l.fn.post) (g.P.Post.keeper_faults l.fn.post) (g.P.Post.link_faults l.post) (g.P.Post.keeper_faults l.post)
+      × (length sittings ≡ l.counter) × EndsCounted sittings (g.P.Post.faults l.fn.post) (g.P.Post.faults l.post)
       × AllByRecursion GoesOnBehind sittings;
   logged : Logged l.setup l.fn.book.journal.items l.book.journal.items (g.K.Sink.held l.fn.book.log) (g.K.Sink.held l.book.log) (g.K.Sink.faults l.fn.book.log) (g.K.Sink.faults l.book.log);
 }

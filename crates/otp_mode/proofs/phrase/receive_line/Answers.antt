@@ -23,7 +23,7 @@ loop-filled-preserved g c =
     let joined = take-joined filled n buf part rest (omega (arith, held.0, held.3)) short in (
       omega (arith, held.0, short, room),
       rw joined (Exchanges-then (take filled buf) [] (take n part) [] (link c.args.ends.now) (link c.loop-filled.ends) (link c.recv.new.self) held.1 got.link),
-      omega (arith, held.2, got.faults),
+      omega (arith, held.2, got.kept),
       grind (arith, common_steps),
     )
 

@@ -9,6 +9,6 @@ loop-filled-preserved g c =
     let filled = c.loop-filled.filled in
     let n = c.in_ok-n.n in
     let buf = c.loop-filled.buf in
-    let part = c.read.new.buf in
+    let part = c.read_again.new.buf in
     let short : n ≤ length part = grind arith in
-    (grind (arith, common_steps), rw (take-joined filled n buf part _ c.loop-filled.invariant.0 short) (Consumes-then (g.R.Read.remaining c.args.reader.now) (g.R.Read.remaining c.loop-filled.reader) (g.R.Read.remaining c.read.new.self) (take filled buf) (take n part) c.loop-filled.invariant.1 c.in_ok-n.ensures.bytes.0))
+    (grind (arith, common_steps), rw (take-joined filled n buf part _ c.loop-filled.invariant.0 short) (Consumes-then (g.R.Read.remaining c.args.reader.now) (g.R.Read.remaining c.loop-filled.reader) (g.R.Read.remaining c.read_again.new.reader) (take filled buf) (take n part) c.loop-filled.invariant.1 c.in_ok-n.ensures.bytes))

@@ -1,12 +1,12 @@
 use Rattle.std.proofs.Common.{◌≡◌, ◌-◌, ◌≤◌, min, length, take, drop, arith}
-use Rattle.outside.specs.Cuts.{next_piece}
-use Rattle.outside.proofs.CutLemmas.{All-cuts_after}
+use Rattle.outside.specs.Repeating.{next_item}
+use Rattle.outside.proofs.RepeatingLemmas.{All-items_after}
 use Rattle.outside.proofs.ReceivingLemmas.{Goes-received, left-none}
 use Rattle.outside.proofs.memory.stream.MemStreamStream.recv.Goals as goal
 
 pub invariant_of-self-2-clause-each_cut : goal.invariant_of-self-2-clause-each_cut
 invariant_of-self-2-clause-each_cut c =
-    rw c.take-piece.ensures.after (All-cuts_after (λ n. 1 ≤ n) c.args.self.now.cuts c.args.self.now.each_cut)
+    rw c.take.ensures.after (All-items_after (λ n. 1 ≤ n) c.args.self.now.cuts c.args.self.now.each_cut)
 
 pub returns-clause-link : goal.returns-clause-link
 returns-clause-link c =
@@ -15,5 +15,5 @@ returns-clause-link c =
 pub returns-clause-end : goal.returns-clause-end
 returns-clause-end c = λ e.
     let none : c.min-n.result ≡ 0 = cc in
-    let by_cuts : c.min-n.result ≡ min (min (next_piece c.args.self.now.cuts) (length c.args.buf.now)) (length (take (length c.deref-2.result.now - c.args.self.now.taken) (drop c.args.self.now.taken c.deref-2.result.now))) = cc in
+    let by_cuts : c.min-n.result ≡ min (min (next_item c.args.self.now.cuts) (length c.args.buf.now)) (length (take (length c.deref-2.result.now - c.args.self.now.taken) (drop c.args.self.now.taken c.deref-2.result.now))) = cc in
     left-none c.args.self.now.output.telling c.args.self.now.input.items c.args.self.now.output.bytes.items c.deref-2.result.now c.args.self.now.cuts c.args.self.now.taken c.min-n.result (length c.args.buf.now) c.args.self.now.each_cut c.args.self.now.some_cut c.deref-2.ensures.value c.requires by_cuts none

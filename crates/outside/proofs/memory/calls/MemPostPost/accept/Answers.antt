@@ -1,0 +1,14 @@
+use Rattle.std.proofs.Common.{arith}
+use Rattle.outside.proofs.memory.calls.MemPostPost.accept.Goals as goal
+
+pub invariant_of-self-clause-counted : goal.invariant_of-self-clause-counted
+invariant_of-self-clause-counted c =
+    λ t. omega (arith, c.act.ensures.came c.args.self.now.came c.args.self.now.counted t)
+
+pub invariant_of-self-then-self-len-clause-counted : goal.invariant_of-self-then-self-len-clause-counted
+invariant_of-self-then-self-len-clause-counted c =
+    λ t. omega (arith, c.act-then-self-len.ensures.came c.args.self.now.came c.args.self.now.counted t)
+
+pub invariant_of-self-2-clause-counted : goal.invariant_of-self-2-clause-counted
+invariant_of-self-2-clause-counted c =
+    λ t. omega (arith, c.act-2.ensures.came c.args.self.now.came c.args.self.now.counted t)

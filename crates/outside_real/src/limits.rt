@@ -1,0 +1,23 @@
+use std::time::Duration;
+
+/// How long others may keep a post waiting. Each is above 0.
+#[derive(Clone, Copy, Debug)]
+pub struct Limits {
+    /// A client, in one reading or one writing.
+    pub client: Duration,
+    /// A child, in one reading or one writing.
+    pub child: Duration,
+    /// A child that was given back, until it has ended.
+    pub end: Duration,
+}
+
+impl Limits {
+    /// What a server wants: 120 seconds for a client, 30 for a child, 2 for a child's end.
+    pub fn usual() -> Limits {
+        Limits {
+            client: Duration::from_secs(120),
+            child: Duration::from_secs(30),
+            end: Duration::from_secs(2),
+        }
+    }
+}

@@ -1,0 +1,129 @@
+ghost use Rattle.std.specs.Prelude.{◌≤◌, IfOk, length};
+
+use crate::files::fill;
+use request_catalogue::Label;
+use std::alloc::Global;
+use std::fs::{DirBuilder, File, OpenOptions};
+use std::io::{ErrorKind, Seek, SeekFrom, Write};
+use std::os::unix::fs::{DirBuilderExt, MetadataExt, OpenOptionsExt};
+use std::rt::Files;
+use std::{fs, io};
+
+/// The permissions of a user's file: its owner alone may read and write it.
+const FILE_MODE: u32 = 0o600;
+
+/// The permissions of a user's folder: its owner alone may enter it.
+const FOLDER_MODE: u32 = 0o700;
+
+/// A user's file: `vault/uid/name`.
+#[derive(Drop)]
+pub struct UserFile {
+    folder: String,
+    path: String,
+}
+
+impl UserFile {
+    /// The file of this user and name in a vault, which has to be there.
+    pub fn of<R: Files>(
+        rt: &R,
+        alloc: Global,
+        vault: &str,
+        uid: u32,
+        name: &Label,
+    ) -> io::Result<UserFile> {
+        if !fs::metadata(rt, vault)?.is_dir() {
+            return Err(io::Error::from(ErrorKind::NotADirectory));
+        }
+        let Ok(name) = str::from_utf8(name.as_slice()) else {
+            return Err(io::Error::from(ErrorKind::InvalidInput));
+        };
+        let folder = format!(in alloc; "{vault}/{uid}")?;
+        let within = folder.as_str();
+        let path = format!(in alloc; "{within}/{name}")?;
+        Ok(UserFile { folder, path })
+    }
+
+    /// Reads from an offset on until the buffer is full or the file ends. There is nothing in a file
+    /// that is missing.
+    pub fn read<R: Files<File = File>>(
+        &self,
+        rt: &R,
+        offset: u64,
+        buf: &mut [u8],
+    ) -> io::Result<usize>
+        ensures { IfOk result (λ n. n ≤ length buf.old) }
+    {
+        let mut options = OpenOptions::new();
+        options.read(true);
+        if !has_folder(rt, self.folder.as_str())? {
+            return Ok(0);
+        }
+        let Some(mut file) = open_regular(rt, self.path.as_str(), &options)? else {
+            return Ok(0);
+        };
+        file.seek(SeekFrom::Start(offset))?;
+        fill(&mut file, buf)
+    }
+
+    /// Writes bytes from an offset on. A file and a folder that are missing are made; the system
+    /// fills a gap with zeros.
+    pub fn write<R: Files<File = File>>(
+        &self,
+        rt: &R,
+        offset: u64,
+        bytes: &[u8],
+    ) -> io::Result<()> {
+        let folder = self.folder.as_str();
+        if !has_folder(rt, folder)? {
+            DirBuilder::new().mode(FOLDER_MODE).create(rt, folder)?;
+        }
+        let mut options = OpenOptions::new();
+        options.write(true);
+        let mut file = match open_regular(rt, self.path.as_str(), &options)? {
+            Some(file) => file,
+            None => make(rt, self.path.as_str())?,
+        };
+        file.seek(SeekFrom::Start(offset))?;
+        file.write_all(bytes)
+    }
+}
+
+/// Makes a file where there is none.
+fn make<R: Files<File = File>>(rt: &R, path: &str) -> io::Result<File> {
+    let mut options = OpenOptions::new();
+    options.write(true).create_new(true).mode(FILE_MODE);
+    options.open(rt, path)
+}
+
+/// Whether a user's folder is there. What else stands in its place, a link too, is refused.
+fn has_folder<R: Files>(rt: &R, path: &str) -> io::Result<bool> {
+    match fs::symlink_metadata(rt, path) {
+        Ok(found) if found.is_dir() => Ok(true),
+        Ok(_) => Err(io::Error::from(ErrorKind::NotADirectory)),
+        Err(error) if error.kind() == ErrorKind::NotFound => Ok(false),
+        Err(error) => Err(error),
+    }
+}
+
+/// Opens a regular file and nothing else: no link is followed, also where the file was exchanged
+/// between the look and the opening. `None`: there is no such file.
+fn open_regular<R: Files<File = File>>(
+    rt: &R,
+    path: &str,
+    options: &OpenOptions,
+) -> io::Result<Option<File>> {
+    let seen = match fs::symlink_metadata(rt, path) {
+        Ok(seen) => seen,
+        Err(error) if error.kind() == ErrorKind::NotFound => return Ok(None),
+        Err(error) => return Err(error),
+    };
+    if !seen.is_file() {
+        return Err(io::Error::from(ErrorKind::InvalidInput));
+    }
+    let file = options.open(rt, path)?;
+    let opened = file.metadata()?;
+    if opened.dev() != seen.dev() || opened.ino() != seen.ino() {
+        return Err(io::Error::from(ErrorKind::InvalidInput));
+    }
+    Ok(Some(file))
+}
