@@ -1,0 +1,4 @@
+pub mod SessionEvents
+pub mod PhaseLemmas
+pub mod UserLemmas
+pub mod HandleSteps

@@ -1,0 +1,2 @@
+pub mod Phased
+pub mod Handled
