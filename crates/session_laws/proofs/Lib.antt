@@ -5,3 +5,8 @@ pub mod UserLemmas
 pub mod HandleSteps
 pub mod Openings
 pub mod Opened
+pub mod Permits
+pub mod FreeHandles
+pub mod HandleLaws
+pub mod Permitted
+pub mod Holders

@@ -1,3 +1,4 @@
 pub mod Phased
 pub mod Handled
 pub mod Opened
+pub mod Tied
