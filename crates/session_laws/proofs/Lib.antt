@@ -10,3 +10,6 @@ pub mod FreeHandles
 pub mod HandleLaws
 pub mod Permitted
 pub mod Holders
+pub mod Counts
+pub mod NeverLost
+pub mod LoggedIn

@@ -1,5 +1,5 @@
 -- A permitted request of a legal journal: its session isn't over, and its cell of the phase table isn't empty.
-use Rattle.std.proofs.Common.{◌≡◌, ℕ, Bool, true, false, not, ◌&&◌, ◌||◌, cond, eqb, List, Option, Some, None, refl, sym, ap, subst, ◌∙◌}
+use Rattle.std.proofs.Common.{◌≡◌, ℕ, Bool, true, false, not, ◌&&◌, ◌||◌, cond, eqb, List, length, Option, Some, None, refl, sym, ap, subst, ◌∙◌}
 use Rattle.std.specs.Prelude.{is_some, nat_lt}
 use Rattle.request_catalogue.specs.declared.kind.Kind.{Kind}
 use Rattle.request_catalogue.specs.declared.kind.Kind.TheVariants as kinds
@@ -17,7 +17,8 @@ use Rattle.policy_model.specs.Journal.{ask_count, has_event, is_own, last_event}
 use Rattle.policy_model.specs.Legal.{IsNext, IsNextBy}
 use Rattle.policy_model.specs.Phases.{is_over, is_taking, phase_of, table_row}
 use Rattle.policy_model.specs.Settings.{Settings}
-use Rattle.policy_model.specs.Verdict.{own_verdict, request_verdict, table_verdict}
+use Rattle.policy_model.specs.Logins.{challenged_user, was_decoyed}
+use Rattle.policy_model.specs.Verdict.{decoy_verdict, kind_verdict, login_verdict, own_verdict, readings, reply_verdict, request_verdict, table_verdict}
 use Rattle.session_laws.proofs.Permits.{and_true, not_false, permit_from, request_permit, row_permit, same_from_same_name}
 
 -- 1. What every permitted request tells
@@ -139,3 +140,38 @@ accepted_in_challenged setup journal e next h =
     let both = and_true (is_reply e.ask) (is_permit e.decision) h in
     let k = reply_kind e.ask both.0 in
     challenged_only (phase_of journal e.session) ((permitted_live setup journal e next k.0 both.1).cell kinds.Reply k.1)
+
+-- a permitted EXPORT comes in Verified
+verified_only : (phase : Phase) → (table_row phase kinds.Export).permitted ≡ true → phase ≡ Verified
+verified_only Pre h = absurd cc
+verified_only Challenged h = absurd cc
+verified_only Verified h = refl
+verified_only User h = absurd cc
+verified_only Over h = absurd cc
+
+pub exported_in_verified : (setup : Settings) (journal : List Event) (e : Event) → IsNext setup journal e → exports e ≡ true → phase_of journal e.session ≡ Verified
+exported_in_verified setup journal e next h =
+    let both = and_true (is_export e.ask) (is_permit e.decision) h in
+    let k = export_kind e.ask both.0 in
+    verified_only (phase_of journal e.session) ((permitted_live setup journal e next k.0 both.1).cell kinds.Export k.1)
+
+-- a permitted REPLY isn't one to a decoy
+not_decoyed : (b : Bool) (passwords : List ℕ) (value : ℕ) (d : Decision) → cond b (decoy_verdict passwords) d ≡ Permit value → b ≡ false
+not_decoyed false passwords value d h = refl
+not_decoyed true passwords value d h =
+    let deny : Deny 16 0 ≡ Permit value = (permit_from (eqb (length passwords) 0) 14 0 value (Deny 16 0) h).1 in
+    absurd cc
+
+reply_to_user : (table : Phase → Kind → Row) (setup : Settings) (journal : List Event) (session : ℕ) (ask : Ask) (value : ℕ) → is_reply ask ≡ true → request_verdict table setup journal session ask ≡ Permit value → was_decoyed journal session ≡ false
+unfolding kind_verdict reply_verdict
+reply_to_user table setup journal session (asks.Reply words hex) value is h =
+    let a = permit_from (eqb session 0 || is_over journal session) 6 3 value _ h in
+    let b = permit_from (eqb (ask_count journal session) setup.requests) 1 setup.requests value _ a.1 in
+    let r = row_permit setup journal session kinds.Reply (asks.Reply words hex) (table (phase_of journal session) kinds.Reply) value b.1 in
+    not_decoyed (was_decoyed journal session) (readings words hex) value _ r.1
+reply_to_user table setup journal session _ value is h = absurd cc
+
+pub accepted_no_decoy : {table : Phase → Kind → Row} (setup : Settings) (journal : List Event) (e : Event) → IsNextBy table setup journal e → accepts e ≡ true → was_decoyed journal e.session ≡ false
+accepted_no_decoy {table} setup journal e next h =
+    let is = and_true (is_reply e.ask) (is_permit e.decision) h in
+    reply_to_user table setup journal e.session e.ask (value_of e.decision) is.0 (request_permit setup journal e next (reply_kind e.ask is.0).0 is.1)

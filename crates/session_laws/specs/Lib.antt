@@ -2,3 +2,5 @@ pub mod Phased
 pub mod Handled
 pub mod Opened
 pub mod Tied
+pub mod LoggedIn
+pub mod Counted
