@@ -13,3 +13,6 @@ pub mod Holders
 pub mod Counts
 pub mod NeverLost
 pub mod LoggedIn
+pub mod Numbers
+pub mod Rooms
+pub mod NextEvents

@@ -4,3 +4,5 @@ pub mod Opened
 pub mod Tied
 pub mod LoggedIn
 pub mod Counted
+pub mod Numbered
+pub mod Early
