@@ -1,5 +1,5 @@
 -- What one more event makes of what is counted of each session, in one.
-use Rattle.std.proofs.Common.{◌≡◌, ◌≢◌, ℕ, List, refl}
+use Rattle.std.proofs.Common.{◌≢◌, ℕ, List, refl}
 use Rattle.policy_model.specs.declared.event.Event.{Event}
 use Rattle.session_laws.specs.Counted.{CountsForItsOwn, LeavesOthers}
 use Rattle.session_laws.proofs.SessionEvents.{ask_count-other, ask_count-own, count_of-other, count_of-own, has_event-other, has_event-own}

@@ -1,9 +1,9 @@
 -- Fewer than 8 live handles leave one of 1 to 8, which is the one that a permitted OPEN gives.
-use Rattle.std.proofs.Common.{◌≡◌, ℕ, ◌+◌, ◌≤◌, ◌<◌, Bool, true, false, not, ◌&&◌, ◌||◌, ◌==◌, cond, eqb, nat_eq, nat_le, List, [], ◌∷◌, ◌++◌, filter, length, map, Option, Some, None, refl, sym, ap, subst, ◌∙◌, arith}
+use Rattle.std.proofs.Common.{◌≡◌, ℕ, ◌≤◌, ◌<◌, Bool, true, false, not, ◌||◌, ◌==◌, cond, eqb, nat_eq, List, [], ◌∷◌, length, map, Option, Some, None, refl, sym, ap, ◌∙◌, arith}
 use Rattle.std.specs.Prelude.{is_none, unwrap_or}
-use Rattle.std.specs.List.{IsDistinct, find, list_all, list_any}
+use Rattle.std.specs.List.{IsDistinct, find, list_any}
 use Rattle.std.proofs.lemmas.Bool.Decides.{nat_tests}
-use Rattle.std.proofs.lemmas.Bool.{eqb-true}
+use Rattle.std.proofs.lemmas.Bool.{eqb-true, not-false, not-true}
 use Rattle.std.proofs.lemmas.Cmp.{nat_eq_equiv}
 use Rattle.std.proofs.lemmas.List.{length-map}
 use Rattle.std.proofs.lemmas.Map.Made.{IsDistinct-from_count, length-le_from_is_member}
@@ -63,19 +63,11 @@ found_is p (x ∷ xs) n h = go (p x) refl h (found_is p xs n) where
 numbers_distinct : IsDistinct nat_eq handle_numbers
 numbers_distinct = IsDistinct-from_count nat_eq_equiv handle_numbers refl
 
-is_true : (b : Bool) → not b ≡ false → b ≡ true
-is_true true h = refl
-is_true false h = absurd cc
-
-is_false : (b : Bool) → not b ≡ true → b ≡ false
-is_false true h = absurd cc
-is_false false h = refl
-
 -- where none of the eight is free, there are eight
 all_taken : (live : List Event) → find (is_free live) handle_numbers ≡ None → 8 ≤ length live
 all_taken live none =
     let le : length handle_numbers ≤ length (map handle_of live) = length-le_from_is_member nat_eq_equiv handle_numbers (map handle_of live) numbers_distinct
-      (λ q is. member_is live q ∙ is_true (has_handle live q) (sym (free_is live q) ∙ none_passes (is_free live) handle_numbers q none is)) in
+    (λ q is. member_is live q ∙ not-false (has_handle live q) (sym (free_is live q) ∙ none_passes (is_free live) handle_numbers q none is)) in
     omega (arith, le, length-map live handle_of)
 
 number_within : (n : ℕ) → list_any (nat_eq n) handle_numbers ≡ true → is_number 1 8 n ≡ true
@@ -110,4 +102,4 @@ free_number live few = go (find (is_free live) handle_numbers) refl where
   go None none = let all = all_taken live none in absurd (omega (arith, all, few))
   go (Some n) is =
       let f = found_is (is_free live) handle_numbers n is in
-      record { within = number_within n f.stands; unused = is_false (has_handle live n) (sym (free_is live n) ∙ f.passes); free = none_from (find (λ o. handle_of o == n) live) f.passes }
+      record { within = number_within n f.stands; unused = not-true (has_handle live n) (sym (free_is live n) ∙ f.passes); free = none_from (find (λ o. handle_of o == n) live) f.passes }

@@ -1,7 +1,7 @@
 -- The live handles of a session of a legal journal: at most 8, each of 1 to 8, no two the same.
-use Rattle.std.proofs.Common.{◌≡◌, ◌≢◌, ℕ, ◌+◌, ◌≤◌, ◌<◌, Bool, true, false, not, ◌&&◌, ◌||◌, ◌==◌, cond, eqb, nat_le, List, [], ◌∷◌, ◌++◌, filter, length, map, Option, Some, None, refl, sym, ap, subst, ◌∙◌, arith, inl, inr, ◌⊎◌}
+use Rattle.std.proofs.Common.{◌≡◌, ◌≢◌, ℕ, ◌≤◌, ◌<◌, Bool, true, false, not, ◌&&◌, ◌||◌, ◌==◌, cond, eqb, nat_le, List, [], ◌∷◌, ◌++◌, filter, length, map, Option, Some, None, refl, sym, ap, subst, ◌∙◌, arith, inl, inr, ◌⊎◌}
 use Rattle.std.specs.List.{find, list_all, list_any}
-use Rattle.std.proofs.lemmas.Bool.{cases_eq}
+use Rattle.std.proofs.lemmas.Bool.{and_from, and_parts, cases_eq, not-true, or_parts}
 use Rattle.std.proofs.lemmas.Bool.Decides.{nat_tests}
 use Rattle.std.proofs.lemmas.List.{append-nil, length-append, map-append}
 use Rattle.std.proofs.lemmas.List.Folds.{list_all-append, list_any-append}
@@ -10,13 +10,12 @@ use Rattle.request_catalogue.specs.declared.kind.Kind.TheVariants as kinds
 use Rattle.policy_model.specs.declared.account.Grant.{Grant}
 use Rattle.policy_model.specs.declared.event.Ask.{Ask}
 use Rattle.policy_model.specs.declared.event.Ask.TheVariants as asks
-use Rattle.policy_model.specs.declared.event.Decision.{Decision}
 use Rattle.policy_model.specs.declared.event.Decision.TheVariants.{Permit, Deny}
 use Rattle.policy_model.specs.declared.event.Event.{Event}
 use Rattle.policy_model.specs.declared.phase.Phase.{Phase}
 use Rattle.policy_model.specs.declared.phase.Row.{Row}
 use Rattle.policy_model.specs.Asks.{came_by_frame, closes_file, handle_of, is_open, is_permit, opens_file, value_of}
-use Rattle.policy_model.specs.Handles.{free_handle_of, handle_opening, live_handles_of}
+use Rattle.policy_model.specs.Handles.{free_handle_of, live_handles_of}
 use Rattle.policy_model.specs.Journal.{ask_count}
 use Rattle.policy_model.specs.Legal.{IsLegalBy, IsNextBy}
 use Rattle.policy_model.specs.Logins.{verified_user}
@@ -27,7 +26,7 @@ use Rattle.session_laws.specs.Handled.{GivesLeast, HandlesDiffer, HandlesGoOn, h
 use Rattle.session_laws.proofs.ByEvents.{by_events}
 use Rattle.session_laws.proofs.FreeHandles.{IsFreeNumber, free_number, has_handle}
 use Rattle.session_laws.proofs.HandleSteps.{live_handles_of-other, live_handles_of-own}
-use Rattle.session_laws.proofs.Permits.{and_true, permit_from, request_permit, row_permit}
+use Rattle.session_laws.proofs.Permits.{permit_from, request_permit, row_permit}
 
 pub handles_go_on : (journal : List Event) (e : Event) → HandlesGoOn journal e
 handles_go_on journal e = record { own = live_handles_of-own journal e e.session refl; other = live_handles_of-other journal e }
@@ -62,7 +61,7 @@ by_frame _ h = absurd cc
 
 pub gives_least : {table : Phase → Kind → Row} (setup : Settings) (journal : List Event) (e : Event) → IsNextBy table setup journal e → opens_file e ≡ true → GivesLeast journal e
 gives_least {table} setup journal e next opened =
-    let is = and_true (is_open e.ask) (is_permit e.decision) opened in
+    let is = and_parts (is_open e.ask) (is_permit e.decision) opened in
     let j = open_judged table setup journal e.session e.ask (value_of e.decision) is.0 (request_permit setup journal e next (by_frame e.ask is.0) is.1) in
     let room : length (live_handles_of journal e.session) < 8 = grind (arith, nat_tests, j.full) in
     let f = subst (IsFreeNumber (live_handles_of journal e.session)) (sym j.least) (free_number (live_handles_of journal e.session) room) in
@@ -80,28 +79,16 @@ filter_few : {X : Type 0} (p : X → Bool) (xs : List X) → length (filter p xs
 filter_few p [] = omega arith
 filter_few p (x ∷ xs) = elim (p x) as (λ b. length (cond b (x ∷ filter p xs) (filter p xs)) ≤ length (x ∷ xs)) [ true ↦ omega (arith, filter_few p xs) | false ↦ omega (arith, filter_few p xs) ]
 
-both : (a b : Bool) → a ≡ true → b ≡ true → (a && b) ≡ true
-both true b h k = k
-both false b h k = absurd cc
-
 filter_all : {X : Type 0} (q p : X → Bool) (xs : List X) → list_all q xs ≡ true → list_all q (filter p xs) ≡ true
 filter_all q p [] h = refl
-filter_all {X} q p (x ∷ xs) h = let here = and_true (q x) (list_all q xs) h in go (p x) here.0 (filter_all q p xs here.1) where
+filter_all {X} q p (x ∷ xs) h = let here = and_parts (q x) (list_all q xs) h in go (p x) here.0 (filter_all q p xs here.1) where
   go : (b : Bool) → q x ≡ true → list_all q (filter p xs) ≡ true → list_all q (cond b (x ∷ filter p xs) (filter p xs)) ≡ true
-  go true first rest = both (q x) (list_all q (filter p xs)) first rest
+  go true first rest = and_from (q x) (list_all q (filter p xs)) first rest
   go false first rest = rest
-
-is_false : (b : Bool) → not b ≡ true → b ≡ false
-is_false true h = absurd cc
-is_false false h = refl
-
-neither : (a b : Bool) → (a || b) ≡ false → (a ≡ false) × (b ≡ false)
-neither true b h = absurd cc
-neither false b h = (refl, h)
 
 filter_none : (q : ℕ) (p : Event → Bool) (xs : List Event) → list_any (eqb q) (map handle_of xs) ≡ false → list_any (eqb q) (map handle_of (filter p xs)) ≡ false
 filter_none q p [] h = refl
-filter_none q p (x ∷ xs) h = let here = neither (eqb q (handle_of x)) (list_any (eqb q) (map handle_of xs)) h in go (p x) here.0 (filter_none q p xs here.1) where
+filter_none q p (x ∷ xs) h = let here = or_parts (eqb q (handle_of x)) (list_any (eqb q) (map handle_of xs)) h in go (p x) here.0 (filter_none q p xs here.1) where
   go : (b : Bool) → eqb q (handle_of x) ≡ false → list_any (eqb q) (map handle_of (filter p xs)) ≡ false → list_any (eqb q) (map handle_of (cond b (x ∷ filter p xs) (filter p xs))) ≡ false
   go true first rest = ap (λ c. c || list_any (eqb q) (map handle_of (filter p xs))) first ∙ rest
   go false first rest = rest
@@ -109,27 +96,27 @@ filter_none q p (x ∷ xs) h = let here = neither (eqb q (handle_of x)) (list_an
 filter_distinct : (p : Event → Bool) (xs : List Event) → are_distinct ◌==◌ (map handle_of xs) ≡ true → are_distinct ◌==◌ (map handle_of (filter p xs)) ≡ true
 filter_distinct p [] h = refl
 filter_distinct p (x ∷ xs) h =
-    let here = and_true (not (list_any (eqb (handle_of x)) (map handle_of xs))) (are_distinct ◌==◌ (map handle_of xs)) h in
-    go (p x) (filter_none (handle_of x) p xs (is_false (list_any (eqb (handle_of x)) (map handle_of xs)) here.0)) (filter_distinct p xs here.1) where
+    let here = and_parts (not (list_any (eqb (handle_of x)) (map handle_of xs))) (are_distinct ◌==◌ (map handle_of xs)) h in
+    go (p x) (filter_none (handle_of x) p xs (not-true (list_any (eqb (handle_of x)) (map handle_of xs)) here.0)) (filter_distinct p xs here.1) where
       go : (b : Bool) → list_any (eqb (handle_of x)) (map handle_of (filter p xs)) ≡ false → are_distinct ◌==◌ (map handle_of (filter p xs)) ≡ true → are_distinct ◌==◌ (map handle_of (cond b (x ∷ filter p xs) (filter p xs))) ≡ true
-      go true first rest = both (not (list_any (eqb (handle_of x)) (map handle_of (filter p xs)))) (are_distinct ◌==◌ (map handle_of (filter p xs))) (ap not first) rest
+      go true first rest = and_from (not (list_any (eqb (handle_of x)) (map handle_of (filter p xs)))) (are_distinct ◌==◌ (map handle_of (filter p xs))) (ap not first) rest
       go false first rest = rest
 
 -- one more that isn't among them
 push_distinct : (xs : List Event) (e : Event) → are_distinct ◌==◌ (map handle_of xs) ≡ true → has_handle xs (handle_of e) ≡ false → are_distinct ◌==◌ (map handle_of (xs ++ e ∷ [])) ≡ true
 push_distinct [] e h new = refl
 push_distinct (x ∷ xs) e h new =
-    let here = and_true (not (list_any (eqb (handle_of x)) (map handle_of xs))) (are_distinct ◌==◌ (map handle_of xs)) h in
-    let apart = neither (handle_of x == handle_of e) (has_handle xs (handle_of e)) new in
+    let here = and_parts (not (list_any (eqb (handle_of x)) (map handle_of xs))) (are_distinct ◌==◌ (map handle_of xs)) h in
+    let apart = or_parts (handle_of x == handle_of e) (has_handle xs (handle_of e)) new in
     let front : list_any (eqb (handle_of x)) (map handle_of (xs ++ e ∷ [])) ≡ false =
-      ap (list_any (eqb (handle_of x))) (map-append handle_of xs (e ∷ []))
-      ∙ list_any-append (eqb (handle_of x)) (map handle_of xs) (handle_of e ∷ [])
-      ∙ rw (is_false (list_any (eqb (handle_of x)) (map handle_of xs)) here.0, apart.0) refl in
-    both (not (list_any (eqb (handle_of x)) (map handle_of (xs ++ e ∷ [])))) (are_distinct ◌==◌ (map handle_of (xs ++ e ∷ []))) (ap not front) (push_distinct xs e here.1 apart.1)
+    ap (list_any (eqb (handle_of x))) (map-append handle_of xs (e ∷ []))
+    ∙ list_any-append (eqb (handle_of x)) (map handle_of xs) (handle_of e ∷ [])
+    ∙ rw (not-true (list_any (eqb (handle_of x)) (map handle_of xs)) here.0, apart.0) refl in
+    and_from (not (list_any (eqb (handle_of x)) (map handle_of (xs ++ e ∷ [])))) (are_distinct ◌==◌ (map handle_of (xs ++ e ∷ []))) (ap not front) (push_distinct xs e here.1 apart.1)
 
 filter_unused : (p : Event → Bool) (xs : List Event) (n : ℕ) → has_handle xs n ≡ false → has_handle (filter p xs) n ≡ false
 filter_unused p [] n h = refl
-filter_unused p (x ∷ xs) n h = let here = neither (handle_of x == n) (has_handle xs n) h in go (p x) here.0 (filter_unused p xs n here.1) where
+filter_unused p (x ∷ xs) n h = let here = or_parts (handle_of x == n) (has_handle xs n) h in go (p x) here.0 (filter_unused p xs n here.1) where
   go : (b : Bool) → (handle_of x == n) ≡ false → has_handle (filter p xs) n ≡ false → has_handle (cond b (x ∷ filter p xs) (filter p xs)) n ≡ false
   go true first rest = ap (λ c. c || has_handle (filter p xs) n) first ∙ rest
   go false first rest = rest
@@ -140,7 +127,7 @@ filter_differ p live d = record { few = omega (arith, d.few, filter_few p live);
 push_differ : (live : List Event) (e : Event) → Differ live → length live < 8 → is_number 1 8 (handle_of e) ≡ true → has_handle live (handle_of e) ≡ false → Differ (live ++ e ∷ [])
 push_differ live e d room within unused = record {
   few = omega (arith, room, length-append live (e ∷ []));
-  within = list_all-append (λ o. is_number 1 8 (handle_of o)) live (e ∷ []) ∙ both (list_all (λ o. is_number 1 8 (handle_of o)) live) (is_number 1 8 (handle_of e) && true) d.within (both (is_number 1 8 (handle_of e)) true within refl);
+  within = list_all-append (λ o. is_number 1 8 (handle_of o)) live (e ∷ []) ∙ and_from (list_all (λ o. is_number 1 8 (handle_of o)) live) (is_number 1 8 (handle_of e) && true) d.within (and_from (is_number 1 8 (handle_of e)) true within refl);
   distinct = push_distinct live e d.distinct unused;
 }
 

@@ -3,18 +3,17 @@ use Rattle.std.proofs.Common.{◌≡◌, ◌≢◌, ℕ, ◌+◌, ◌-◌, ◌�
 use Rattle.std.specs.Prelude.{nat_le, nat_lt}
 use Rattle.std.specs.List.{last_or}
 use Rattle.std.specs.Option.{option_to_list}
-use Rattle.std.proofs.lemmas.Bool.{eqb-true, false≢true}
+use Rattle.std.proofs.lemmas.Bool.{eqb-true, false≢true, or_parts}
 use Rattle.std.proofs.lemmas.Bool.Decides.{nat_tests}
 use Rattle.request_catalogue.specs.declared.texts.Name.{Name}
 use Rattle.policy_model.specs.declared.account.Account.{Account}
 use Rattle.policy_model.specs.declared.event.Event.{Event}
-use Rattle.policy_model.specs.declared.phase.Phase.{Phase}
-use Rattle.policy_model.specs.declared.phase.Phase.TheVariants.{Pre, Challenged, Verified, User, Over}
-use Rattle.policy_model.specs.Asks.{accepts, challenge_name, decoys_from, ends_session, exports, gives_up, is_abandon, is_login_step, is_permit, is_reply, opens, reserves, takes, takes_user, value_of}
-use Rattle.policy_model.specs.Journal.{has_event, is_own, last_event, openings_of}
+use Rattle.policy_model.specs.declared.phase.Phase.TheVariants.{Pre, Challenged}
+use Rattle.policy_model.specs.Asks.{challenge_name, decoys_from, ends_session, exports, gives_up, is_abandon, is_permit, is_reply, opens, reserves, takes, value_of}
+use Rattle.policy_model.specs.Journal.{is_own, openings_of}
 use Rattle.policy_model.specs.Legal.{IsLegal, IsNext, session_of}
-use Rattle.policy_model.specs.Logins.{account_of, challenged_user, current_sequence, holder_by, holder_of, is_user, last_taking_of, replies_of, reply_for, session_taking, was_decoyed, was_given_up}
-use Rattle.policy_model.specs.Phases.{is_over, is_taking, phase_of}
+use Rattle.policy_model.specs.Logins.{account_of, challenged_user, current_sequence, holder_by, holder_of, last_taking_of, replies_of, reply_for, session_taking, was_decoyed, was_given_up}
+use Rattle.policy_model.specs.Phases.{is_over, phase_of}
 use Rattle.policy_model.specs.Runs.{AreNumbered}
 use Rattle.policy_model.specs.Settings.{Settings}
 use Rattle.policy_model.specs.Verdict.{is_holder}
@@ -24,7 +23,7 @@ use Rattle.session_laws.specs.Phased.{phase_after}
 use Rattle.session_laws.specs.Tied.{AreTied, HoldsOneAtMost, IsTied, holder_after, leaves}
 use Rattle.session_laws.proofs.ByEvents.{by_events}
 use Rattle.session_laws.proofs.Openings.{numbered-push, session_new}
-use Rattle.session_laws.proofs.Permits.{Accepted, Taken, accepted_reply, and_true, found_name, new_reply, taken_challenge}
+use Rattle.session_laws.proofs.Permits.{Accepted, Taken, found_name, new_reply, same_some, taken_challenge}
 use Rattle.session_laws.proofs.Permitted.{no_exporting, no_taking, permitted_live, reserves_from, taken_in_pre, takes_from, taking}
 use Rattle.session_laws.proofs.PhaseLemmas.{phase_of-other, phase_of-own}
 use Rattle.session_laws.proofs.SessionEvents.{is_over-own, is_over-push, own_false, own_is}
@@ -91,7 +90,7 @@ holder_of-other journal e user numbered is kept =
       go (Some t) taken =
           let le : t.session ≤ openings_of journal = taker_numbered journal user t numbered taken in
           let over : is_over (journal ++ e ∷ []) t.session ≡ (is_over journal t.session || (e.session == t.session && ends_session e)) =
-            is_over-push journal e t.session (λ opened same. let n = session_new journal e is opened in absurd (omega arith)) in
+          is_over-push journal e t.session (λ opened same. let n = session_new journal e is opened in absurd (omega arith)) in
           ap (λ b. cond ((was_given_up journal user || (e.session == t.session && gives_up e)) || b) None (Some t.session)) over
           ∙ by_tests t.session (was_given_up journal user) (is_over journal t.session) (gives_up e) (ends_session e) (eqb e.session t.session)
           ∙ sym (after_cond (was_given_up journal user || is_over journal t.session) t.session e)
@@ -102,19 +101,15 @@ holder_of-none user = ap (holder_by [] (was_given_up [] user)) (last_taking_of-n
 
 -- 3. A holder that stayed
 
--- the holder didn't leave: the event isn't of its session, or it neither gives up nor ends
+-- the holder didn't leave: the event isn't of its session, or it or_parts gives up nor ends
 record Stays (e : Event) (session : ℕ) : Type 0 where
   pub gives_none : e.session ≡ session → gives_up e ≡ false
   pub goes_on : e.session ≡ session → ends_session e ≡ false
 
-neither : (a b : Bool) → (a || b) ≡ false → (a ≡ false) × (b ≡ false)
-neither true b h = absurd cc
-neither false b h = (refl, h)
-
 stays_by : (e : Event) (session : ℕ) → is_own session leaves e ≡ false → Stays e session
 stays_by e session h = record { gives_none = λ own. (both own).0; goes_on = λ own. (both own).1 } where
   both : e.session ≡ session → (gives_up e ≡ false) × (ends_session e ≡ false)
-  both own = neither (gives_up e) (ends_session e) (sym (own_is e session leaves own) ∙ h)
+  both own = or_parts (gives_up e) (ends_session e) (sym (own_is e session leaves own) ∙ h)
 
 stayed : (o : Option ℕ) (e : Event) (session : ℕ) → holder_after o e ≡ Some session → (o ≡ Some session) × Stays e session
 stayed None e session h = absurd cc
@@ -124,12 +119,12 @@ stayed (Some s) e session h = go (is_own s leaves e) refl h where
   go false is h = let same : s ≡ session = cc in (h, stays_by e session (subst (λ n. is_own n leaves e ≡ false) same is))
 
 no_reply_from : (e : Event) → gives_up e ≡ false → is_reply e.ask ≡ false
-no_reply_from e h = (neither (is_reply e.ask) (is_abandon e.ask && is_permit e.decision) h).0
+no_reply_from e h = (or_parts (is_reply e.ask) (is_abandon e.ask && is_permit e.decision) h).0
 
 -- a session in Challenged stays there by an event of it that takes, exports, gives up and ends nothing
 challenged_stays : (e : Event) → ends_session e ≡ false → exports e ≡ false → takes e ≡ false → gives_up e ≡ false → phase_after Challenged e ≡ Challenged
 challenged_stays e ends exported taken given =
-    let none = neither (is_reply e.ask) (is_abandon e.ask && is_permit e.decision) given in
+    let none = or_parts (is_reply e.ask) (is_abandon e.ask && is_permit e.decision) given in
     rw (ends, exported, none.0, taken, none.1) refl
 
 -- from Pre a permitted CHALLENGE leads to Challenged
@@ -152,9 +147,6 @@ replied_is journal e user password h = go (is_reply e.ask) refl h where
   go false is h = let none = no_reply_for journal e user is in absurd cc
 
 -- 5. The tie goes on by one event
-
-same_some : {X : Type 0} (x y : X) → Some x ≡ Some y → x ≡ y
-same_some x y h = cc
 
 below_decoys : (value : ℕ) → nat_lt value decoys_from ≡ true → nat_le decoys_from value ≡ false
 below_decoys value h = grind (arith, nat_tests, h)

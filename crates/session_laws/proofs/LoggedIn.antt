@@ -1,7 +1,7 @@
 -- Whom a session in Challenged is challenged for, and whom a session is logged in as, in every legal journal.
-use Rattle.std.proofs.Common.{◌≡◌, ◌≢◌, ℕ, ◌+◌, ◌<◌, Bool, true, false, not, ◌&&◌, ◌||◌, cond, eqb, List, [], ◌∷◌, ◌++◌, Option, Some, None, refl, sym, ap, subst, ◌∙◌, arith, inl, inr, ◌⊎◌}
+use Rattle.std.proofs.Common.{◌≡◌, ◌≢◌, ℕ, Bool, true, false, ◌||◌, cond, List, [], ◌∷◌, ◌++◌, Option, Some, None, refl, sym, ap, subst, ◌∙◌, arith, inl, inr, ◌⊎◌}
 use Rattle.std.specs.Prelude.{is_some, nat_le, nat_lt}
-use Rattle.std.proofs.lemmas.Bool.{cases_eq, false≢true}
+use Rattle.std.proofs.lemmas.Bool.{and_parts, cases_eq, false_from_ne_true, false≢true}
 use Rattle.std.proofs.lemmas.Bool.Decides.{nat_tests}
 use Rattle.request_catalogue.specs.declared.texts.Name.{Name}
 use Rattle.policy_model.specs.declared.event.Ask.{Ask}
@@ -9,20 +9,20 @@ use Rattle.policy_model.specs.declared.event.Ask.TheVariants as asks
 use Rattle.policy_model.specs.declared.event.Event.{Event}
 use Rattle.policy_model.specs.declared.phase.Phase.{Phase}
 use Rattle.policy_model.specs.declared.phase.Phase.TheVariants.{Pre, Challenged, Verified, User, Over}
-use Rattle.policy_model.specs.Asks.{accepts, challenge_name, decoys_from, ends_session, exports, is_challenge_for, is_login_step, is_permit, is_reply, opens, reserves, takes, takes_user, value_of}
-use Rattle.policy_model.specs.Journal.{has_event, last_event, openings_of}
+use Rattle.policy_model.specs.Asks.{accepts, challenge_name, decoys_from, ends_session, exports, is_challenge_for, is_login_step, is_permit, is_reply, opens, reserves, takes, value_of}
+use Rattle.policy_model.specs.Journal.{has_event, openings_of}
 use Rattle.policy_model.specs.Legal.{IsLegal, IsNext}
 use Rattle.policy_model.specs.Logins.{challenged_user, verified_user, was_decoyed}
-use Rattle.policy_model.specs.Phases.{is_over, is_taking, phase_of}
+use Rattle.policy_model.specs.Phases.{phase_of}
 use Rattle.policy_model.specs.Runs.{AreNumbered}
 use Rattle.policy_model.specs.Settings.{Settings}
 use Rattle.policy_model.proofs.Runs.{next_session}
 use Rattle.session_laws.specs.LoggedIn.{HasAccount, IsChallenged, IsLoggedIn}
 use Rattle.session_laws.specs.Phased.{phase_after}
 use Rattle.session_laws.proofs.ByEvents.{by_events}
-use Rattle.session_laws.proofs.Opened.{opened_fresh, opening}
+use Rattle.session_laws.proofs.Opened.{opened_fresh}
 use Rattle.session_laws.proofs.Openings.{numbered-push, session_new}
-use Rattle.session_laws.proofs.Permits.{accepted_reply, and_true, same_name-same, taken_challenge}
+use Rattle.session_laws.proofs.Permits.{accepted_reply, same_name-same, taken_challenge}
 use Rattle.session_laws.proofs.Permitted.{accepted_no_decoy, exported_in_verified, taken_in_pre, taking}
 use Rattle.session_laws.proofs.PhaseLemmas.{phase_of-other, phase_of-over, phase_of-own, phase_tests}
 use Rattle.session_laws.proofs.SessionEvents.{has_event-other, has_event-own}
@@ -68,7 +68,7 @@ some_name (Some user) h = (user, refl)
 -- a session that has just taken
 challenged_taken : (setup : Settings) (journal : List Event) (e : Event) → IsNext setup journal e → takes e ≡ true → IsChallenged setup (journal ++ e ∷ []) e.session
 challenged_taken setup journal e next taken =
-    let both = and_true (is_some (challenge_name e.ask)) (is_permit e.decision) taken in
+    let both = and_parts (is_some (challenge_name e.ask)) (is_permit e.decision) taken in
     let name = some_name (challenge_name e.ask) both.0 in
     record {
       user = name.0;
@@ -117,16 +117,12 @@ logged_in_still setup journal e kept other l = record {
 
 -- 3. Behind one more event
 
-false_from : (b : Bool) → (b ≡ true → ⊥) → b ≡ false
-false_from true h = absurd (h refl)
-false_from false h = refl
-
 -- what is accepted takes nobody, and nobody takes who was accepted
 accepts_takes_none : (e : Event) → accepts e ≡ true → takes e ≡ false
-accepts_takes_none e accepted = false_from (takes e) (λ h. false≢true (sym (taking e h).no_reply ∙ (and_true (is_reply e.ask) (is_permit e.decision) accepted).0))
+accepts_takes_none e accepted = false_from_ne_true (takes e) (λ h. false≢true (sym (taking e h).no_reply ∙ (and_parts (is_reply e.ask) (is_permit e.decision) accepted).0))
 
 accepted_takes_none : (setup : Settings) (journal : List Event) (e : Event) → IsNext setup journal e → has_event journal e.session accepts ≡ true → takes e ≡ false
-accepted_takes_none setup journal e next accepted = false_from (takes e) (λ h. false≢true (sym (phase_tests journal e.session Pre (taken_in_pre setup journal e next h)).1.1.0 ∙ accepted))
+accepted_takes_none setup journal e next accepted = false_from_ne_true (takes e) (λ h. false≢true (sym (phase_tests journal e.session Pre (taken_in_pre setup journal e next h)).1.1.0 ∙ accepted))
 
 or_true : (a b : Bool) → (a || b) ≡ true → (b ≡ false) → a ≡ true
 or_true true b h n = refl

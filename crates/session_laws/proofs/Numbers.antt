@@ -2,7 +2,7 @@
 use Rattle.std.proofs.Common.{◌≡◌, ◌≢◌, ℕ, zero, suc, ◌+◌, ◌<◌, Bool, true, false, not, ◌&&◌, ◌||◌, cond, nat_le, nat_lt, List, [], ◌∷◌, length, slice_get, Option, Some, None, refl, sym, ap, subst, ◌∙◌, arith}
 use Rattle.std.specs.Prelude.{position, ◌==◌}
 use Rattle.std.specs.List.{find, list_all, list_any, position_or_len}
-use Rattle.std.proofs.lemmas.Bool.{eqb-true, false≢true}
+use Rattle.std.proofs.lemmas.Bool.{and_parts, eqb-true, not-true}
 use Rattle.std.proofs.lemmas.Bool.Decides.{nat_tests}
 use Rattle.std.proofs.lemmas.Option.{slice_get_within}
 use Rattle.request_catalogue.specs.declared.texts.Name.{Name}
@@ -12,12 +12,12 @@ use Rattle.policy_model.specs.declared.phase.Phase.TheVariants.{Challenged}
 use Rattle.policy_model.specs.Legal.{IsLegal}
 use Rattle.policy_model.specs.Logins.{account_of, challenged_user, holder_of, was_decoyed}
 use Rattle.policy_model.specs.Phases.{phase_of}
-use Rattle.policy_model.specs.Settings.{IsInRange, Settings, account_number, are_accounts, are_distinct, is_account, same_name}
+use Rattle.policy_model.specs.Settings.{IsInRange, Settings, account_number, are_distinct, is_account, same_name}
 use Rattle.policy_model.specs.Verdict.{is_holder}
 use Rattle.session_laws.specs.Numbered.{HoldsOnly, IsNumbered}
 use Rattle.session_laws.specs.Tied.{IsTied}
 use Rattle.session_laws.proofs.Holders.{decoyed_holds_none, legal_tied, unchallenged_holds_none}
-use Rattle.session_laws.proofs.Permits.{and_true, find_passes, found_name, same_name-same}
+use Rattle.session_laws.proofs.Permits.{found_name, same_name-same, same_some}
 
 -- 1. Places in a list
 
@@ -94,18 +94,14 @@ any_at p (y ∷ ys) (suc n) x h none = any_at p ys n x h (rest (p y) (list_any p
   rest true b h = absurd cc
   rest false b h = h
 
-is_false : (b : Bool) → not b ≡ true → b ≡ false
-is_false true h = absurd cc
-is_false false h = refl
-
 first_at : {X : Type 0} (same : X → X → Bool) → ((x : X) → same x x ≡ true) → (xs : List X) (n : ℕ) (a : X) → are_distinct same xs ≡ true → slice_get xs n ≡ Some a → position_or_len (λ x. same x a) xs ≡ n
 first_at same refl_is [] n a d h = absurd cc
 first_at same refl_is (x ∷ xs) zero a d h =
     let here : x ≡ a = cc in
     ap (λ b. cond (not b) (1 + position_or_len (λ y. same y a) xs) 0) (subst (λ z. same x z ≡ true) here (refl_is x))
 first_at same refl_is (x ∷ xs) (suc n) a d h =
-    let both = and_true (not (list_any (same x) xs)) (are_distinct same xs) d in
-    let other : same x a ≡ false = any_at (same x) xs n a h (is_false (list_any (same x) xs) both.0) in
+    let both = and_parts (not (list_any (same x) xs)) (are_distinct same xs) d in
+    let other : same x a ≡ false = any_at (same x) xs n a h (not-true (list_any (same x) xs) both.0) in
     let rest : position_or_len (λ y. same y a) xs ≡ n = first_at same refl_is xs n a both.1 h in
     ap (λ b. cond (not b) (1 + position_or_len (λ y. same y a) xs) 0) other ∙ omega (arith, rest)
 
@@ -115,7 +111,7 @@ names_differ setup r =
     let each = list_all is_account setup.accounts in
     let names = are_distinct (λ (a b : Account). same_name a.name b.name) setup.accounts in
     let uids = are_distinct (λ (a b : Account). a.uid == b.uid) setup.accounts in
-    (and_true (few && each) names (and_true ((few && each) && names) uids r.accounts).0).1
+    (and_parts (few && each) names (and_parts ((few && each) && names) uids r.accounts).0).1
 
 -- the account at a number has that number
 pub number_at : (setup : Settings) (number : ℕ) (account : Account) → IsInRange setup → slice_get setup.accounts number ≡ Some account → account_number setup account.name ≡ Some number
@@ -135,9 +131,6 @@ not_holder session o h = go (is_holder session o) refl where
   go : (b : Bool) → is_holder session o ≡ b → is_holder session o ≡ false
   go true is = absurd (h (holds_is session o is))
   go false is = is
-
-same_some : {X : Type 0} (x y : X) → Some x ≡ Some y → x ≡ y
-same_some x y h = cc
 
 -- a session that is challenged for the user of an account holds no other
 pub holds_only : (setup : Settings) (journal : List Event) (session number : ℕ) (user : Name) → IsInRange setup → IsLegal setup journal → challenged_user journal session ≡ Some user → account_number setup user ≡ Some number → HoldsOnly setup journal session number

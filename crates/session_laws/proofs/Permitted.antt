@@ -1,5 +1,6 @@
 -- A permitted request of a legal journal: its session isn't over, and its cell of the phase table isn't empty.
-use Rattle.std.proofs.Common.{◌≡◌, ℕ, Bool, true, false, not, ◌&&◌, ◌||◌, cond, eqb, List, length, Option, Some, None, refl, sym, ap, subst, ◌∙◌}
+use Rattle.std.proofs.Common.{◌≡◌, ℕ, Bool, true, false, ◌&&◌, ◌||◌, cond, eqb, List, length, Option, Some, None, refl, ap, subst, ◌∙◌}
+use Rattle.std.proofs.lemmas.Bool.{and_parts, false_from_ne_true, or_parts}
 use Rattle.std.specs.Prelude.{is_some, nat_lt}
 use Rattle.request_catalogue.specs.declared.kind.Kind.{Kind}
 use Rattle.request_catalogue.specs.declared.kind.Kind.TheVariants as kinds
@@ -12,14 +13,14 @@ use Rattle.policy_model.specs.declared.event.Event.{Event}
 use Rattle.policy_model.specs.declared.phase.Phase.{Phase}
 use Rattle.policy_model.specs.declared.phase.Phase.TheVariants.{Pre, Challenged, Verified, User, Over}
 use Rattle.policy_model.specs.declared.phase.Row.{Row}
-use Rattle.policy_model.specs.Asks.{accepts, challenge_name, came_by_frame, decoys_from, ends_session, exports, gives_up, is_abandon, is_begin, is_challenge_for, is_end, is_export, is_finish, is_login_step, is_lost, is_permit, is_reply, is_violation, kind_of, opens, permits_kind, request_number, reserves, takes, takes_user, value_of}
-use Rattle.policy_model.specs.Journal.{ask_count, has_event, is_own, last_event}
+use Rattle.policy_model.specs.Asks.{accepts, challenge_name, came_by_frame, decoys_from, ends_session, exports, gives_up, is_challenge_for, is_export, is_login_step, is_permit, is_reply, kind_of, opens, request_number, reserves, takes, takes_user, value_of}
+use Rattle.policy_model.specs.Journal.{ask_count}
 use Rattle.policy_model.specs.Legal.{IsNext, IsNextBy}
-use Rattle.policy_model.specs.Phases.{is_over, is_taking, phase_of, table_row}
+use Rattle.policy_model.specs.Phases.{is_over, phase_of, table_row}
 use Rattle.policy_model.specs.Settings.{Settings}
-use Rattle.policy_model.specs.Logins.{challenged_user, was_decoyed}
-use Rattle.policy_model.specs.Verdict.{decoy_verdict, kind_verdict, login_verdict, own_verdict, readings, reply_verdict, request_verdict, table_verdict}
-use Rattle.session_laws.proofs.Permits.{and_true, not_false, permit_from, request_permit, row_permit, same_from_same_name}
+use Rattle.policy_model.specs.Logins.{was_decoyed}
+use Rattle.policy_model.specs.Verdict.{decoy_verdict, kind_verdict, own_verdict, readings, reply_verdict, request_verdict, table_verdict}
+use Rattle.session_laws.proofs.Permits.{permit_from, request_permit, row_permit, same_from_same_name}
 
 -- 1. What every permitted request tells
 
@@ -39,16 +40,12 @@ cell_permitted table setup journal session value ask kind h is = go (kind_of ask
       let same : k ≡ kind = cc in
       subst (λ (x : Kind). (table (phase_of journal session) x).permitted ≡ true) same (row_permit setup journal session k ask (table (phase_of journal session) k) value h).0
 
-neither : (a b : Bool) → (a || b) ≡ false → (a ≡ false) × (b ≡ false)
-neither true b h = absurd cc
-neither false b h = (refl, h)
-
 pub permitted_live : {table : Phase → Kind → Row} (setup : Settings) (journal : List Event) (e : Event) → IsNextBy table setup journal e → came_by_frame e.ask ≡ true → is_permit e.decision ≡ true → IsLive table journal e.session e.ask
 permitted_live {table} setup journal e next request permit =
     let h = request_permit setup journal e next request permit in
     let a = permit_from (eqb e.session 0 || is_over journal e.session) 6 (request_number e.ask) (value_of e.decision) _ h in
     let b = permit_from (eqb (ask_count journal e.session) setup.requests) 1 setup.requests (value_of e.decision) _ a.1 in
-    let n = neither (eqb e.session 0) (is_over journal e.session) a.0 in
+    let n = or_parts (eqb e.session 0) (is_over journal e.session) a.0 in
     record { some = n.0; live = n.1; cell = λ kind is. cell_permitted table setup journal e.session (value_of e.decision) e.ask kind b.1 is }
 
 -- 2. What a permitted CHALLENGE is and isn't
@@ -76,7 +73,7 @@ taking e h = taking_by e.worker e.session e.ask e.decision h
 -- of one for a user, and one that isn't a decoy
 pub takes_from : (user : Name) (e : Event) → takes_user user e ≡ true → (takes e ≡ true) × (challenge_name e.ask ≡ Some user)
 takes_from user e h =
-    let both = and_true (is_challenge_for user e.ask) (is_permit e.decision) h in
+    let both = and_parts (is_challenge_for user e.ask) (is_permit e.decision) h in
     let name = named e.ask both.0 in
     (ap (λ o. is_some o && is_permit e.decision) name ∙ both.1, name) where
       named : (ask : Ask) → is_challenge_for user ask ≡ true → challenge_name ask ≡ Some user
@@ -84,16 +81,12 @@ takes_from user e h =
       named _ h = absurd cc
 
 pub reserves_from : (user : Name) (e : Event) → reserves user e ≡ true → (takes_user user e ≡ true) × (nat_lt (value_of e.decision) decoys_from ≡ true)
-reserves_from user e h = and_true (takes_user user e) (nat_lt (value_of e.decision) decoys_from) h
+reserves_from user e h = and_parts (takes_user user e) (nat_lt (value_of e.decision) decoys_from) h
 
 -- 3. What a session in Challenged may not
 
-false_from : (b : Bool) → (b ≡ true → ⊥) → b ≡ false
-false_from true h = absurd (h refl)
-false_from false h = refl
-
 pub no_taking : (setup : Settings) (journal : List Event) (e : Event) → IsNext setup journal e → phase_of journal e.session ≡ Challenged → takes e ≡ false
-no_taking setup journal e next phase = false_from (takes e) (λ h.
+no_taking setup journal e next phase = false_from_ne_true (takes e) (λ h.
     let t = taking e h in
     let live = permitted_live setup journal e next t.by_frame t.permitted in
     let cell : (table_row Challenged kinds.Challenge).permitted ≡ true = subst (λ (p : Phase). (table_row p kinds.Challenge).permitted ≡ true) phase (live.cell kinds.Challenge t.kind) in
@@ -104,8 +97,8 @@ export_kind (asks.Export len) h = (refl, refl)
 export_kind _ h = absurd cc
 
 pub no_exporting : (setup : Settings) (journal : List Event) (e : Event) → IsNext setup journal e → phase_of journal e.session ≡ Challenged → exports e ≡ false
-no_exporting setup journal e next phase = false_from (exports e) (λ h.
-    let both = and_true (is_export e.ask) (is_permit e.decision) h in
+no_exporting setup journal e next phase = false_from_ne_true (exports e) (λ h.
+    let both = and_parts (is_export e.ask) (is_permit e.decision) h in
     let k = export_kind e.ask both.0 in
     let live = permitted_live setup journal e next k.0 both.1 in
     let cell : (table_row Challenged kinds.Export).permitted ≡ true = subst (λ (p : Phase). (table_row p kinds.Export).permitted ≡ true) phase (live.cell kinds.Export k.1) in
@@ -137,7 +130,7 @@ reply_kind _ h = absurd cc
 
 pub accepted_in_challenged : (setup : Settings) (journal : List Event) (e : Event) → IsNext setup journal e → accepts e ≡ true → phase_of journal e.session ≡ Challenged
 accepted_in_challenged setup journal e next h =
-    let both = and_true (is_reply e.ask) (is_permit e.decision) h in
+    let both = and_parts (is_reply e.ask) (is_permit e.decision) h in
     let k = reply_kind e.ask both.0 in
     challenged_only (phase_of journal e.session) ((permitted_live setup journal e next k.0 both.1).cell kinds.Reply k.1)
 
@@ -151,7 +144,7 @@ verified_only Over h = absurd cc
 
 pub exported_in_verified : (setup : Settings) (journal : List Event) (e : Event) → IsNext setup journal e → exports e ≡ true → phase_of journal e.session ≡ Verified
 exported_in_verified setup journal e next h =
-    let both = and_true (is_export e.ask) (is_permit e.decision) h in
+    let both = and_parts (is_export e.ask) (is_permit e.decision) h in
     let k = export_kind e.ask both.0 in
     verified_only (phase_of journal e.session) ((permitted_live setup journal e next k.0 both.1).cell kinds.Export k.1)
 
@@ -173,5 +166,5 @@ reply_to_user table setup journal session _ value is h = absurd cc
 
 pub accepted_no_decoy : {table : Phase → Kind → Row} (setup : Settings) (journal : List Event) (e : Event) → IsNextBy table setup journal e → accepts e ≡ true → was_decoyed journal e.session ≡ false
 accepted_no_decoy {table} setup journal e next h =
-    let is = and_true (is_reply e.ask) (is_permit e.decision) h in
+    let is = and_parts (is_reply e.ask) (is_permit e.decision) h in
     reply_to_user table setup journal e.session e.ask (value_of e.decision) is.0 (request_permit setup journal e next (reply_kind e.ask is.0).0 is.1)

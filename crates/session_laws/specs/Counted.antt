@@ -1,5 +1,5 @@
 -- Inner: what one more event makes of what is counted of a session, and of its users.
-use Rattle.std.specs.Prelude.{ℕ, ◌≡◌, ◌≢◌, ◌+◌, ◌||◌, Bool, List, [], ◌∷◌, ◌++◌, nat_le, if◌then◌else◌}
+use Rattle.std.specs.Prelude.{ℕ, ◌≡◌, ◌+◌, ◌||◌, Bool, List, [], ◌∷◌, ◌++◌, nat_le, if◌then◌else◌}
 use Rattle.policy_model.specs.declared.event.Event.{Event}
 use Rattle.policy_model.specs.Asks.{accepts, came_by_frame, challenge_name, decoys_from, takes, value_of}
 use Rattle.policy_model.specs.Journal.{ask_count, count_of, has_event}

@@ -1,5 +1,5 @@
 -- Inner: the sessions that may still accept a password.
-use Rattle.std.specs.Prelude.{ℕ, Bool, true, false, List}
+use Rattle.std.specs.Prelude.{Bool, true, false}
 use Rattle.policy_model.specs.declared.phase.Phase.{Phase}
 use Rattle.policy_model.specs.declared.phase.Phase.TheVariants.{Pre, Challenged}
 

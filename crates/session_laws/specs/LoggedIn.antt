@@ -1,10 +1,8 @@
 -- Inner: whom a session is challenged for and logged in as, in every legal journal.
-use Rattle.std.specs.Prelude.{ℕ, ◌≡◌, true, false, List, Some}
+use Rattle.std.specs.Prelude.{ℕ, ◌≡◌, false, List, Some}
 use Rattle.request_catalogue.specs.declared.texts.Name.{Name}
 use Rattle.policy_model.specs.declared.account.Account.{Account}
 use Rattle.policy_model.specs.declared.event.Event.{Event}
-use Rattle.policy_model.specs.Asks.{accepts, exports}
-use Rattle.policy_model.specs.Journal.{has_event}
 use Rattle.policy_model.specs.Logins.{account_of, challenged_user, verified_user, was_decoyed}
 use Rattle.policy_model.specs.Settings.{Settings}
 

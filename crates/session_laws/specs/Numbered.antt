@@ -3,7 +3,7 @@ use Rattle.std.specs.Prelude.{ℕ, ◌≡◌, ◌<◌, true, List, length, slice
 use Rattle.request_catalogue.specs.declared.texts.Name.{Name}
 use Rattle.policy_model.specs.declared.account.Account.{Account}
 use Rattle.policy_model.specs.declared.event.Event.{Event}
-use Rattle.policy_model.specs.Logins.{account_of, challenged_user, holder_of}
+use Rattle.policy_model.specs.Logins.{account_of, holder_of}
 use Rattle.policy_model.specs.Settings.{Settings, account_number}
 use Rattle.policy_model.specs.Verdict.{is_holder}
 

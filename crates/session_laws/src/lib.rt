@@ -5,6 +5,6 @@
 mod laws;
 
 pub use laws::{
-    every_ask_is_decided, events_count_once, handles_differ, handles_go_on, holders_are_tied,
+    events_count_once, every_ask_is_decided, handles_differ, handles_go_on, holders_are_tied,
     new_sessions_are_fresh, open_sessions_differ, phases_go_on, sessions_have_users,
 };
