@@ -16,3 +16,4 @@ pub mod LoggedIn
 pub mod Numbers
 pub mod Rooms
 pub mod NextEvents
+pub mod Settling
