@@ -17,3 +17,4 @@ pub mod Numbers
 pub mod Rooms
 pub mod NextEvents
 pub mod Settling
+pub mod Judging

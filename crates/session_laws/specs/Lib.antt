@@ -1,4 +1,5 @@
 pub mod Phased
+pub mod Judged
 pub mod Early
 pub mod Handled
 pub mod Opened
