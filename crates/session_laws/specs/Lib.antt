@@ -1,6 +1,6 @@
 pub mod Phased
 pub mod Judged
-pub mod Early
+pub mod Rooms
 pub mod Handled
 pub mod Opened
 pub mod Counted
