@@ -7,3 +7,4 @@ pub mod Counted
 pub mod LoggedIn
 pub mod Numbered
 pub mod Tied
+pub mod Laws
