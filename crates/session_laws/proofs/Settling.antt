@@ -143,5 +143,5 @@ pub leaves_others : (setup : Settings) (journal : List Event) (e : Event) (user 
 leaves_others setup journal e user legal next kept other =
     leaves_user setup journal e user legal next kept (unreplied journal e user other)
     (λ left. false_from_ne_true (is_holder e.session (holder_of journal user)) (λ holds.
-      let t : IsTied setup journal user e.session = (legal_tied setup journal legal).holders user e.session (holds_is e.session (holder_of journal user) holds) in
-      other t.challenged))
+    let t : IsTied setup journal user e.session = (legal_tied setup journal legal).holders user e.session (holds_is e.session (holder_of journal user) holds) in
+    other t.challenged))
