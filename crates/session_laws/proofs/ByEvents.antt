@@ -1,0 +1,24 @@
+-- What holds of no event, and goes on by each event that may follow, holds of a legal journal.
+use Rattle.std.proofs.Common.{◌≡◌, ℕ, zero, suc, ◌≤◌, ◌<◌, List, [], ◌∷◌, ◌++◌, length, get_or, take, sym, subst, arith}
+use Rattle.std.proofs.Math.Seq.{take-suc}
+use Rattle.std.proofs.lemmas.List.{take_all}
+use Rattle.request_catalogue.specs.declared.kind.Kind.{Kind}
+use Rattle.policy_model.specs.declared.event.Ask.TheVariants as asks
+use Rattle.policy_model.specs.declared.event.Decision.TheVariants.{Lost}
+use Rattle.policy_model.specs.declared.event.Event.{Event}
+use Rattle.policy_model.specs.declared.phase.Phase.{Phase}
+use Rattle.policy_model.specs.declared.phase.Row.{Row}
+use Rattle.policy_model.specs.Legal.{IsLegalBy, IsNextBy}
+use Rattle.policy_model.specs.Settings.{Settings}
+
+-- any event
+some_event : Event
+some_event = record { worker = 0; session = 0; ask = asks.Begin; decision = Lost }
+
+pub by_events : {table : Phase → Kind → Row} (setup : Settings) (P : List Event → Type 0) → P [] → ((journal : List Event) (e : Event) → IsNextBy table setup journal e → P journal → P (journal ++ e ∷ [])) → (journal : List Event) → IsLegalBy table setup journal → P journal
+by_events {table} setup P none more journal legal = subst P (take_all (length journal) journal (omega arith)) (go (length journal) (omega arith)) where
+  go : (k : ℕ) → k ≤ length journal → P (take k journal)
+  go zero le = none
+  go (suc k) le =
+      let lt : k < length journal = omega arith in
+      subst P (sym (take-suc journal k some_event lt)) (more (take k journal) (get_or journal k some_event) (legal k some_event lt) (go k (omega arith)))
