@@ -1,11 +1,13 @@
 -- The files that a session has open, as a list.
-use Rattle.std.specs.Prelude.{ℕ, ◌≡◌, ◌≤◌, ◌==◌, Bool, true, List, [], ◌∷◌, filter, length, not, Option, Some, None, is_none, nat_le, unwrap_or, if◌then◌else◌}
+use Rattle.std.specs.Prelude.{ℕ, ◌≡◌, ◌++◌, ◌≤◌, ◌==◌, Bool, true, List, [], ◌∷◌, filter, length, not, Option, Some, None, is_none, nat_le, unwrap_or, if◌then◌else◌}
 use Rattle.std.specs.List.{find}
 use Rattle.request_catalogue.specs.declared.texts.Label.{Label}
 use Rattle.request_catalogue.specs.Rules.{handles_spent}
 use Rattle.policy_model.specs.declared.account.Grant.{Grant}
 use Rattle.policy_model.specs.declared.event.Decision.{Decision}
 use Rattle.policy_model.specs.declared.event.Decision.TheVariants.{Permit, Deny, Lost}
+use Rattle.policy_model.specs.declared.event.Event.{Event}
+use Rattle.policy_model.specs.Asks.{closes_file, handle_of, mode_of, opens_file}
 use Rattle.policy_model.specs.Handles.{handle_numbers}
 use Rattle.policy_model.specs.Settings.{same_label}
 use Rattle.policy_model.specs.Verdict.{grant_verdict}
@@ -54,3 +56,15 @@ told_of (Some file) = Some (file.grant, file.mode)
 
 abbrev pub look_of : ℕ → List LiveHandle → Option (ℕ × ℕ)
 look_of handle live = told_of (file_at handle live)
+
+-- the file that an OPEN opens for this grant
+abbrev pub file_opened : Event → ℕ → LiveHandle
+file_opened e grant = record { handle = handle_of e; grant = grant; mode = mode_of e.ask }
+
+-- after an event of the session: those that it doesn't close, and behind them the one that it opens
+abbrev pub files_after : List LiveHandle → Event → ℕ → List LiveHandle
+files_after live e grant = filter (λ file. not (closes_file file.handle e)) live ++ (if opens_file e then file_opened e grant ∷ [] else [])
+
+-- a file that is opened has a new handle
+pub record FitsFiles (live : List LiveHandle) (e : Event) : Type 0 where
+  pub new : opens_file e ≡ true → IsNewHandle live e.decision

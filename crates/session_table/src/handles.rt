@@ -5,10 +5,10 @@ ghost use Rattle.std.specs.List.{find};
 ghost use Rattle.std.specs.Option.{option_copied};
 ghost use Rattle.policy_model.specs.Settings.{same_label};
 ghost use Rattle.policy_model.specs.Verdict.{allows, grant_verdict};
-ghost use Rattle.session_table.specs.Files.{IsNewHandle, file_at, free_of, is_free, look_of, open_decision, without};
+ghost use Rattle.session_table.specs.Files.{FitsFiles, IsNewHandle, file_at, files_after, free_of, is_free, look_of, open_decision, without};
 
 use arrayvec::ArrayVec;
-use policy_model::{Decision, Grant, Grants};
+use policy_model::{Ask, Decision, Event, Grant, Grants};
 use request_catalogue::{Label, rules};
 use std::marker::Model;
 
@@ -176,5 +176,19 @@ impl Handles {
         ensures { self.new ≡ without handle self.old }
     {
         self.live.retain(|file| file.handle != handle);
+    }
+
+    /// What an event of the session makes of these; where it is a permitted OPEN, it is for this grant.
+    pub(crate) fn advance(&mut self, event: &Event, grant: u32)
+        requires { FitsFiles self.old event.now }
+        ensures { self.new ≡ files_after self.old event.now grant }
+    {
+        match (event.ask, event.decision) {
+            (Ask::OpenFile { mode, .. }, Decision::Permit { value }) => {
+                self.add(value as u32, grant, mode);
+            }
+            (Ask::CloseFile { handle }, Decision::Permit { .. }) => self.remove(handle),
+            _ => {}
+        }
     }
 }
