@@ -168,7 +168,7 @@ none_found live (n ∷ ns) h = go (is_free n live) refl h (none_found live ns) w
 pub least_is_free : (live : List LiveHandle) → length live < 8 → (1 ≤ free_of live) × (free_of live ≤ 8) × (is_free (free_of live) live ≡ true)
 least_is_free live lt = go (find (λ n. is_free n live) handle_numbers) refl where
   numbers : AreNumbers handle_numbers
-  numbers = (omega arith, omega arith, omega arith, omega arith, omega arith, omega arith, omega arith, omega arith, omega arith, omega arith, omega arith, omega arith, omega arith, omega arith, omega arith, omega arith, tt)
+  numbers = (omega arith, omega arith, (omega arith, omega arith, (omega arith, omega arith, (omega arith, omega arith, (omega arith, omega arith, (omega arith, omega arith, (omega arith, omega arith, (omega arith, omega arith, tt))))))))
 
   go : (o : Option ℕ) → find (λ n. is_free n live) handle_numbers ≡ o → (1 ≤ unwrap_or o 0) × (unwrap_or o 0 ≤ 8) × (is_free (unwrap_or o 0) live ≡ true)
   go None h = let most : 8 ≤ length live = taken_length handle_numbers live refl (none_found live handle_numbers h) in absurd (omega (arith, most, lt))

@@ -1,1 +1,3 @@
 pub mod FileLemmas
+pub mod RowLemmas
+pub mod TableLemmas

@@ -4,10 +4,12 @@ use Rattle.std.specs.List.{find}
 use Rattle.request_catalogue.specs.declared.texts.Label.{Label}
 use Rattle.request_catalogue.specs.Rules.{handles_spent}
 use Rattle.policy_model.specs.declared.account.Grant.{Grant}
+use Rattle.policy_model.specs.declared.event.Ask.{Ask}
+use Rattle.policy_model.specs.declared.event.Ask.TheVariants as asks
 use Rattle.policy_model.specs.declared.event.Decision.{Decision}
 use Rattle.policy_model.specs.declared.event.Decision.TheVariants.{Permit, Deny, Lost}
 use Rattle.policy_model.specs.declared.event.Event.{Event}
-use Rattle.policy_model.specs.Asks.{closes_file, handle_of, mode_of, opens_file}
+use Rattle.policy_model.specs.Asks.{handle_of, is_permit, mode_of, opens_file, value_of}
 use Rattle.policy_model.specs.Handles.{handle_numbers}
 use Rattle.policy_model.specs.Settings.{same_label}
 use Rattle.policy_model.specs.Verdict.{grant_verdict}
@@ -61,9 +63,15 @@ look_of handle live = told_of (file_at handle live)
 abbrev pub file_opened : Event → ℕ → LiveHandle
 file_opened e grant = record { handle = handle_of e; grant = grant; mode = mode_of e.ask }
 
--- after an event of the session: those that it doesn't close, and behind them the one that it opens
+-- after a permitted ask of the session, an OPEN with this value and for this grant
+abbrev pub files_by : List LiveHandle → ℕ → ℕ → Ask → List LiveHandle
+files_by live grant value (asks.OpenFile mode name) = live ++ record { handle = value; grant = grant; mode = mode } ∷ []
+files_by live grant value (asks.CloseFile handle) = without handle live
+files_by live grant value _ = live
+
+-- after an event of the session
 abbrev pub files_after : List LiveHandle → Event → ℕ → List LiveHandle
-files_after live e grant = filter (λ file. not (closes_file file.handle e)) live ++ (if opens_file e then file_opened e grant ∷ [] else [])
+files_after live e grant = if is_permit e.decision then files_by live grant (value_of e.decision) e.ask else live
 
 -- a file that is opened has a new handle
 pub record FitsFiles (live : List LiveHandle) (e : Event) : Type 0 where

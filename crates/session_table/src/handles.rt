@@ -183,12 +183,12 @@ impl Handles {
         requires { FitsFiles self.old event.now }
         ensures { self.new ≡ files_after self.old event.now grant }
     {
-        match (event.ask, event.decision) {
-            (Ask::OpenFile { mode, .. }, Decision::Permit { value }) => {
-                self.add(value as u32, grant, mode);
+        if let Decision::Permit { value } = event.decision {
+            match event.ask {
+                Ask::OpenFile { mode, .. } => self.add(value as u32, grant, mode),
+                Ask::CloseFile { handle } => self.remove(handle),
+                _ => {}
             }
-            (Ask::CloseFile { handle }, Decision::Permit { .. }) => self.remove(handle),
-            _ => {}
         }
     }
 }
