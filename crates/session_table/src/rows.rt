@@ -11,6 +11,7 @@ use crate::bits::Bits;
 use crate::handles::Handles;
 use crate::reading::{accepts, ends_session, exports, gives_up, is_denied_reply, takes};
 use policy_model::{Event, Phase};
+use std::mem::size_of;
 
 /// What the policy knows of a session that is open.
 #[derive(Debug, Drop)]
@@ -30,6 +31,9 @@ pub struct SessionRow {
     /// The files that are open.
     pub handles: Handles,
 }
+
+/// The rows of 64 workers take at most 16 KB.
+const _: () = prove!(size_of::<Option<SessionRow>>() <= 256);
 
 /// What an event of a session that doesn't open it makes of the session's phase.
 fn phase_after(phase: Phase, event: &Event) -> Phase
