@@ -13,3 +13,6 @@ pub use bits::Bits;
 pub use handles::{Handles, LiveHandle};
 pub use rows::SessionRow;
 pub use table::Table;
+
+#[cfg(test)]
+mod tests;
