@@ -1,5 +1,5 @@
 -- What holds of no event, and goes on by each event that may follow, holds of a legal journal.
-use Rattle.std.proofs.Common.{◌≡◌, ℕ, zero, suc, ◌≤◌, ◌<◌, List, [], ◌∷◌, ◌++◌, length, get_or, take, sym, subst, arith}
+use Rattle.std.proofs.Common.{ℕ, zero, suc, ◌≤◌, ◌<◌, List, [], ◌∷◌, ◌++◌, length, get_or, take, sym, subst, arith}
 use Rattle.std.proofs.Math.Seq.{take-suc}
 use Rattle.std.proofs.lemmas.List.{take_all}
 use Rattle.request_catalogue.specs.declared.kind.Kind.{Kind}
@@ -10,9 +10,10 @@ use Rattle.policy_model.specs.declared.phase.Phase.{Phase}
 use Rattle.policy_model.specs.declared.phase.Row.{Row}
 use Rattle.policy_model.specs.Legal.{IsLegalBy, IsNextBy}
 use Rattle.policy_model.specs.Settings.{Settings}
+use Rattle.policy_model.proofs.Legal.{IsLegal-none, IsLegal-push}
 
 -- any event
-some_event : Event
+pub some_event : Event
 some_event = record { worker = 0; session = 0; ask = asks.Begin; decision = Lost }
 
 pub by_events : {table : Phase → Kind → Row} (setup : Settings) (P : List Event → Type 0) → P [] → ((journal : List Event) (e : Event) → IsNextBy table setup journal e → P journal → P (journal ++ e ∷ [])) → (journal : List Event) → IsLegalBy table setup journal → P journal
@@ -22,3 +23,7 @@ by_events {table} setup P none more journal legal = subst P (take_all (length jo
   go (suc k) le =
       let lt : k < length journal = omega arith in
       subst P (sym (take-suc journal k some_event lt)) (more (take k journal) (get_or journal k some_event) (legal k some_event lt) (go k (omega arith)))
+
+-- the same, where the front is known to be legal
+pub by_legal_events : {table : Phase → Kind → Row} (setup : Settings) (P : List Event → Type 0) → P [] → ((journal : List Event) (e : Event) → IsLegalBy table setup journal → IsNextBy table setup journal e → P journal → P (journal ++ e ∷ [])) → (journal : List Event) → IsLegalBy table setup journal → P journal
+by_legal_events {table} setup P none more journal legal = (by_events setup (λ j. IsLegalBy table setup j × P j) (IsLegal-none setup, none) (λ j e next h. (IsLegal-push setup j e h.0 next, more j e h.0 next h.1)) journal legal).1

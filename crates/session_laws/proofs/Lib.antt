@@ -5,3 +5,14 @@ pub mod UserLemmas
 pub mod HandleSteps
 pub mod Openings
 pub mod Opened
+pub mod Permits
+pub mod FreeHandles
+pub mod HandleLaws
+pub mod Permitted
+pub mod Holders
+pub mod Counts
+pub mod NeverLost
+pub mod LoggedIn
+pub mod Numbers
+pub mod Rooms
+pub mod NextEvents

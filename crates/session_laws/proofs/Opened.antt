@@ -1,5 +1,5 @@
 -- A session that was just opened, and what a permitted request adds to a session's kinds.
-use Rattle.std.proofs.Common.{◌≡◌, ℕ, ◌+◌, ◌<◌, Bool, true, false, not, ◌&&◌, ◌||◌, ◌==◌, cond, List, [], ◌∷◌, ◌++◌, Option, Some, None, refl, sym, ap, ◌∙◌, arith}
+use Rattle.std.proofs.Common.{◌≡◌, ℕ, ◌+◌, ◌<◌, Bool, true, false, ◌&&◌, ◌==◌, cond, List, [], ◌∷◌, ◌++◌, Some, None, refl, ap, ◌∙◌, arith}
 use Rattle.std.specs.Prelude.{nat_le}
 use Rattle.request_catalogue.specs.declared.kind.Kind.{Kind}
 use Rattle.request_catalogue.specs.declared.kind.Kind.TheVariants as kinds
@@ -9,17 +9,20 @@ use Rattle.policy_model.specs.declared.event.Ask.TheVariants as asks
 use Rattle.policy_model.specs.declared.event.Decision.{Decision}
 use Rattle.policy_model.specs.declared.event.Decision.TheVariants.{Permit, Deny, Lost}
 use Rattle.policy_model.specs.declared.event.Event.{Event}
-use Rattle.policy_model.specs.declared.phase.Phase.TheVariants.{Pre}
-use Rattle.policy_model.specs.Asks.{accepts, came_by_frame, challenge_name, decoys_from, ends_session, exports, is_begin, is_denied_reply, is_end, is_finish, is_login_step, is_lost, is_permit, is_violation, kind_of, number_of, opens, opens_file, permits_kind, request_number, takes, value_of}
-use Rattle.policy_model.specs.Handles.{live_handles_of}
-use Rattle.policy_model.specs.Journal.{ask_count, count_of, has_event, last_event, openings_of}
+use Rattle.policy_model.specs.declared.phase.Phase.{Phase}
+use Rattle.policy_model.specs.declared.phase.Row.{Row}
+use Rattle.policy_model.specs.Asks.{accepts, came_by_frame, challenge_name, decoys_from, ends_session, exports, is_denied_reply, is_login_step, is_permit, kind_of, number_of, opens, opens_file, permits_kind, request_number, takes, value_of}
+use Rattle.policy_model.specs.Journal.{last_event, openings_of}
+use Rattle.policy_model.specs.Legal.{IsLegalBy, IsNextBy}
 use Rattle.policy_model.specs.Logins.{challenged_user, was_decoyed}
-use Rattle.policy_model.specs.Phases.{is_over}
 use Rattle.policy_model.specs.Runs.{AreNumbered}
+use Rattle.policy_model.specs.Settings.{Settings}
+use Rattle.policy_model.proofs.Runs.{next_session}
 use Rattle.policy_model.proofs.Sessions.{ask_count-new}
 use Rattle.session_laws.specs.Handled.{handles_after}
 use Rattle.session_laws.specs.Opened.{IsFresh}
 use Rattle.session_laws.proofs.HandleSteps.{live_handles_of-new, live_handles_of-own}
+use Rattle.session_laws.proofs.Openings.{legal_numbered, session_new}
 use Rattle.session_laws.proofs.PhaseLemmas.{phase_of-pre}
 use Rattle.session_laws.proofs.SessionEvents.{ask_count-own, count_of-new, count_of-own, events_of-new, has_event-new, has_event-own, is_over-opened, last_event-new, last_event-own}
 use Rattle.session_laws.proofs.UserLemmas.{challenged_user-new, challenged_user-own, was_decoyed-new, was_decoyed-own}
@@ -81,10 +84,10 @@ opened_fresh journal e numbered number opened =
     let lt : last < s = omega (arith, number) in
     record {
       phase = phase_of-pre (journal ++ e ∷ []) s
-        (is_over-opened journal e (events_of-new journal last s numbered lt) opened o.goes_on)
-        (has_event-own journal e s exports refl ∙ rw (has_event-new journal last s exports numbered lt, o.exports_none) refl)
-        (has_event-own journal e s accepts refl ∙ rw (has_event-new journal last s accepts numbered lt, o.accepts_none) refl)
-        (last_event-own journal e s is_login_step refl ∙ ap (λ b. cond b (Some e) (last_event journal s is_login_step)) o.no_step ∙ last_event-new journal last s is_login_step numbered lt);
+          (is_over-opened journal e (events_of-new journal last s numbered lt) opened o.goes_on)
+          (has_event-own journal e s exports refl ∙ rw (has_event-new journal last s exports numbered lt, o.exports_none) refl)
+          (has_event-own journal e s accepts refl ∙ rw (has_event-new journal last s accepts numbered lt, o.accepts_none) refl)
+          (last_event-own journal e s is_login_step refl ∙ ap (λ b. cond b (Some e) (last_event journal s is_login_step)) o.no_step ∙ last_event-new journal last s is_login_step numbered lt);
       asked = ask_count-own journal e s refl ∙ rw (ask_count-new journal last s numbered lt, o.by_no_frame) refl;
       tries = count_of-own journal e s is_denied_reply refl ∙ rw (count_of-new journal last s is_denied_reply numbered lt, o.denies_none) refl;
       bits = λ kind. has_event-own journal e s (permits_kind kind) refl ∙ rw (has_event-new journal last s (permits_kind kind) numbered lt, o.permits_none kind) refl;
@@ -92,6 +95,10 @@ opened_fresh journal e numbered number opened =
       decoyed = was_decoyed-own journal e s refl ∙ ap (λ b. cond b (nat_le decoys_from (value_of e.decision)) (was_decoyed journal s)) o.takes_none ∙ was_decoyed-new journal last s numbered lt;
       handles = live_handles_of-own journal e s refl ∙ ap (λ l. handles_after l e) (live_handles_of-new journal last s numbered lt) ∙ ap (λ b. cond b (e ∷ []) []) o.opens_none;
     }
+
+-- the session that an event opens in a legal journal
+pub fresh : {table : Phase → Kind → Row} (setup : Settings) (journal : List Event) (e : Event) → IsLegalBy table setup journal → IsNextBy table setup journal e → opens e ≡ true → IsFresh (journal ++ e ∷ []) e.session
+fresh {table} setup journal e legal next opened = opened_fresh journal e (legal_numbered setup journal legal) (session_new journal e (next_session setup journal e next) opened) opened
 
 -- 3. The kinds of which one was permitted
 

@@ -1,5 +1,6 @@
 -- The numbers of sessions, and the open sessions of the workers.
-use Rattle.std.proofs.Common.{◌≡◌, ◌≢◌, ℕ, ◌+◌, ◌≤◌, ◌<◌, Bool, true, false, not, ◌&&◌, ◌||◌, ◌==◌, cond, eqb, List, [], ◌∷◌, ◌++◌, refl, sym, ap, subst, ◌∙◌, arith, eq-eqb, inl, inr, ◌⊎◌}
+use Rattle.std.proofs.Common.{◌≡◌, ◌≢◌, ℕ, ◌+◌, ◌≤◌, Bool, true, false, not, ◌&&◌, ◌||◌, ◌==◌, cond, eqb, List, [], ◌∷◌, ◌++◌, refl, sym, ap, subst, ◌∙◌, arith, eq-eqb, inl, inr, ◌⊎◌}
+use Rattle.std.proofs.Math.Bool.{or-false}
 use Rattle.std.specs.List.{list_any}
 use Rattle.std.proofs.lemmas.Bool.{cases_eq}
 use Rattle.std.proofs.lemmas.List.{append-nil}
@@ -162,10 +163,6 @@ not_of_other journal e worker numbered before is kept ne some = go (opens e) ref
 
 -- 5. No session has the number 0
 
-or_false : (b : Bool) → (b || false) ≡ b
-or_false true = refl
-or_false false = refl
-
 record ZeroIsClosed (journal : List Event) : Type 0 where
   pub closed : list_any opens (events_of journal 0) ≡ false
 
@@ -179,5 +176,5 @@ phase_of-zero {table} setup journal legal = let z = by_events setup ZeroIsClosed
         ap (list_any opens) (events_of-other j e 0 (λ (same : e.session ≡ 0). absurd (omega arith))) ∙ z.closed
     go false is = ap (list_any opens) (filter-push (λ x. x.session == 0) j e) ∙ last (eqb e.session 0) ∙ z.closed where
       last : (c : Bool) → list_any opens (events_of j 0 ++ cond c (e ∷ []) []) ≡ list_any opens (events_of j 0)
-      last true = list_any-append opens (events_of j 0) (e ∷ []) ∙ rw is (or_false (list_any opens (events_of j 0)))
+      last true = list_any-append opens (events_of j 0) (e ∷ []) ∙ rw is (or-false (list_any opens (events_of j 0)))
       last false = ap (list_any opens) (append-nil (events_of j 0))

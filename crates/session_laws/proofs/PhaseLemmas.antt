@@ -1,12 +1,12 @@
 -- What one more event makes of a session's phase.
-use Rattle.std.proofs.Common.{◌≡◌, ◌≢◌, ℕ, Bool, true, false, ◌||◌, cond, List, [], ◌∷◌, ◌++◌, Option, Some, None, refl, sym, ap, ◌∙◌}
+use Rattle.std.proofs.Common.{◌≡◌, ◌≢◌, ℕ, Bool, true, false, ◌||◌, cond, List, [], ◌∷◌, ◌++◌, Option, Some, None, refl, sym, ap, subst, ◌∙◌}
 use Rattle.policy_model.specs.declared.event.Event.{Event}
 use Rattle.policy_model.specs.declared.phase.Phase.{Phase}
 use Rattle.policy_model.specs.declared.phase.Phase.TheVariants.{Pre, Challenged, Verified, User, Over}
 use Rattle.policy_model.specs.Asks.{accepts, ends_session, exports, is_login_step, opens, takes}
 use Rattle.policy_model.specs.Journal.{has_event, last_event}
 use Rattle.policy_model.specs.Phases.{is_over, is_taking, phase_of}
-use Rattle.session_laws.specs.Phased.{IsPhasedBy, early_after, phase_after}
+use Rattle.session_laws.specs.Phased.{IsPhasedBy, phase_after}
 use Rattle.session_laws.proofs.SessionEvents.{has_event-other, has_event-own, is_over-other, is_over-own, last_event-other, last_event-own}
 
 -- the phase by its four tests
@@ -85,3 +85,46 @@ phase_of-over journal session o = rw o refl
 -- of one without an event of its login
 pub phase_of-pre : (journal : List Event) (session : ℕ) → is_over journal session ≡ false → has_event journal session exports ≡ false → has_event journal session accepts ≡ false → last_event journal session is_login_step ≡ None → phase_of journal session ≡ Pre
 phase_of-pre journal session o u v t = phase_is journal session false false false false o u v (ap is_taking t)
+
+-- what each phase tells of its tests: over, an EXPORT, an accepted reply, the last login step takes
+abbrev pub TestsOf : Phase → Bool → Bool → Bool → Bool → Type 0
+TestsOf Over o u v t = o ≡ true
+TestsOf User o u v t = (o ≡ false) × (u ≡ true)
+TestsOf Verified o u v t = (o ≡ false) × ((u ≡ false) × (v ≡ true))
+TestsOf Challenged o u v t = (o ≡ false) × ((u ≡ false) × ((v ≡ false) × (t ≡ true)))
+TestsOf Pre o u v t = (o ≡ false) × ((u ≡ false) × ((v ≡ false) × (t ≡ false)))
+
+tests_by : (o u v t : Bool) → TestsOf (chain o u v t) o u v t
+tests_by true u v t = refl
+tests_by false true v t = (refl, refl)
+tests_by false false true t = (refl, (refl, refl))
+tests_by false false false true = (refl, (refl, (refl, refl)))
+tests_by false false false false = (refl, (refl, (refl, refl)))
+
+pub phase_tests : (journal : List Event) (session : ℕ) (phase : Phase) → phase_of journal session ≡ phase → TestsOf phase (is_over journal session) (has_event journal session exports) (has_event journal session accepts) (is_taking (last_event journal session is_login_step))
+phase_tests journal session phase h =
+    let o = is_over journal session in
+    let u = has_event journal session exports in
+    let v = has_event journal session accepts in
+    let t = is_taking (last_event journal session is_login_step) in
+    subst (λ p. TestsOf p o u v t) (sym (phase_is journal session o u v t refl refl refl refl) ∙ h) (tests_by o u v t)
+
+-- a session is over just where its phase is Over
+abbrev pub is_over_phase : Phase → Bool
+is_over_phase Over = true
+is_over_phase _ = false
+
+over_by : (o u v t : Bool) → is_over_phase (chain o u v t) ≡ o
+over_by true u v t = refl
+over_by false true v t = refl
+over_by false false true t = refl
+over_by false false false true = refl
+over_by false false false false = refl
+
+pub over_is : (journal : List Event) (session : ℕ) → is_over_phase (phase_of journal session) ≡ is_over journal session
+over_is journal session =
+    let o = is_over journal session in
+    let u = has_event journal session exports in
+    let v = has_event journal session accepts in
+    let t = is_taking (last_event journal session is_login_step) in
+    ap is_over_phase (phase_is journal session o u v t refl refl refl refl) ∙ over_by o u v t

@@ -1,5 +1,6 @@
 -- What one more event makes of a session's events: of one that isn't its own nothing, its own is put behind them, and of a session with a number that wasn't given yet there is none.
-use Rattle.std.proofs.Common.{◌≡◌, ◌≢◌, ℕ, ◌+◌, ◌≤◌, ◌<◌, Bool, true, false, not, ◌&&◌, ◌||◌, ◌==◌, cond, eqb, List, [], ◌∷◌, ◌++◌, Option, Some, None, filter, count_by, refl, sym, ap, subst, ◌∙◌, arith, eq-eqb, inl, inr, ◌⊎◌}
+use Rattle.std.proofs.Common.{◌≡◌, ◌≢◌, ℕ, ◌+◌, ◌<◌, Bool, true, false, not, ◌&&◌, ◌||◌, ◌==◌, cond, eqb, List, [], ◌∷◌, ◌++◌, Some, None, filter, count_by, refl, sym, ap, ◌∙◌, arith, eq-eqb, inl, inr, ◌⊎◌}
+use Rattle.std.proofs.Math.Bool.{or-false}
 use Rattle.std.specs.List.{fold, last_or, list_any}
 use Rattle.std.proofs.lemmas.Bool.{cases_eq, eqb-true}
 use Rattle.std.proofs.lemmas.Bool.Decides.{nat_tests}
@@ -56,10 +57,6 @@ or_rest true b = refl
 or_rest false true = refl
 or_rest false false = refl
 
-or_false : (b : Bool) → (b || false) ≡ b
-or_false true = refl
-or_false false = refl
-
 pub has_event-push : (journal : List Event) (e : Event) (session : ℕ) (p : Event → Bool) → has_event (journal ++ e ∷ []) session p ≡ (has_event journal session p || is_own session p e)
 has_event-push journal e session p = list_any-append (is_own session p) journal (e ∷ []) ∙ or_rest (has_event journal session p) (is_own session p e)
 
@@ -67,7 +64,7 @@ pub has_event-own : (journal : List Event) (e : Event) (session : ℕ) (p : Even
 has_event-own journal e session p own = has_event-push journal e session p ∙ ap (λ b. has_event journal session p || b) (own_is e session p own)
 
 pub has_event-other : (journal : List Event) (e : Event) (session : ℕ) (p : Event → Bool) → e.session ≢ session → has_event (journal ++ e ∷ []) session p ≡ has_event journal session p
-has_event-other journal e session p other = has_event-push journal e session p ∙ ap (λ b. has_event journal session p || b) (other_is e session p other) ∙ or_false (has_event journal session p)
+has_event-other journal e session p other = has_event-push journal e session p ∙ ap (λ b. has_event journal session p || b) (other_is e session p other) ∙ or-false (has_event journal session p)
 
 -- none passes that isn't there
 pub has_event-none : (journal : List Event) (e : Event) (session : ℕ) (p : Event → Bool) → has_event journal session p ≡ false → is_own session p e ≡ false → has_event (journal ++ e ∷ []) session p ≡ false
@@ -144,7 +141,7 @@ is_over-push journal e session other = go (cases_eq e.session session) (opens e)
   go : (e.session ≡ session) ⊎ (e.session ≢ session) → (b : Bool) → opens e ≡ b → is_over (journal ++ e ∷ []) session ≡ (is_over journal session || is_own session ends_session e)
   go (inr ne) b h =
       is_over-other journal e session ne
-      ∙ sym (ap (λ b. is_over journal session || b) (other_is e session ends_session ne) ∙ or_false (is_over journal session))
+      ∙ sym (ap (λ b. is_over journal session || b) (other_is e session ends_session ne) ∙ or-false (is_over journal session))
   go (inl same) true h = absurd (other h same)
   go (inl same) false h = is_over-own journal e session same h ∙ ap (λ b. is_over journal session || b) (sym (own_is e session ends_session same))
 

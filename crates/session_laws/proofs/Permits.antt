@@ -1,5 +1,6 @@
 -- What a permitted CHALLENGE, REPLY and EXPORT of a legal journal tell.
 use Rattle.std.proofs.Common.{◌≡◌, ℕ, ◌-◌, Bool, true, false, not, ◌&&◌, ◌||◌, cond, eqb, nat_le, nat_lt, ◌+◌, ◌<◌, List, arith, [], ◌∷◌, length, Option, Some, None, refl, sym, ap, subst, ◌∙◌}
+use Rattle.std.proofs.lemmas.Bool.{and_parts, not-false, not-true}
 use Rattle.std.proofs.lemmas.Bool.Decides.{nat_tests}
 use Rattle.std.specs.List.{find, list_any}
 use Rattle.std.proofs.lemmas.Slice.Eq.{bytes_eq-Decides}
@@ -20,7 +21,7 @@ use Rattle.policy_model.specs.Asks.{accepts, exports, decoys_from, is_challenge_
 use Rattle.policy_model.specs.Decoys.{decoy_number}
 use Rattle.policy_model.specs.Journal.{ask_count, count_of, has_event, open_session_of}
 use Rattle.policy_model.specs.Legal.{IsNextBy}
-use Rattle.policy_model.specs.Logins.{account_of, challenged_user, current_sequence, holder_of, is_live, last_taking_of, session_taking, verified_user, was_accepted, was_decoyed}
+use Rattle.policy_model.specs.Logins.{account_of, challenged_user, current_sequence, holder_of, is_live, is_user, last_taking_of, reply_for, session_taking, verified_user, was_accepted, was_decoyed}
 use Rattle.policy_model.specs.Phases.{is_over, phase_of}
 use Rattle.policy_model.specs.Settings.{Settings, same_name}
 use Rattle.policy_model.specs.Verdict.{account_verdict, challenge_verdict, decoy_challenge, decoy_verdict, is_holder, is_held, is_next_password, kind_verdict, login_verdict, matching_verdict, number_named, readings, readings_verdict, reply_verdict, request_verdict, row_verdict}
@@ -34,36 +35,27 @@ same_from_same_name a b h = same_from_name_bytes a b ((bytes_eq-Decides (name_by
 pub same_name-same : (a : Name) → same_name a a ≡ true
 same_name-same a = (bytes_eq-Decides (name_bytes a) (name_bytes a)).1 refl
 
+pub same_some : {X : Type 0} (x y : X) → Some x ≡ Some y → x ≡ y
+same_some x y h = cc
+
 -- what is permitted where a denial stood first wasn't denied
-permit_from : (b : Bool) (rule detail v : ℕ) (d : Decision) → cond b (Deny rule detail) d ≡ Permit v → (b ≡ false) × (d ≡ Permit v)
+pub permit_from : (b : Bool) (rule detail v : ℕ) (d : Decision) → cond b (Deny rule detail) d ≡ Permit v → (b ≡ false) × (d ≡ Permit v)
 permit_from true rule detail v d h = absurd cc
 permit_from false rule detail v d h = (refl, h)
 
-permit_value : (d : Decision) → is_permit d ≡ true → d ≡ Permit (value_of d)
+pub permit_value : (d : Decision) → is_permit d ≡ true → d ≡ Permit (value_of d)
 permit_value (Permit v) h = refl
 permit_value _ h = absurd cc
 
-permit_kept : (d : Decision) → is_permit d ≡ true → is_lost d ≡ false
+pub permit_kept : (d : Decision) → is_permit d ≡ true → is_lost d ≡ false
 permit_kept Lost h = absurd cc
 permit_kept _ h = refl
 
-not_false : (b : Bool) → not b ≡ false → b ≡ true
-not_false true h = refl
-not_false false h = absurd cc
-
-not_true : (b : Bool) → not b ≡ true → b ≡ false
-not_true true h = absurd cc
-not_true false h = refl
-
-pub and_true : (a b : Bool) → (a && b) ≡ true → (a ≡ true) × (b ≡ true)
-and_true true b h = (refl, h)
-and_true false b h = absurd cc
-
-row_permit : (setup : Settings) (journal : List Event) (session : ℕ) (kind : Kind) (ask : Ask) (row : Row) (value : ℕ) → row_verdict setup journal session ask kind row ≡ Permit value → (row.permitted ≡ true) × (kind_verdict setup journal session ask ≡ Permit value)
+pub row_permit : (setup : Settings) (journal : List Event) (session : ℕ) (kind : Kind) (ask : Ask) (row : Row) (value : ℕ) → row_verdict setup journal session ask kind row ≡ Permit value → (row.permitted ≡ true) × (kind_verdict setup journal session ask ≡ Permit value)
 row_permit setup journal session kind ask row value h =
     let a = permit_from (not row.permitted) 6 (request_number ask) value _ h in
     let b = permit_from (row.once && has_event journal session (permits_kind kind)) 7 (request_number ask) value _ a.1 in
-    (not_false row.permitted a.0, b.1)
+    (not-false row.permitted a.0, b.1)
 
 pub find_passes : {X : Type 0} (p : X → Bool) (xs : List X) (x : X) → find p xs ≡ Some x → p x ≡ true
 find_passes p [] x h = absurd cc
@@ -97,7 +89,7 @@ login_permit setup journal session passwords (Some user) value h =
     let a = permit_from (not (is_holder session (holder_of journal user))) 13 (session_taking (last_taking_of journal user)) value _ h in
     let b = permit_from (eqb (length passwords) 0) 14 0 value _ a.1 in
     let r = readings_permit journal passwords (account_of setup user) value b.1 in
-    (user, refl, record { account = r.0; holds = not_false (is_holder session (holder_of journal user)) a.0; found = r.1; next = r.2 })
+    (user, refl, record { account = r.0; holds = not-false (is_holder session (holder_of journal user)) a.0; found = r.1; next = r.2 })
 
 -- what a session's request was judged by, that is permitted
 pub request_permit : {table : Phase → Kind → Row} (setup : Settings) (journal : List Event) (e : Event) → IsNextBy table setup journal e → came_by_frame e.ask ≡ true → is_permit e.decision ≡ true → request_verdict table setup journal e.session e.ask ≡ Permit (value_of e.decision)
@@ -128,7 +120,7 @@ request_reply _ h = absurd cc
 -- a permitted REPLY of a legal journal
 pub accepted_reply : {table : Phase → Kind → Row} (setup : Settings) (journal : List Event) (e : Event) → IsNextBy table setup journal e → accepts e ≡ true → (user : Name) × (challenged_user journal e.session ≡ Some user) × Accepted setup journal e.session user (value_of e.decision)
 accepted_reply {table} setup journal e next h =
-    let is = and_true (is_reply e.ask) (is_permit e.decision) h in
+    let is = and_parts (is_reply e.ask) (is_permit e.decision) h in
     reply_judged table setup journal e.session e.ask (value_of e.decision) is.0 (request_permit setup journal e next (request_reply e.ask is.0) is.1)
 
 -- a CHALLENGE for a user reserves the user where the account is enabled and its sequence isn't 0, and its value is one less
@@ -158,8 +150,8 @@ account_permit setup journal session user now value (Some account) is h below = 
   go : (b : Bool) → is_live journal account ≡ b → cond (not b) (decoy_challenge setup user) (cond (is_held setup journal session user now) (Deny 12 (session_taking (last_taking_of journal user))) (Permit (current_sequence journal account - 1))) ≡ Permit value → Taken setup journal user value
   go false live g = absurd (too_great (decoy_number setup user) value g below)
   go true live g =
-      let both = and_true account.enabled (not (eqb (current_sequence journal account) 0)) live in
-      record { account = account; found = is; enabled = both.0; some = not_true (eqb (current_sequence journal account) 0) both.1; is = live_value setup journal session user now value account live h }
+      let both = and_parts account.enabled (not (eqb (current_sequence journal account) 0)) live in
+      record { account = account; found = is; enabled = both.0; some = not-true (eqb (current_sequence journal account) 0) both.1; is = live_value setup journal session user now value account live h }
 
 -- what a permitted CHALLENGE was judged by
 record Judged (setup : Settings) (journal : List Event) (session : ℕ) (user : Name) (value : ℕ) : Type 0 where
@@ -182,13 +174,13 @@ request_challenge user _ h = absurd cc
 
 permitted_challenge : {table : Phase → Kind → Row} (setup : Settings) (journal : List Event) (e : Event) (user : Name) → IsNextBy table setup journal e → takes_user user e ≡ true → Judged setup journal e.session user (value_of e.decision)
 permitted_challenge {table} setup journal e user next h =
-    let is = and_true (is_challenge_for user e.ask) (is_permit e.decision) h in
+    let is = and_parts (is_challenge_for user e.ask) (is_permit e.decision) h in
     challenge_judged table setup journal e.session e.ask user (value_of e.decision) is.0 (request_permit setup journal e next (request_challenge user e.ask is.0) is.1)
 
 -- a permitted CHALLENGE of a legal journal that isn't a decoy
 pub taken_challenge : {table : Phase → Kind → Row} (setup : Settings) (journal : List Event) (e : Event) (user : Name) → IsNextBy table setup journal e → reserves user e ≡ true → Taken setup journal user (value_of e.decision)
 taken_challenge {table} setup journal e user next h =
-    let is = and_true (takes_user user e) (nat_lt (value_of e.decision) decoys_from) h in
+    let is = and_parts (takes_user user e) (nat_lt (value_of e.decision) decoys_from) h in
     let j = permitted_challenge setup journal e user next is.0 in
     account_permit setup journal e.session user j.now (value_of e.decision) (account_of setup user) refl j.judged is.1
 
@@ -215,5 +207,21 @@ request_export _ h = absurd cc
 -- a permitted EXPORT of a legal journal
 pub permitted_export : {table : Phase → Kind → Row} (setup : Settings) (journal : List Event) (e : Event) → IsNextBy table setup journal e → exports e ≡ true → ((table (phase_of journal e.session) kinds.Export).permitted ≡ true) × (value_of e.decision ≡ number_named setup (verified_user journal e.session))
 permitted_export {table} setup journal e next h =
-    let is = and_true (is_export e.ask) (is_permit e.decision) h in
+    let is = and_parts (is_export e.ask) (is_permit e.decision) h in
     export_judged table setup journal e.session e.ask (value_of e.decision) is.0 (request_permit setup journal e next (request_export e.ask is.0) is.1)
+
+-- the account that is found by a name has that name
+pub found_name : (setup : Settings) (user : Name) (account : Account) → account_of setup user ≡ Some account → account.name ≡ user
+found_name setup user account found = same_from_same_name account.name user (find_passes (λ a. same_name a.name user) setup.accounts account found)
+
+-- a permitted REPLY for a user, in a legal journal
+pub new_reply : {table : Phase → Kind → Row} (setup : Settings) (journal : List Event) (e : Event) (user : Name) (password : ℕ) → IsNextBy table setup journal e → reply_for user (record { before = journal; event = e }) ≡ Some password → Accepted setup journal e.session user password
+new_reply {table} setup journal e user password next h = go (accepts e && is_user user (challenged_user journal e.session)) refl h where
+  go : (b : Bool) → (accepts e && is_user user (challenged_user journal e.session)) ≡ b → cond b (Some (value_of e.decision)) None ≡ Some password → Accepted setup journal e.session user password
+  go false is h = absurd cc
+  go true is h =
+      let both = and_parts (accepts e) (is_user user (challenged_user journal e.session)) is in
+      let a = accepted_reply setup journal e next both.0 in
+      let same : a.0 ≡ user = same_from_same_name a.0 user (ap (is_user user) (sym a.1) ∙ both.1) in
+      let value : value_of e.decision ≡ password = cc in
+      subst (λ u. Accepted setup journal e.session u password) same (subst (λ v. Accepted setup journal e.session a.0 v) value a.2)

@@ -1,0 +1,33 @@
+-- The event that the policy gives to an ask follows the journal, and isn't lost.
+use Rattle.std.proofs.Common.{◌≡◌, ℕ, false, ◌||◌, cond, List, [], ◌∷◌, ◌++◌, sym, ap, ◌∙◌}
+use Rattle.std.proofs.lemmas.Bool.{false≢true}
+use Rattle.request_catalogue.specs.declared.kind.Kind.{Kind}
+use Rattle.policy_model.specs.declared.event.Ask.{Ask}
+use Rattle.policy_model.specs.declared.event.Decision.TheVariants.{Lost}
+use Rattle.policy_model.specs.declared.event.Event.{Event}
+use Rattle.policy_model.specs.declared.phase.Phase.{Phase}
+use Rattle.policy_model.specs.declared.phase.Row.{Row}
+use Rattle.policy_model.specs.Asks.{is_lost}
+use Rattle.policy_model.specs.Journal.{has_lost}
+use Rattle.policy_model.specs.Legal.{IsLegalBy, IsNextBy, event_with, next_event_by}
+use Rattle.policy_model.specs.Settings.{Settings}
+use Rattle.policy_model.specs.Verdict.{verdict_by}
+use Rattle.policy_model.proofs.Legal.{IsLegal-push}
+use Rattle.policy_model.proofs.Runs.{has_lost-push}
+use Rattle.session_laws.proofs.NeverLost.{never_lost}
+
+pub next_event_kept : (table : Phase → Kind → Row) (setup : Settings) (journal : List Event) (worker : ℕ) (ask : Ask) → is_lost (next_event_by table setup journal worker ask).decision ≡ false
+next_event_kept table setup journal worker ask = never_lost table setup journal worker ask
+
+pub next_event_follows : (table : Phase → Kind → Row) (setup : Settings) (journal : List Event) (worker : ℕ) (ask : Ask) → has_lost journal ≡ false → IsNextBy table setup journal (next_event_by table setup journal worker ask)
+next_event_follows table setup journal worker ask kept = record {
+  decided = ap (λ b. event_with journal worker ask (cond b Lost (verdict_by table setup journal worker ask))) (sym (never_lost table setup journal worker ask));
+  lost = λ h. absurd (false≢true (sym kept ∙ h));
+}
+
+-- so a legal journal without a lost decision goes on as one
+pub legal_goes_on : (table : Phase → Kind → Row) (setup : Settings) (journal : List Event) (worker : ℕ) (ask : Ask) → IsLegalBy table setup journal → has_lost journal ≡ false → IsLegalBy table setup (journal ++ next_event_by table setup journal worker ask ∷ [])
+legal_goes_on table setup journal worker ask legal kept = IsLegal-push setup journal (next_event_by table setup journal worker ask) legal (next_event_follows table setup journal worker ask kept)
+
+pub kept_goes_on : (table : Phase → Kind → Row) (setup : Settings) (journal : List Event) (worker : ℕ) (ask : Ask) → has_lost journal ≡ false → has_lost (journal ++ next_event_by table setup journal worker ask ∷ []) ≡ false
+kept_goes_on table setup journal worker ask kept = has_lost-push journal (next_event_by table setup journal worker ask) ∙ ap (λ b. b || is_lost (verdict_by table setup journal worker ask)) kept ∙ never_lost table setup journal worker ask
