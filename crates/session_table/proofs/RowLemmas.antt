@@ -23,7 +23,6 @@ use Rattle.policy_model.specs.Logins.{challenged_user, verified_user, was_decoye
 use Rattle.policy_model.specs.Runs.{AreNumbered}
 use Rattle.policy_model.specs.Settings.{Settings}
 use Rattle.session_laws.specs.Handled.{handles_after}
-use Rattle.session_laws.specs.Opened.{IsFresh}
 use Rattle.session_laws.specs.Phased.{phase_after}
 use Rattle.session_laws.proofs.HandleSteps.{live_handles_of-other, live_handles_of-own}
 use Rattle.session_laws.proofs.Opened.{opened_fresh, permits_is, permits_no, permits_other}
@@ -32,10 +31,10 @@ use Rattle.session_laws.proofs.SessionEvents.{ask_count-other, ask_count-own, co
 use Rattle.session_laws.proofs.UserLemmas.{challenged_user-other, challenged_user-own, verified_user-other, verified_user-own, was_decoyed-other, was_decoyed-own}
 use Rattle.session_table.specs.declared.handles.LiveHandle.{LiveHandle}
 use Rattle.session_table.specs.declared.rows.SessionRow.{SessionRow}
-use Rattle.session_table.specs.Files.{file_opened, files_after, files_by, without}
+use Rattle.session_table.specs.Files.{file_opened, files_after, files_by}
 use Rattle.session_table.specs.Marks.{has_mark, marks_after, marks_by, no_marks, with_mark}
 use Rattle.session_table.specs.Rows.{new_row, row_after}
-use Rattle.session_table.specs.Standing.{FitsRow, RowStands, StandsAfter, StandsNew, account_challenged, account_taken, file_by, grant_number, grants_at, has_account, is_early, is_granted, is_logged_in, label_named, number_by}
+use Rattle.session_table.specs.Standing.{FitsRow, RowStands, StandsAfter, StandsNew, account_challenged, file_by, grant_number, grants_at, has_account, is_early, is_granted, is_logged_in, label_named, number_by}
 
 or_true : (b : Bool) → (b || true) ≡ true
 or_true true = refl

@@ -11,11 +11,10 @@ use Rattle.policy_model.specs.declared.event.Decision.TheVariants.{Deny}
 use Rattle.policy_model.specs.declared.event.Event.{Event}
 use Rattle.policy_model.specs.declared.phase.Phase.{Phase}
 use Rattle.policy_model.specs.declared.phase.Phase.TheVariants.{Over}
-use Rattle.policy_model.specs.declared.phase.Row.{Row}
 use Rattle.policy_model.specs.Asks.{came_by_frame, kind_of, request_number}
 use Rattle.policy_model.specs.Phases.{table_row}
 use Rattle.policy_model.specs.Settings.{Settings}
-use Rattle.policy_model.specs.Verdict.{close_verdict, handle_verdict, kind_verdict, number_named, open_verdict, request_verdict}
+use Rattle.policy_model.specs.Verdict.{close_verdict, handle_verdict, kind_verdict, open_verdict, request_verdict}
 use Rattle.session_table.specs.declared.handles.LiveHandle.{LiveHandle}
 use Rattle.session_table.specs.declared.rows.SessionRow.{SessionRow}
 use Rattle.session_table.specs.Marks.{has_mark}

@@ -9,8 +9,8 @@ use Rattle.policy_model.specs.declared.event.Ask.{Ask}
 use Rattle.policy_model.specs.declared.event.Ask.TheVariants as asks
 use Rattle.policy_model.specs.declared.event.Event.{Event}
 use Rattle.policy_model.specs.declared.phase.Phase.{Phase}
-use Rattle.policy_model.specs.declared.phase.Phase.TheVariants.{Pre, Challenged, Verified, User, Over}
-use Rattle.policy_model.specs.Asks.{accepts, challenge_name, decoys_from, exports, handle_of, is_denied_reply, mode_of, opens, opens_file, permits_kind, takes, value_of}
+use Rattle.policy_model.specs.declared.phase.Phase.TheVariants.{Pre, Challenged, Verified, User}
+use Rattle.policy_model.specs.Asks.{accepts, challenge_name, decoys_from, exports, is_denied_reply, opens, opens_file, permits_kind, takes, value_of}
 use Rattle.policy_model.specs.Handles.{live_handles_of}
 use Rattle.policy_model.specs.Journal.{ask_count, count_of, has_event, openings_of}
 use Rattle.policy_model.specs.Logins.{challenged_user, verified_user, was_decoyed}
