@@ -1,6 +1,6 @@
 -- Two sessions of strangers that put the same to the policy are shown the same.
 use Rattle.std.proofs.Common.{◌≡◌, ◌≢◌, ℕ, Bool, true, false, not, ◌&&◌, ◌||◌, ◌⊎◌, inl, inr, cond, eqb, List, [], ◌∷◌, ◌++◌, map, Some, None, refl, sym, ap, subst, ◌∙◌, arith, append_assoc}
-use Rattle.std.proofs.lemmas.Bool.{eqb-true, false≢true}
+use Rattle.std.proofs.lemmas.Bool.{and_parts, eqb-true, false≢true, or_parts}
 use Rattle.std.proofs.lemmas.Bool.Decides.{nat_tests}
 use Rattle.std.proofs.lemmas.List.{append-nil}
 use Rattle.policy_model.specs.declared.event.Ask.{Ask}
@@ -15,12 +15,12 @@ use Rattle.policy_laws.specs.Strangers.{IsStranger, Question, StrangersSeeNoAcco
 use Rattle.policy_laws.proofs.Apart.{has_event-push}
 use Rattle.policy_model.proofs.Journals.{open_session_of-push}
 use Rattle.policy_model.proofs.Lists.{filter-push}
-use Rattle.policy_laws.proofs.Permits.{and_true}
-use Rattle.policy_laws.proofs.Replies.{by_events, by_legal_events, neither, same_some}
 use Rattle.policy_model.proofs.Runs.{next_session, no_begin}
 use Rattle.policy_laws.proofs.Strangers.{opened_some, stranger_event}
 use Rattle.policy_laws.proofs.Told.{begin_decided}
 use Rattle.policy_model.proofs.Verdicts.{session_of-other}
+use Rattle.session_laws.proofs.ByEvents.{by_events, by_legal_events}
+use Rattle.session_laws.proofs.Permits.{same_some}
 
 or_true : (a : Bool) → (a || true) ≡ true
 or_true true = refl
@@ -45,7 +45,7 @@ open_opened setup journal legal = by_events setup (λ j. (worker : ℕ) → open
         absurd (some none)
     go true t true h =
         let here : open_session_of (j ++ e ∷ []) worker ≡ e.session = at ∙ ap (λ x. cond x (cond (is_begin e.ask) e.session 0) (open_session_of j worker)) t ∙ ap (λ x. cond x e.session 0) h in
-        let permit : is_permit e.decision ≡ true = (and_true (eqb e.worker worker && (is_begin e.ask || is_end e.ask)) (is_permit e.decision) t).1 in
+        let permit : is_permit e.decision ≡ true = (and_parts (eqb e.worker worker && (is_begin e.ask || is_end e.ask)) (is_permit e.decision) t).1 in
         let own : eqb e.session e.session ≡ true = grind (arith, nat_tests) in
         ap (λ s. has_event (j ++ e ∷ []) s opens) here
         ∙ has_event-push j e.session opens e
@@ -79,14 +79,14 @@ is_false false h = refl
 
 requests_are : (ask : Ask) → came_by_frame ask ≡ true → (is_begin ask ≡ false) × (is_end ask ≡ false)
 requests_are ask h =
-    let both = and_true (not (is_begin ask)) (not (is_end ask)) h in
+    let both = and_parts (not (is_begin ask)) (not (is_end ask)) h in
     (is_false (is_begin ask) both.0, is_false (is_end ask) both.1)
 
 -- a session's next event
 told_next : (setup : Settings) (journal : List Event) (e : Event) → IsLegal setup journal → IsNext setup journal e → e.session ≢ 0 → has_event journal e.session accepts ≡ false → accepts e ≡ false → is_lost e.decision ≡ false → is_between e ≡ true → IsToldAfter setup.requests (told_in journal e.session) e
 told_next setup journal e legal next some before refused kept between = record { request = request; begin = begin; end = end } where
   parts : (not (opens e) ≡ true) × (not (is_end e.ask) ≡ true)
-  parts = and_true (not (opens e)) (not (is_end e.ask)) between
+  parts = and_parts (not (opens e)) (not (is_end e.ask)) between
 
   end : is_end e.ask ≡ false
   end = is_false (is_end e.ask) parts.1
@@ -109,10 +109,10 @@ told_all setup journal legal = by_legal_events setup (λ j. (session : ℕ) → 
   more j e legal next before session s =
       subst (AreTold setup.requests []) (sym (filter-push (is_own session is_between) j e)) (go (eqb e.session session) refl (is_between e) refl) where
         a : (has_event j session accepts ≡ false) × (is_own session accepts e ≡ false)
-        a = neither _ (is_own session accepts e) (sym (has_event-push j session accepts e) ∙ s.refused)
+        a = or_parts _ (is_own session accepts e) (sym (has_event-push j session accepts e) ∙ s.refused)
 
         b : (has_event j session (λ x. is_lost x.decision) ≡ false) × ((eqb e.session session && is_lost e.decision) ≡ false)
-        b = neither _ (eqb e.session session && is_lost e.decision) (sym (has_event-push j session (λ x. is_lost x.decision) e) ∙ s.kept)
+        b = or_parts _ (eqb e.session session && is_lost e.decision) (sym (has_event-push j session (λ x. is_lost x.decision) e) ∙ s.kept)
 
         old : AreTold setup.requests [] (asks_in j session)
         old = before session (record { some = s.some; refused = a.0; kept = b.0 })

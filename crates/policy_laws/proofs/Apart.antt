@@ -1,6 +1,6 @@
 -- The sessions of a legal journal: no worker goes on in a session that has ended.
 use Rattle.std.proofs.Common.{◌≡◌, ◌≢◌, ℕ, ◌+◌, ◌≤◌, ◌<◌, ◌⊎◌, inl, inr, Bool, true, false, ◌&&◌, ◌||◌, cond, eqb, List, [], ◌∷◌, ◌++◌, refl, sym, ap, subst, ◌∙◌, arith}
-use Rattle.std.proofs.lemmas.Bool.{cases_eq, ne_eqb}
+use Rattle.std.proofs.lemmas.Bool.{cases_eq, ne_eqb, or_parts}
 use Rattle.std.proofs.lemmas.Bool.Decides.{nat_tests}
 use Rattle.std.proofs.lemmas.List.Folds.{list_any-append}
 use Rattle.policy_model.specs.declared.event.Ask.{Ask}
@@ -15,10 +15,10 @@ use Rattle.policy_model.specs.Runs.{AreNumbered}
 use Rattle.policy_model.specs.Settings.{Settings}
 use Rattle.policy_model.specs.Verdict.{verdict_by}
 use Rattle.policy_model.proofs.Journals.{open_session_of-push}
-use Rattle.policy_laws.proofs.Replies.{by_events, neither}
 use Rattle.policy_model.proofs.Runs.{has_lost-push, next_decision, next_session, stays_open}
 use Rattle.policy_model.proofs.Sessions.{AreNumbered-push, AreNumbered-weaker, open_session_of-le, openings_of-push, session_of-le}
 use Rattle.policy_model.proofs.Verdicts.{denied_begin, denied_end, session_of-begin, session_of-other, verdict_of-begin, verdict_of-end}
+use Rattle.session_laws.proofs.ByEvents.{by_events}
 
 -- an end
 abbrev pub is_ending : Event → Bool
@@ -166,7 +166,7 @@ apart_all setup journal legal = by_events setup (λ j. has_lost j ≡ false → 
   more : (j : List Event) (e : Event) → IsNext setup j e → (has_lost j ≡ false → Apart j) → has_lost (j ++ e ∷ []) ≡ false → Apart (j ++ e ∷ [])
   more j e next before kept = go e.ask refl where
     both : (has_lost j ≡ false) × (is_lost e.decision ≡ false)
-    both = neither (has_lost j) (is_lost e.decision) (sym (has_lost-push j e) ∙ kept)
+    both = or_parts (has_lost j) (is_lost e.decision) (sym (has_lost-push j e) ∙ kept)
 
     old : Apart j
     old = before both.0

@@ -4,7 +4,7 @@ use Rattle.std.specs.Prelude.{nat_lt, position}
 use Rattle.std.specs.List.{find, position_or_len}
 use Rattle.std.proofs.Math.ListN.{get_or-append}
 use Rattle.std.proofs.Math.Seq.{get_or-append_seam, take-append_seam, take-suc}
-use Rattle.std.proofs.lemmas.Bool.{eqb-true}
+use Rattle.std.proofs.lemmas.Bool.{and_parts, eqb-true}
 use Rattle.std.proofs.lemmas.Bool.Decides.{nat_tests}
 use Rattle.std.proofs.lemmas.Option.{get_or_from_slice_get, slice_get_within}
 use Rattle.std.proofs.lemmas.List.{get_or-take, length-append, length-take-le, take-append-le, take-take, take_all}
@@ -24,8 +24,8 @@ use Rattle.policy_model.specs.Settings.{Settings, same_name}
 use Rattle.policy_model.specs.Verdict.{number_named}
 use Rattle.policy_model.proofs.Lists.{stands_at}
 use Rattle.policy_model.proofs.LoginLemmas.{verified_user-push}
-use Rattle.policy_laws.proofs.Permits.{accepted_reply, and_true, permitted_export}
-use Rattle.policy_laws.proofs.Replies.{some_event}
+use Rattle.session_laws.proofs.ByEvents.{some_event}
+use Rattle.session_laws.proofs.Permits.{accepted_reply, permitted_export}
 
 -- the table permits EXPORT to a session that is verified, and to no other
 pub export_phase : (phase : Phase) → (table_row phase kinds.Export).permitted ≡ true → phase ≡ Verified
@@ -125,14 +125,14 @@ verified_before_export setup journal legal = record {
       let at : get_or front m d ≡ get_or journal m d = get_or-take k journal m d before in
       let prefix : take m front ≡ take m journal = take-take m k journal (omega arith) in
       let own : is_own e.session accepts (get_or journal m d) ≡ true = ap (is_own e.session accepts) (sym at) ∙ v.own in
-      let both = and_true (eqb (get_or journal m d).session e.session) (accepts (get_or journal m d)) own in
+      let both = and_parts (eqb (get_or journal m d).session e.session) (accepts (get_or journal m d)) own in
       let session : (get_or journal m d).session ≡ e.session = eqb-true (get_or journal m d).session e.session both.0 in
       let a = accepted_reply setup (take m journal) (get_or journal m d) (legal m d (omega arith)) both.1 in
       let challenged : challenged_user (take m journal) e.session ≡ Some a.0 = ap (challenged_user (take m journal)) (sym session) ∙ a.1 in
       let user : verified_user front e.session ≡ Some a.0 = v.user ∙ ap (λ j. challenged_user j e.session) prefix ∙ challenged in
       let number = found_position (λ x. same_name x.name a.0) setup.accounts a.2.account a.2.found in
       let value : value_of e.decision ≡ number.0 = x.1 ∙ ap (number_named setup) user ∙ ap (λ o. unwrap_or o 0) number.1 in
-      let next = and_true (hash_of a.2.account.algo (value_of (get_or journal m d).decision) == current_password (take m journal) a.2.account) (not (was_accepted (take m journal) a.2.account (value_of (get_or journal m d).decision))) a.2.next in
+      let next = and_parts (hash_of a.2.account.algo (value_of (get_or journal m d).decision) == current_password (take m journal) a.2.account) (not (was_accepted (take m journal) a.2.account (value_of (get_or journal m d).decision))) a.2.next in
       record {
         place = m;
         reply = get_or journal m d;

@@ -1,4 +1,3 @@
-pub mod Permits
 pub mod Replies
 pub mod Sequences
 pub mod Exports

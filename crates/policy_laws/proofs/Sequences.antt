@@ -3,7 +3,7 @@ use Rattle.std.proofs.Common.{◌≡◌, ℕ, zero, suc, ◌+◌, ◌-◌, ◌�
 use Rattle.std.specs.Prelude.{nat_lt, slice_get}
 use Rattle.std.specs.List.{last_or}
 use Rattle.std.specs.Option.{option_to_list}
-use Rattle.std.proofs.lemmas.Bool.{cases_lt, eqb-true, false≢true}
+use Rattle.std.proofs.lemmas.Bool.{and_parts, cases_lt, eqb-true, false≢true, or_parts}
 use Rattle.std.proofs.lemmas.Bool.Decides.{nat_tests}
 use Rattle.std.proofs.lemmas.Option.{get_or_from_slice_get, slice_get_within}
 use Rattle.std.proofs.lemmas.List.{get_or-take, length-take-le, take-take, take_all, take_more}
@@ -25,8 +25,8 @@ use Rattle.policy_model.specs.Settings.{Settings}
 use Rattle.policy_model.specs.Verdict.{is_holder}
 use Rattle.policy_model.proofs.LoginLemmas.{count_replies-push, last_taking_of-last, last_taking_of-none, last_taking_of-push, replies_of-none, was_given_up-push}
 use Rattle.policy_model.proofs.Lists.{stands_at}
-use Rattle.policy_laws.proofs.Permits.{and_true, live_challenge, taken_challenge}
-use Rattle.policy_laws.proofs.Replies.{by_events, found_name, neither, new_reply, same_some, some_event}
+use Rattle.session_laws.proofs.ByEvents.{by_events, some_event}
+use Rattle.session_laws.proofs.Permits.{found_name, live_challenge, new_reply, same_some, taken_challenge}
 
 -- the holder of a user took it last, and didn't give it up
 pub record Holds (journal : List Event) (session : ℕ) (user : Name) : Type 0 where
@@ -54,13 +54,13 @@ eqb_same n = grind (arith, nat_tests)
 
 -- a REPLY gives its session's user up
 reply_gives_up : (e : Event) → accepts e ≡ true → gives_up e ≡ true
-reply_gives_up e h = ap (λ b. b || is_abandon e.ask && is_permit e.decision) (and_true (is_reply e.ask) (is_permit e.decision) h).0
+reply_gives_up e h = ap (λ b. b || is_abandon e.ask && is_permit e.decision) (and_parts (is_reply e.ask) (is_permit e.decision) h).0
 
 reply_accepts : (journal : List Event) (e : Event) (user : Name) (password : ℕ) → reply_for user (record { before = journal; event = e }) ≡ Some password → accepts e ≡ true
 reply_accepts journal e user password h = go (accepts e && is_user user (challenged_user journal e.session)) refl h where
   go : (b : Bool) → (accepts e && is_user user (challenged_user journal e.session)) ≡ b → cond b (Some (value_of e.decision)) None ≡ Some password → accepts e ≡ true
   go false is held = absurd cc
-  go true is held = (and_true (accepts e) _ is).0
+  go true is held = (and_parts (accepts e) _ is).0
 
 -- a user that is taken and not given up has a password left, and never more were accepted than there were
 pub record HasLeft (setup : Settings) (journal : List Event) (user : Name) (account : Account) : Type 0 where
@@ -72,7 +72,7 @@ no_taking user (asks.Reply words hex) h = refl
 no_taking user _ h = absurd cc
 
 reply_takes_none : (e : Event) (user : Name) → accepts e ≡ true → reserves user e ≡ false
-reply_takes_none e user h = ap (λ b. (b && is_permit e.decision) && nat_lt (value_of e.decision) decoys_from) (no_taking user e.ask (and_true (is_reply e.ask) (is_permit e.decision) h).0)
+reply_takes_none e user h = ap (λ b. (b && is_permit e.decision) && nat_lt (value_of e.decision) decoys_from) (no_taking user e.ask (and_parts (is_reply e.ask) (is_permit e.decision) h).0)
 
 not_zero : (a b : ℕ) → eqb (a - b) 0 ≡ false → b < a
 not_zero a b h = grind (arith, nat_tests)
@@ -124,7 +124,7 @@ sequences {table} setup journal legal = by_events setup Left none more journal l
           left = λ taking last kept.
               let last' : last_taking_of j user ≡ Some taking = sym (ap (λ b. cond b (Some e) (last_taking_of j user)) other) ∙ sym (last_taking_of-push user j e) ∙ last in
               let given : (was_given_up j user || is_own (session_taking (last_taking_of j user)) gives_up e) ≡ false = sym (ap (λ b. not b && (was_given_up j user || is_own (session_taking (last_taking_of j user)) gives_up e)) other) ∙ sym (was_given_up-push user j e) ∙ kept in
-              let left = old.left taking last' (neither (was_given_up j user) _ given).0 in
+              let left = old.left taking last' (or_parts (was_given_up j user) _ given).0 in
               omega (arith, all, left);
           few = omega (arith, all, few);
         }
@@ -262,7 +262,7 @@ still_reserves {table} setup journal legal user p m k d pm mk kn reserved left i
     let below : value_of (get_or journal m d).decision < decoys_from = omega (arith, value, number, a.1, first, before) in
     ap (λ b. b && nat_lt (value_of (get_or journal m d).decision) decoys_from) is ∙ below_from (value_of (get_or journal m d).decision) below where
       below_decoys : (e : Event) (user : Name) → reserves user e ≡ true → value_of e.decision < decoys_from
-      below_decoys e user h = let b = (and_true (takes_user user e) (nat_lt (value_of e.decision) decoys_from) h).1 in grind (arith, nat_tests, b)
+      below_decoys e user h = let b = (and_parts (takes_user user e) (nat_lt (value_of e.decision) decoys_from) h).1 in grind (arith, nat_tests, b)
 
 -- a place of a journal, with the events before it
 abbrev place_at : List Event → ℕ → Event → Place
@@ -283,7 +283,7 @@ alone_at {table} setup journal legal user i m k d im mk kn reply last = go user 
       λ q within same passes.
       let at : get_or front q d ≡ get_or journal q d = get_or-take k journal q d within in
       let session : (get_or journal q d).session ≡ e.session = ap (λ x. x.session) (sym at) ∙ ap (λ x. x.session) (sym same) ∙ held.own in
-      ap (λ n. eqb n e.session && takes_user user (get_or journal q d)) session ∙ rw (eqb_same e.session) (ap (takes_user user) (sym at) ∙ (and_true (takes_user user (get_or front q d)) _ passes).0) in
+      ap (λ n. eqb n e.session && takes_user user (get_or journal q d)) session ∙ rw (eqb_same e.session) (ap (takes_user user) (sym at) ∙ (and_parts (takes_user user (get_or front q d)) _ passes).0) in
       let first = last_place (reserves user) front d held.taking (sym (last_taking_of-last user front) ∙ held.last) in
       let p = first.place in
       let pk : p < k = omega (arith, size, first.within) in

@@ -2,7 +2,7 @@
 use Rattle.std.proofs.Common.{◌≡◌, ◌≢◌, ℕ, ◌+◌, Bool, true, false, not, ◌&&◌, ◌||◌, ◌==◌, cond, eqb, nat_le, List, [], ◌∷◌, ◌++◌, length, get_or, take, Option, Some, None, refl, sym, ap, subst, ◌∙◌, arith}
 use Rattle.std.specs.List.{find, list_any}
 use Rattle.std.proofs.lemmas.Option.{get_or_from_slice_get, slice_get_within}
-use Rattle.std.proofs.lemmas.Bool.{eqb-true, false≢true, ne_eqb}
+use Rattle.std.proofs.lemmas.Bool.{and_parts, eqb-true, false≢true, ne_eqb, or_parts}
 use Rattle.std.proofs.lemmas.Bool.Decides.{nat_tests}
 use Rattle.request_catalogue.specs.declared.kind.Kind.TheVariants as kinds
 use Rattle.request_catalogue.specs.declared.texts.Name.{Name}
@@ -26,12 +26,12 @@ use Rattle.policy_model.specs.Verdict.{decoy_verdict, handle_verdict, is_holder,
 use Rattle.policy_laws.proofs.Apart.{has_event-push, is_ending, not_ended}
 use Rattle.policy_laws.proofs.Exports.{export_phase, verified_accepts}
 use Rattle.policy_model.proofs.Lists.{list_any-filter}
-use Rattle.policy_laws.proofs.Permits.{and_true, permitted_export, request_permit}
-use Rattle.policy_laws.proofs.Replies.{by_events, neither}
 use Rattle.policy_model.proofs.Runs.{next_decision, next_session, no_begin}
 use Rattle.policy_laws.proofs.Sequences.{IsLegal-take}
 use Rattle.policy_laws.proofs.Told.{count_told, had_banner, has_ended, was_challenged}
 use Rattle.policy_model.proofs.Verdicts.{session_of-begin, session_of-other, verdict_of-request}
+use Rattle.session_laws.proofs.ByEvents.{by_events}
+use Rattle.session_laws.proofs.Permits.{permitted_export, request_permit}
 
 -- a REPLY that is denied is shown as refused by rule 16
 abbrev Refuses : Decision → Type 0
@@ -132,14 +132,14 @@ uses setup journal legal = by_events setup (λ j. (session : ℕ) → Uses j ses
   } where
     exported : is_own session exports e ≡ true → has_event j session accepts ≡ true
     exported h =
-        let both = and_true (eqb e.session session) (exports e) h in
+        let both = and_parts (eqb e.session session) (exports e) h in
         ap (λ s. has_event j s accepts) (sym (eqb-true e.session session both.0))
         ∙ verified_accepts j e.session (export_phase (phase_of j e.session) (permitted_export setup j e next both.1).0)
 
     opened : is_own session opens_file e ≡ true → has_event j session exports ≡ true
     opened h =
-        let both = and_true (eqb e.session session) (opens_file e) h in
-        let is = and_true (is_open e.ask) (is_permit e.decision) both.1 in
+        let both = and_parts (eqb e.session session) (opens_file e) h in
+        let is = and_parts (is_open e.ask) (is_permit e.decision) both.1 in
         ap (λ s. has_event j s exports) (sym (eqb-true e.session session both.0))
         ∙ user_exports j e.session (open_phase (phase_of j e.session) (open_judged setup j e.session e.ask (value_of e.decision) is.0 (request_permit setup j e next (request_open e.ask is.0) is.1)))
 
@@ -150,7 +150,7 @@ not_then false b h fails = refl
 none_live : (events : List Event) → list_any opens_file events ≡ false → live_opens events ≡ []
 none_live [] h = refl
 none_live (e ∷ es) h =
-    let both = neither (opens_file e) (list_any opens_file es) h in
+    let both = or_parts (opens_file e) (list_any opens_file es) h in
     rw both.0 (none_live es both.1)
 
 no_opening : (journal : List Event) (session handle : ℕ) → has_event journal session opens_file ≡ false → handle_opening journal session handle ≡ None
@@ -260,7 +260,7 @@ own_number journal e n h =
     ap (λ b. b && opens e) other
 
 opens_begin : (e : Event) → opens e ≡ true → (is_begin e.ask ≡ true) × (is_permit e.decision ≡ true)
-opens_begin e h = and_true (is_begin e.ask) (is_permit e.decision) h
+opens_begin e h = and_parts (is_begin e.ask) (is_permit e.decision) h
 
 permit_kept : (d : Decision) → is_permit d ≡ true → is_lost d ≡ false
 permit_kept (Permit v) h = refl

@@ -1,7 +1,7 @@
 -- What a session was told stands for its events, as far as a stranger's verdict looks.
 use Rattle.std.proofs.Common.{◌≡◌, ℕ, ◌+◌, Bool, true, false, not, ◌&&◌, ◌||◌, cond, eqb, nat_le, List, [], ◌∷◌, ◌++◌, filter, length, map, Option, Some, None, option_map, ◌⊎◌, inl, inr, refl, sym, ap, ◌∙◌, arith}
 use Rattle.std.specs.List.{last_or, list_any}
-use Rattle.std.proofs.lemmas.Bool.{cases_eq, false≢true}
+use Rattle.std.proofs.lemmas.Bool.{cases_eq, false≢true, or_parts}
 use Rattle.std.proofs.lemmas.Bool.Decides.{nat_tests}
 use Rattle.std.proofs.lemmas.List.{length-append, length-map}
 use Rattle.request_catalogue.specs.declared.kind.Kind.TheVariants as kinds
@@ -19,10 +19,10 @@ use Rattle.policy_laws.specs.Strangers.{asks_in, bare, is_between, is_challenged
 use Rattle.policy_model.specs.Verdict.{verdict_by}
 use Rattle.policy_laws.proofs.Apart.{has_event-push, is_ending}
 use Rattle.policy_model.proofs.Lists.{filter-push}
-use Rattle.policy_laws.proofs.Replies.{by_events, neither}
 use Rattle.policy_model.proofs.Runs.{next_decision}
 use Rattle.policy_model.proofs.Sessions.{ask_count-push}
 use Rattle.policy_model.proofs.Verdicts.{denied_begin, verdict_of-begin}
+use Rattle.session_laws.proofs.ByEvents.{by_events}
 
 -- a decision that is shown permits and ends as the decision itself
 bare_permit : (d : Decision) → is_permit (bare (shown_of d)) ≡ is_permit d
@@ -164,20 +164,20 @@ was_challenged journal session = challenged_from session None journal
 -- whether the session has ended, where it has no end and no lost event
 pub has_ended : (session : ℕ) (journal : List Event) → has_event journal session is_ending ≡ false → has_lost journal ≡ false → list_any told_end (told_in journal session) ≡ has_event journal session ends_session
 has_ended session [] ending lost = refl
-has_ended session (e ∷ es) ending lost = go (has_ended session es (neither (is_own session is_ending e) (has_event es session is_ending) ending).1 (neither (is_lost e.decision) (has_lost es) lost).1) (eqb e.session session) refl (is_between e) refl where
+has_ended session (e ∷ es) ending lost = go (has_ended session es (or_parts (is_own session is_ending e) (has_event es session is_ending) ending).1 (or_parts (is_lost e.decision) (has_lost es) lost).1) (eqb e.session session) refl (is_between e) refl where
   rest : List Event
   rest = asks_in es session
 
   kept : (is_lost e.decision ≡ false) × (has_lost es ≡ false)
-  kept = neither (is_lost e.decision) (has_lost es) lost
+  kept = or_parts (is_lost e.decision) (has_lost es) lost
 
   go : list_any told_end (map told_of rest) ≡ has_event es session ends_session → (own : Bool) → eqb e.session session ≡ own → (between : Bool) → is_between e ≡ between → list_any told_end (map told_of (cond (own && between) (e ∷ rest) rest)) ≡ (own && ends_session e || has_event es session ends_session)
   go more false o between is = more
   go more true o true is =
-      let end : is_end e.ask ≡ false = sym (ap (λ b. b && is_end e.ask) o) ∙ (neither (is_own session is_ending e) (has_event es session is_ending) ending).0 in
+      let end : is_end e.ask ≡ false = sym (ap (λ b. b && is_end e.ask) o) ∙ (or_parts (is_own session is_ending e) (has_event es session is_ending) ending).0 in
       ap (λ b. b || list_any told_end (map told_of rest)) (told_ends e end kept.0) ∙ ap (λ b. ends_session e || b) more
   go more true o false is =
-      let end : is_end e.ask ≡ false = sym (ap (λ b. b && is_end e.ask) o) ∙ (neither (is_own session is_ending e) (has_event es session is_ending) ending).0 in
+      let end : is_end e.ask ≡ false = sym (ap (λ b. b && is_end e.ask) o) ∙ (or_parts (is_own session is_ending e) (has_event es session is_ending) ending).0 in
       more ∙ ap (λ b. b || has_event es session ends_session) (sym (outside_ends e is end))
 
 abbrev one_if : Bool → ℕ
@@ -216,13 +216,13 @@ pub count_told : (setup : Settings) (journal : List Event) → IsLegal setup jou
 count_told setup journal legal = by_events setup (λ j. (session : ℕ) → has_event j session ends_session ≡ false → length (told_in j session) ≡ ask_count j session) (λ session going. refl) more journal legal where
   more : (j : List Event) (e : Event) → IsNext setup j e → ((session : ℕ) → has_event j session ends_session ≡ false → length (told_in j session) ≡ ask_count j session) → (session : ℕ) → has_event (j ++ e ∷ []) session ends_session ≡ false → length (told_in (j ++ e ∷ []) session) ≡ ask_count (j ++ e ∷ []) session
   more j e next before session going =
-      let both = neither (has_event j session ends_session) (is_own session ends_session e) (sym (has_event-push j session ends_session e) ∙ going) in
+      let both = or_parts (has_event j session ends_session) (is_own session ends_session e) (sym (has_event-push j session ends_session e) ∙ going) in
       let old = before session both.0 in
       asks_in-push j session e ∙ ap (λ n. n + cond (is_own session is_between e) 1 0) old ∙ ap (λ n. ask_count j session + n) (go (eqb e.session session) both.1) ∙ sym (ask_count-push j e session) where
         go : (own : Bool) → (own && ends_session e) ≡ false → one_if (own && is_between e) ≡ one_if (own && came_by_frame e.ask)
         go false h = refl
         go true h =
-            let a = neither (is_end e.ask || is_finish e.ask && is_permit e.decision || is_violation e.decision) (is_lost e.decision) h in
-            let b = neither (is_end e.ask || is_finish e.ask && is_permit e.decision) (is_violation e.decision) a.0 in
-            let c = neither (is_end e.ask) (is_finish e.ask && is_permit e.decision) b.0 in
+            let a = or_parts (is_end e.ask || is_finish e.ask && is_permit e.decision || is_violation e.decision) (is_lost e.decision) h in
+            let b = or_parts (is_end e.ask || is_finish e.ask && is_permit e.decision) (is_violation e.decision) a.0 in
+            let c = or_parts (is_end e.ask) (is_finish e.ask && is_permit e.decision) b.0 in
             count_by_ask e.ask e.decision b.1 a.1 c.0 (begin_decided setup j e next a.1 e.ask refl)
