@@ -28,7 +28,7 @@ use Rattle.session_laws.proofs.Permitted.{accepted_in_challenged, accepted_no_de
 use Rattle.session_table.specs.declared.handles.LiveHandle.{LiveHandle}
 use Rattle.session_table.specs.declared.rows.SessionRow.{SessionRow}
 use Rattle.session_table.specs.Files.{FitsFiles, IsNewHandle, is_free}
-use Rattle.session_table.specs.Standing.{FitsRow, NamesFit, RowStands, file_by, grants_at, has_account, number_by}
+use Rattle.session_table.specs.Standing.{FitsRow, NamesFit, RowStands, file_by, grants_at, has_taken, number_by}
 use Rattle.session_table.proofs.FileLemmas.{and_parts}
 use Rattle.session_table.specs.Tables.{FitsCounts, FitsWorker, TableParts, TableStands, WorkerStands, row_at}
 
@@ -64,7 +64,7 @@ fits_row setup row journal e number grant r next closed names = record {
   opening = λ h. (r.phase ∙ opened_in_user setup journal e next h, names.opening h);
 } where
   below : row.phase ≡ Challenged → was_decoyed journal e.session ≡ false → row.account < length setup.accounts
-  below phase real = go (challenged_user journal e.session) (sym (ap (λ b. cond b (Some (length setup.accounts)) (number_by setup (challenged_user journal e.session))) real) ∙ r.account (ap has_account phase)) where
+  below phase real = go (challenged_user journal e.session) (sym (ap (λ b. cond b (Some (length setup.accounts)) (number_by setup (challenged_user journal e.session))) real) ∙ r.account (ap has_taken phase)) where
     go : (o : Option Name) → number_by setup o ≡ Some row.account → row.account < length setup.accounts
     go None h = absurd cc
     go (Some user) h = (numbered_by_number setup user row.account h).1.below

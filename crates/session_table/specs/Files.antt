@@ -1,4 +1,4 @@
--- The files that a session has open, as a list.
+-- Inner: the files that a session has open, as a list.
 use Rattle.std.specs.Prelude.{ℕ, ◌≡◌, ◌++◌, ◌≤◌, ◌==◌, ◌||◌, Bool, true, List, [], ◌∷◌, filter, length, not, Option, Some, None, is_none, nat_le, unwrap_or, if◌then◌else◌}
 use Rattle.std.specs.List.{find}
 use Rattle.request_catalogue.specs.declared.texts.Label.{Label}
