@@ -108,6 +108,6 @@ pub record NamesFit (setup : Settings) (row : SessionRow) (e : Event) (number gr
 pub record StandsNew (session : ℕ) (row : SessionRow) : Type 0 where
   pub by_journal : (setup : Settings) (journal : List Event) (e : Event) → AreNumbered journal (openings_of journal) → opens e ≡ true → e.session ≡ session → session ≡ openings_of journal + 1 → RowStands setup row (journal ++ e ∷ []) session
 
--- what a row becomes stands for a journal and one event more, of the session or of another
+-- what a row becomes stands for a journal and one event more of the session
 pub record StandsAfter (old : SessionRow) (e : Event) (number grant : ℕ) (new : SessionRow) : Type 0 where
   pub by_journal : (setup : Settings) (journal : List Event) → RowStands setup old journal e.session → FitsRow setup old e number grant → RowStands setup new (journal ++ e ∷ []) e.session
