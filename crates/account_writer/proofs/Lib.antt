@@ -1,0 +1,6 @@
+pub mod AccountReads
+pub mod KeyReads
+pub mod ListLemmas
+pub mod PutLemmas
+pub mod CurrentLemmas
+pub mod SetupReads
