@@ -1,5 +1,5 @@
 -- The tables of grants and accounts are read as these.
-use Rattle.std.proofs.Common.{◌≡◌, ℕ, ◌+◌, ◌<◌, ◌^◌, Bool, true, false, ◌&&◌, List, [], ◌∷◌, ◌++◌, map, length, nat_le, refl, sym, ap, ◌∙◌, subst, arith, append_assoc, Option, Some, None, Result, Ok, codes, ◌==◌}
+use Rattle.std.proofs.Common.{◌≡◌, ℕ, ◌+◌, ◌<◌, ◌^◌, Bool, true, false, ◌&&◌, List, [], ◌∷◌, ◌++◌, map, length, nat_le, le-leb, refl, sym, ap, ◌∙◌, subst, arith, append_assoc, Option, Some, None, Result, Ok, codes, ◌==◌}
 use Rattle.std.specs.Prelude.{nat_lt}
 use Rattle.std.specs.List.{cons_option, list_all, list_any}
 use Rattle.std.specs.Str.{bytes_eq}
@@ -110,7 +110,7 @@ keys_by n names uids ms name uid algo seed sequence password enabled grants name
 writable_parts : (a : Account) → is_writable a ≡ true → (is_number 0 9999 a.sequence ≡ true) × (a.password < 2 ^ 64)
 writable_parts a is =
     let parts = and_parts (nat_le a.sequence 9999) (nat_lt a.password 18446744073709551616) is in
-    (parts.0, grind (arith, nat_tests, parts.1))
+    (and_from _ _ (le-leb 0 a.sequence (omega arith)) parts.0, grind (arith, nat_tests, parts.1))
 
 account_read : (n : ℕ) (names : List (List ℕ)) (uids : List ℕ) (a : Account) → is_account a ≡ true → is_writable a ≡ true → list_any (λ other. bytes_eq other (name_bytes a.name)) names ≡ false → list_any (λ other. other == a.uid) uids ≡ false → account_of n names uids (account_data a) ≡ Ok (account_entry a)
 account_read n names uids a legal writable new_name new_uid =

@@ -12,12 +12,13 @@ use Rattle.policy_model.specs.declared.event.Event.{Event}
 use Rattle.toml.specs.Data.{Data}
 use Rattle.toml.specs.View.{view}
 use Rattle.toml.specs.declared.value.Value.{Value}
-use Rattle.otp_ledger.specs.Accounts.{AccountState, LedgerParts}
+use Rattle.otp_ledger.specs.Accounts.{AccountState, LedgerParts, current_of, no_state}
+use Rattle.otp_ledger.specs.declared.ledger.Current.{Current}
 use Rattle.otp_ledger.specs.Standing.{state_by}
 use Rattle.account_file.specs.Entries.{entries_of}
 use Rattle.account_file.specs.Setups.{setup_of}
 use Rattle.account_writer.specs.CurrentSetup.{IsSetupAfter, account_after, current_account, current_accounts, current_setup}
-use Rattle.account_writer.specs.Tables.{account_data, is_writable}
+use Rattle.account_writer.specs.Tables.{account_data, is_writable, with_current}
 use Rattle.account_writer.proofs.ListLemmas.{distinct-map}
 
 -- 1. The accounts
@@ -87,17 +88,26 @@ range_current s states range same writable = record {
 
 -- 3. One account more
 
-pub values_more : (all : List Account) (values : List Value) (i : ℕ) (a d : Account) (v : Value) → i < length all → map view values ≡ map account_data (take i all) → get_or all i d ≡ a → view v ≡ account_data a → map view (values ++ v ∷ []) ≡ map account_data (take (i + 1) all)
-values_more all values i a d v lt so_far here seen =
+pub values_more : {A : Type 0} (f : A → Data) (all : List A) (values : List Value) (i : ℕ) (a d : A) (v : Value) → i < length all → map view values ≡ map f (take i all) → get_or all i d ≡ a → view v ≡ f a → map view (values ++ v ∷ []) ≡ map f (take (i + 1) all)
+values_more f all values i a d v lt so_far here seen =
     map-append view values (v ∷ [])
     ∙ ap (λ (ds : List Data). ds ++ view v ∷ []) so_far
-    ∙ ap (λ (x : Data). map account_data (take i all) ++ x ∷ []) (seen ∙ ap account_data (sym here))
-    ∙ sym (map-append account_data (take i all) (get_or all i d ∷ []))
-    ∙ ap (map account_data) (sym (take_more all i d lt))
+    ∙ ap (λ (x : Data). map f (take i all) ++ x ∷ []) (seen ∙ ap f (sym here))
+    ∙ sym (map-append f (take i all) (get_or all i d ∷ []))
+    ∙ ap (map f) (sym (take_more all i d lt))
 
 pub writable_more : (all : List Account) (i : ℕ) (a d : Account) → i < length all → list_all is_writable (take i all) ≡ true → get_or all i d ≡ a → is_writable a ≡ true → list_all is_writable (take (i + 1) all) ≡ true
 writable_more all i a d lt so_far here is =
     ap (list_all is_writable) (take_more all i d lt) ∙ list_all_more is_writable (take i all) (get_or all i d) so_far (ap is_writable here ∙ is)
+
+-- the account of a number, with what its chain has come to
+pub current_here : (accounts : List Account) (states : List AccountState) (i : ℕ) (account : Account) (current : Current) → i < length accounts → i < length states → account ≡ get_or accounts i account → current.sequence ≡ (get_or states i no_state).sequence → current.password ≡ current_of (get_or states i no_state) → get_or (current_accounts accounts states) i account ≡ with_current account current
+current_here accounts states i account current lt few at sequence password =
+    let state : AccountState = get_or states i no_state in
+    current_at accounts states i account account no_state lt few
+    ∙ ap (λ (a : Account). current_account a state) (sym at)
+    ∙ ap (λ (n : ℕ). record account { sequence = n; password = current_of state }) (sym sequence)
+    ∙ ap (λ (n : ℕ). record account { sequence = current.sequence; password = n }) (sym password)
 
 -- 4. The setup after a journal
 

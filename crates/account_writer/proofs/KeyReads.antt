@@ -64,7 +64,7 @@ seed_bytes_pass (c ∷ cs) legal =
 
 -- a seed is a seed's text, in lower case
 seed_text : (bytes : List ℕ) → is_seed bytes ≡ true → (is_seed_text bytes ≡ true) × (map to_ascii_lowercase bytes ≡ bytes)
-unfolding is_seed, is_seed_text
+unfolding is_seed is_seed_text
 seed_text bytes legal =
     let parts = and_parts (nat_le 1 (length bytes) && nat_le (length bytes) 16) (list_all is_seed_byte bytes) legal in
     let all = seed_bytes_pass bytes parts.1 in

@@ -127,3 +127,95 @@ fn the_last_password_is_read_back(rt: HostRuntime) -> Result<(), Fail> {
     );
     Ok(())
 }
+
+/// Lines that the file has after the takeover: the keys that were left out, the seed in lower case,
+/// the new password.
+const LINES: &str = "banner = \"\"
+frames = \"narrow\"
+info = []
+salt = \"decoy\"
+seed = \"test\"
+sequence = 0
+password = \"9e876134d90499dd\"
+enabled = true
+grants = []";
+
+/// Whether a text has a line.
+fn has_line(text: &str, line: &str) -> bool {
+    for other in text.lines() {
+        if other == line {
+            return true;
+        }
+    }
+    false
+}
+
+#[test]
+fn all_keys_are_written(rt: HostRuntime) -> Result<(), Fail> {
+    let bytes = written(rt.alloc(), FILE)?;
+    let text = std::str::from_utf8(bytes.as_slice()).map_err(|_| "a text")?;
+    for line in LINES.lines() {
+        assert!(rt; has_line(text, line), "{line}");
+    }
+    Ok(())
+}
+
+/// 64 grants with names of 64 bytes.
+fn greatest_grants(alloc: Global) -> Result<String, AllocError> {
+    let mut text = String::new(alloc);
+    for number in 0..64u32 {
+        let grant = format!(in alloc; "{{ name = \"f{number:063}\", mode = 3 }}, ")?;
+        text.push_str(grant.as_str())?;
+    }
+    Ok(text)
+}
+
+/// A setup file of 1,024 accounts with names of 32 bytes and those grants.
+fn greatest_file(alloc: Global) -> Result<String, AllocError> {
+    let grants = greatest_grants(alloc)?;
+    let (top, _) = FILE.split_once("[[account]]").unwrap_or((FILE, ""));
+    let mut text = String::from_str(alloc, top)?;
+    for number in 0..1_024u32 {
+        let uid = 4_294_966_000 + number;
+        let account =
+            format!(in alloc; "[[account]]\nname = \"a{number:031}\"\nuid = {uid}\n{ACCOUNT}")?;
+        text.push_str(account.as_str())?;
+        text.push_str(grants.as_str())?;
+        text.push_str("]\n")?;
+    }
+    Ok(text)
+}
+
+/// What stands in each of these accounts besides its name, user number and grants.
+const ACCOUNT: &str = "algorithm = \"sha1\"
+seed = \"abcdefghijklmnop\"
+sequence = 9999
+password = \"63d936639734385b\"
+enabled = false
+grants = [";
+
+/// The file of a text, as nothing has happened.
+fn rewritten(alloc: Global, text: &str) -> Result<Vec<u8>, Fail> {
+    let setup = setup_of(alloc, text.as_bytes())?;
+    let ledger = Ledger::new(alloc, &setup, 0)?;
+    Ok(write_accounts(alloc, &setup, &ledger)?)
+}
+
+/// How many accounts a file has, and how many grants the last of them.
+fn counted(alloc: Global, bytes: &[u8]) -> Result<(usize, usize), Fail> {
+    let setup = setup_of(alloc, bytes)?;
+    let accounts = setup.parts().accounts.as_slice();
+    let last = accounts.last().ok_or("an account")?;
+    Ok((accounts.len(), last.grants.as_slice().len()))
+}
+
+/// The greatest setup is within what a reader of setup files takes.
+#[test]
+fn the_greatest_file(rt: HostRuntime) -> Result<(), Fail> {
+    let alloc = rt.alloc();
+    let text = greatest_file(alloc)?;
+    let bytes = rewritten(alloc, text.as_str())?;
+    assert!(rt; bytes.as_slice().len() <= 8_388_608);
+    assert!(rt; counted(alloc, bytes.as_slice())? == (1_024, 64));
+    Ok(())
+}

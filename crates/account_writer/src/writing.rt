@@ -1,7 +1,8 @@
 //! The setup file that is written.
 
-ghost use Rattle.std.specs.Prelude.{◌≡◌, IfOk, Ok, map, true};
+ghost use Rattle.std.specs.Prelude.{◌≡◌, IfOk, Ok, length, map, true};
 ghost use Rattle.std.specs.List.{list_all};
+ghost use Rattle.policy_model.specs.Settings.{IsInRange};
 ghost use Rattle.account_file.specs.Entries.{entries_of};
 ghost use Rattle.account_file.specs.Setups.{setup_of};
 ghost use Rattle.toml.specs.View.{table_view, view};
@@ -31,7 +32,7 @@ pub fn write_accounts(
     ensures current { IfOk result (λ bytes. setup_of bytes.items ≡ Ok (entries_of (current_setup setup.now ledger.now.accounts))) }
     ensures after { IfOk result (λ bytes. IsSetupAfter setup.now ledger.now bytes.items) }
 {
-    let accounts = account_values(alloc, setup, ledger)?;
+    let accounts = account_values(alloc, ledger)?;
     let table = setup_table(alloc, setup, accounts)?;
     match toml::table_to_string(alloc, &table) {
         Ok(text) => Ok(text.into_bytes()),
@@ -40,16 +41,12 @@ pub fn write_accounts(
 }
 
 /// The tables of the accounts, with what the ledger knows of each.
-fn account_values(
-    alloc: Global,
-    setup: &Setup,
-    ledger: &Ledger,
-) -> Result<Vec<Value>, AllocError>
-    requires { ledger.now.setup ≡ setup.now }
-    ensures values { IfOk result (λ values. map view values.items ≡ map account_data (current_accounts setup.now.accounts ledger.now.accounts)) }
-    ensures writable { IfOk result (λ values. list_all is_writable (current_accounts setup.now.accounts ledger.now.accounts) ≡ true) }
+fn account_values(alloc: Global, ledger: &Ledger) -> Result<Vec<Value>, AllocError>
+    ensures values { IfOk result (λ values. map view values.items ≡ map account_data (current_accounts ledger.now.setup.accounts ledger.now.accounts)) }
+    ensures writable { IfOk result (λ _. list_all is_writable (current_accounts ledger.now.setup.accounts ledger.now.accounts) ≡ true) }
+    ensures each { length ledger.now.setup.accounts ≡ length ledger.now.accounts }
 {
-    let accounts = setup.parts().accounts.as_slice();
+    let accounts = ledger.setup().parts().accounts.as_slice();
     let mut values = Vec::with_capacity(alloc, accounts.len())?;
     for (i, account) in accounts.iter().enumerate() {
         let table = account_table(alloc, account, ledger.current(i as u32))?;
@@ -60,7 +57,8 @@ fn account_values(
 
 /// The table of a setup, with the tables of its accounts.
 fn setup_table(alloc: Global, setup: &Setup, accounts: Vec<Value>) -> Result<Table, AllocError>
-    ensures { IfOk result (λ table. table_view table ≡ setup_members setup.now (map view accounts.items)) }
+    ensures table { IfOk result (λ table. table_view table ≡ setup_members setup.now (map view accounts.items)) }
+    ensures in_range { IsInRange setup.now }
 {
     let parts = setup.parts();
     let mut table = Table::new(alloc);
