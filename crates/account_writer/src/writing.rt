@@ -14,6 +14,7 @@ use crate::values::put;
 use otp_ledger::Ledger;
 use policy_model::Setup;
 use std::alloc::{AllocError, Global};
+use toml::ser::Error;
 use toml::{Table, Value};
 
 /// The bytes of a setup file that `account_file::read_setup` reads to the setup that the ledger was
@@ -36,7 +37,8 @@ pub fn write_accounts(
     let table = setup_table(alloc, setup, accounts)?;
     match toml::table_to_string(alloc, &table) {
         Ok(text) => Ok(text.into_bytes()),
-        Err(_) => Err(AllocError),
+        Err(Error::OutOfMemory) => Err(AllocError),
+        Err(Error::DateInvalid) => unreachable!(),
     }
 }
 

@@ -1,9 +1,11 @@
-use Rattle.std.proofs.Common.{◌≡◌, ◌∙◌, ◌≤◌, ℕ, List, true, Some, Ok, IsUtf8, length, map, refl, sym, ap, subst, string_bytes}
+use Rattle.std.proofs.Common.{◌≡◌, ◌∙◌, ◌≤◌, ℕ, List, true, Some, Ok, Err, IsUtf8, length, map, refl, sym, ap, subst, string_bytes}
 use Rattle.std.specs.List.{list_all}
+use Rattle.std.proofs.lemmas.Bool.{false≢true}
 use Rattle.std.proofs.lemmas.Str.{IsUtf8-string_bytes}
+use Rattle.toml.specs.declared.ser.error.Error.{Error}
 use Rattle.policy_model.specs.declared.account.Account.{Account}
 use Rattle.policy_model.specs.Settings.{IsInRange, Settings}
-use Rattle.toml.specs.Data.{Data, Members, members_depth}
+use Rattle.toml.specs.Data.{Data, Members, members_depth, members_have_valid_dates}
 use Rattle.toml.specs.Parse.{parse_document}
 use Rattle.toml.specs.View.{table_view, view}
 use Rattle.otp_ledger.specs.Accounts.{AccountState}
@@ -12,7 +14,7 @@ use Rattle.account_file.specs.Setups.{setup_of}
 use Rattle.account_writer.specs.CurrentSetup.{current_accounts, current_setup}
 use Rattle.account_writer.specs.Tables.{account_data, is_writable, setup_members}
 use Rattle.account_writer.proofs.CurrentLemmas.{is_setup_after, range_current}
-use Rattle.account_writer.proofs.SetupReads.{setup_flat, text_is_setup}
+use Rattle.account_writer.proofs.SetupReads.{setup_dated, setup_flat, text_is_setup}
 use Rattle.account_writer.proofs.writing.write_accounts.Goals as goal
 
 -- a printed text is the setup whose table it has
@@ -38,3 +40,10 @@ returns-in-Ok-clause-after c =
     (is_setup c.args.setup.now c.args.ledger.now.accounts c.args.ledger.now.setup.accounts (map view c.in_ok-accounts.accounts.items) (table_view c.in_ok-table.table) (string_bytes c.in-Ok.text) c.into_bytes.result.items
     (ap (λ (s : Settings). s.accounts) c.requires) c.setup_table.ensures.in_range c.account_values.ensures.each c.in_ok-table.ensures.table c.in_ok-accounts.ensures.values c.in_ok-accounts.ensures.writable c.in-Ok.ensures.reads_back
     (ap (λ v. v.items) c.into_bytes.ensures.value) (IsUtf8-string_bytes c.in-Ok.text))
+
+pub unreachable-requires : goal.unreachable-requires
+unreachable-requires c =
+    let accounts = current_accounts c.args.ledger.now.setup.accounts c.args.ledger.now.accounts in
+    let seen : table_view c.in_ok-table.table ≡ setup_members c.args.setup.now (map account_data accounts) = c.in_ok-table.ensures.table ∙ ap (setup_members c.args.setup.now) c.in_ok-accounts.ensures.values in
+    let dated : members_have_valid_dates (table_view c.in_ok-table.table) ≡ true = ap members_have_valid_dates seen ∙ setup_dated c.args.setup.now accounts in
+    false≢true (sym (c.in-Err-DateInvalid.ensures.dates.0 (ap (λ (e : Error). Err e) c.in-Err-DateInvalid.field-0-is)) ∙ dated)
