@@ -82,49 +82,44 @@ fn written(alloc: Global, text: &str) -> Result<Vec<u8>, Fail> {
     Ok(write_accounts(alloc, &setup, &ledger)?)
 }
 
-/// Whether an account is as a line says: its name, user number, sequence, password, whether it is
-/// enabled, and how many grants it has.
-fn is_so(account: &Account, line: &str) -> Result<bool, Fail> {
-    let mut words = line.split_whitespace();
-    let name = words.next().ok_or("a name")?;
-    let uid = words.next().ok_or("a user number")?;
-    let sequence = words.next().ok_or("a sequence")?;
-    let password = words.next().ok_or("a password")?;
-    let enabled = words.next().ok_or("a truth value")?;
-    let grants = words.next().ok_or("a count")?;
-    Ok(account.name.as_slice() == name.as_bytes()
-        && account.uid == uid.parse::<u32>().map_err(|_| "a number")?
-        && account.sequence == sequence.parse::<u16>().map_err(|_| "a number")?
-        && account.password == u64::from_str_radix(password, 16).map_err(|_| "digits")?
-        && account.enabled == (enabled == "enabled")
-        && account.grants.as_slice().len() == grants.parse::<usize>().map_err(|_| "a number")?)
+/// A line for each account: its user number, sequence, password, whether it is enabled, and how many
+/// grants it has.
+fn lines_of(alloc: Global, accounts: &[Account]) -> Result<String, AllocError> {
+    let mut text = String::new(alloc);
+    for account in accounts {
+        let line = line_of(alloc, account)?;
+        text.push_str(line.as_str())?;
+    }
+    Ok(text)
 }
 
-/// Whether the accounts of a file are those of these lines.
-fn are_so(alloc: Global, bytes: &[u8], lines: &str) -> Result<bool, Fail> {
-    let setup = setup_of(alloc, bytes)?;
-    let mut accounts = setup.parts().accounts.as_slice().iter();
-    for line in lines.trim().lines() {
-        let account = accounts.next().ok_or("an account")?;
-        if !is_so(account, line)? {
-            return Ok(false);
-        }
-    }
-    Ok(accounts.next().is_none())
+fn line_of(alloc: Global, account: &Account) -> Result<String, AllocError> {
+    let (uid, sequence, password) = (account.uid, account.sequence, account.password);
+    let (enabled, grants) = (account.enabled, account.grants.as_slice().len());
+    format!(in alloc; "{uid} {sequence} {password:016x} {enabled} {grants}\n")
 }
+
+/// The accounts of a file.
+fn accounts_in(alloc: Global, bytes: &[u8]) -> Result<String, Fail> {
+    let setup = setup_of(alloc, bytes)?;
+    Ok(lines_of(alloc, setup.parts().accounts.as_slice())?)
+}
+
+/// Whether two texts are the same.
+fn same(text: &String, other: &str) -> bool {
+    text.as_str() == other
+}
+
+/// Alice has spent her last password, and Bob none.
+const ACCOUNTS: &str = "1000 0 9e876134d90499dd true 0
+1001 9 63d936639734385b false 2
+";
 
 #[test]
 fn the_last_password_is_read_back(rt: HostRuntime) -> Result<(), Fail> {
-    let alloc = rt.alloc();
-    let bytes = written(alloc, FILE)?;
-    assert!(rt;
-        are_so(
-            alloc,
-            bytes.as_slice(),
-            "alice 1000 0 9e876134d90499dd enabled 0
-             bob 1001 9 63d936639734385b disabled 2"
-        )?
-    );
+    let bytes = written(rt.alloc(), FILE)?;
+    let accounts = accounts_in(rt.alloc(), bytes.as_slice())?;
+    assert!(rt; same(&accounts, ACCOUNTS));
     Ok(())
 }
 
