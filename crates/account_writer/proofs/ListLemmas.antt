@@ -30,9 +30,9 @@ new_behind same (y ∷ ys) x rest apart =
     let none : (list_any (same y) ys || list_any (same y) (x ∷ rest)) ≡ false = sym (list_any-append (same y) ys (x ∷ rest)) ∙ not_so _ parts.0 in
     let here : same y x ≡ false = first_false _ _ (second_false _ _ none) in
     ap (λ (b : Bool). b || list_any (λ z. same z x) ys) here ∙ new_behind same ys x rest parts.1 where
-  second_false : (a b : Bool) → (a || b) ≡ false → b ≡ false
-  second_false true b e = absurd (false≢true (sym e))
-  second_false false b e = e
+      second_false : (a b : Bool) → (a || b) ≡ false → b ≡ false
+      second_false true b e = absurd (false≢true (sym e))
+      second_false false b e = e
 
 -- elements differ as what they are read as does
 pub distinct-map : {X Y : Type 0} (same : X → X → Bool) (f : Y → X) (ys : List Y) → are_distinct same (map f ys) ≡ are_distinct (λ a b. same (f a) (f b)) ys

@@ -47,10 +47,25 @@ pub(crate) fn account_table(
     let mut table = Table::new(alloc);
     put(alloc, &mut table, "name", name_value(alloc, &account.name)?)?;
     put(alloc, &mut table, "uid", Value::from(account.uid))?;
-    put(alloc, &mut table, "algorithm", algo_value(alloc, account.algo)?)?;
+    put(
+        alloc,
+        &mut table,
+        "algorithm",
+        algo_value(alloc, account.algo)?,
+    )?;
     put(alloc, &mut table, "seed", seed_value(alloc, &account.seed)?)?;
-    put(alloc, &mut table, "sequence", Value::from(u32::from(current.sequence)))?;
-    put(alloc, &mut table, "password", password_value(alloc, current.password)?)?;
+    put(
+        alloc,
+        &mut table,
+        "sequence",
+        Value::from(u32::from(current.sequence)),
+    )?;
+    put(
+        alloc,
+        &mut table,
+        "password",
+        password_value(alloc, current.password)?,
+    )?;
     put(alloc, &mut table, "enabled", Value::from(account.enabled))?;
     let grants = grant_values(alloc, account.grants.as_slice())?;
     put(alloc, &mut table, "grants", Value::from(grants))?;
@@ -65,11 +80,36 @@ pub(crate) fn put_texts(
 ) -> Result<(), AllocError>
     ensures { OnOk result (table_view table.new ≡ put_texts parts.now (table_view table.old)) }
 {
-    put(alloc, table, "socket", Value::string(alloc, parts.socket.as_str())?)?;
-    put(alloc, table, "launcher", Value::string(alloc, parts.launcher.as_str())?)?;
-    put(alloc, table, "vault", Value::string(alloc, parts.vault.as_str())?)?;
-    put(alloc, table, "words", Value::string(alloc, parts.words.as_str())?)?;
-    put(alloc, table, "banner", Value::string(alloc, parts.banner.as_str())?)?;
+    put(
+        alloc,
+        table,
+        "socket",
+        Value::string(alloc, parts.socket.as_str())?,
+    )?;
+    put(
+        alloc,
+        table,
+        "launcher",
+        Value::string(alloc, parts.launcher.as_str())?,
+    )?;
+    put(
+        alloc,
+        table,
+        "vault",
+        Value::string(alloc, parts.vault.as_str())?,
+    )?;
+    put(
+        alloc,
+        table,
+        "words",
+        Value::string(alloc, parts.words.as_str())?,
+    )?;
+    put(
+        alloc,
+        table,
+        "banner",
+        Value::string(alloc, parts.banner.as_str())?,
+    )?;
     put(alloc, table, "salt", seed_value(alloc, &parts.salt)?)?;
     put(alloc, table, "frames", width_value(alloc, parts.frames)?)
 }

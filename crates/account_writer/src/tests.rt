@@ -72,14 +72,19 @@ fn spends(ledger: &mut Ledger, session: u32) -> bool
     }
 }
 
-/// The file after the takeover.
-fn written(alloc: Global, text: &str) -> Result<Vec<u8>, Fail> {
-    let setup = setup_of(alloc, text.as_bytes())?;
-    let mut ledger = Ledger::new(alloc, &setup, 8)?;
+/// The file of a setup after the takeover.
+fn written_after(alloc: Global, setup: &Setup) -> Result<Vec<u8>, Fail> {
+    let mut ledger = Ledger::new(alloc, setup, 8)?;
     if ledger.len() == 0 || !takes_over(&mut ledger) {
         return Err(Fail::from("a takeover"));
     }
-    Ok(write_accounts(alloc, &setup, &ledger)?)
+    Ok(write_accounts(alloc, setup, &ledger)?)
+}
+
+/// The file of a text after the takeover.
+fn written(alloc: Global, text: &str) -> Result<Vec<u8>, Fail> {
+    let setup = setup_of(alloc, text.as_bytes())?;
+    written_after(alloc, &setup)
 }
 
 /// A line for each account: its user number, sequence, password, whether it is enabled, and how many
@@ -145,13 +150,23 @@ fn has_line(text: &str, line: &str) -> bool {
     false
 }
 
+/// Whether a text has all these lines.
+fn has_lines(bytes: &[u8], lines: &str) -> bool {
+    let Ok(text) = std::str::from_utf8(bytes) else {
+        return false;
+    };
+    for line in lines.lines() {
+        if !has_line(text, line) {
+            return false;
+        }
+    }
+    true
+}
+
 #[test]
 fn all_keys_are_written(rt: HostRuntime) -> Result<(), Fail> {
     let bytes = written(rt.alloc(), FILE)?;
-    let text = std::str::from_utf8(bytes.as_slice()).map_err(|_| "a text")?;
-    for line in LINES.lines() {
-        assert!(rt; has_line(text, line), "{line}");
-    }
+    assert!(rt; has_lines(bytes.as_slice(), LINES));
     Ok(())
 }
 
@@ -172,8 +187,9 @@ fn greatest_file(alloc: Global) -> Result<String, AllocError> {
     let mut text = String::from_str(alloc, top)?;
     for number in 0..1_024u32 {
         let uid = 4_294_966_000 + number;
-        let account =
-            format!(in alloc; "[[account]]\nname = \"a{number:031}\"\nuid = {uid}\n{ACCOUNT}")?;
+        let account = format!(in alloc;
+            "[[account]]\nname = \"a{number:031}\"\nuid = {uid}\n{ACCOUNT}"
+        )?;
         text.push_str(account.as_str())?;
         text.push_str(grants.as_str())?;
         text.push_str("]\n")?;
@@ -189,28 +205,43 @@ password = \"63d936639734385b\"
 enabled = false
 grants = [";
 
-/// The file of a text, as nothing has happened.
-fn rewritten(alloc: Global, text: &str) -> Result<Vec<u8>, Fail> {
-    let setup = setup_of(alloc, text.as_bytes())?;
-    let ledger = Ledger::new(alloc, &setup, 0)?;
-    Ok(write_accounts(alloc, &setup, &ledger)?)
+/// The file of a setup in which nothing has happened.
+fn rewritten_from(alloc: Global, setup: &Setup) -> Result<Vec<u8>, AllocError> {
+    let ledger = Ledger::new(alloc, setup, 0)?;
+    write_accounts(alloc, setup, &ledger)
 }
 
-/// How many accounts a file has, and how many grants the last of them.
-fn counted(alloc: Global, bytes: &[u8]) -> Result<(usize, usize), Fail> {
+/// The file of a text, in which nothing has happened.
+fn rewritten(alloc: Global, text: &str) -> Result<Vec<u8>, Fail> {
+    let setup = setup_of(alloc, text.as_bytes())?;
+    Ok(rewritten_from(alloc, &setup)?)
+}
+
+/// Whether there are 1,024 accounts, of which the last has 64 grants.
+fn are_greatest(accounts: &[Account]) -> bool {
+    match accounts.last() {
+        None => false,
+        Some(last) => accounts.len() == 1_024 && last.grants.as_slice().len() == 64,
+    }
+}
+
+/// Whether a file is the greatest one.
+fn is_greatest(alloc: Global, bytes: &[u8]) -> Result<bool, Fail> {
     let setup = setup_of(alloc, bytes)?;
-    let accounts = setup.parts().accounts.as_slice();
-    let last = accounts.last().ok_or("an account")?;
-    Ok((accounts.len(), last.grants.as_slice().len()))
+    Ok(are_greatest(setup.parts().accounts.as_slice()))
+}
+
+/// The greatest file as it is written.
+fn greatest_rewritten(alloc: Global) -> Result<Vec<u8>, Fail> {
+    let text = greatest_file(alloc)?;
+    rewritten(alloc, text.as_str())
 }
 
 /// The greatest setup is within what a reader of setup files takes.
 #[test]
 fn the_greatest_file(rt: HostRuntime) -> Result<(), Fail> {
-    let alloc = rt.alloc();
-    let text = greatest_file(alloc)?;
-    let bytes = rewritten(alloc, text.as_str())?;
+    let bytes = greatest_rewritten(rt.alloc())?;
     assert!(rt; bytes.as_slice().len() <= 8_388_608);
-    assert!(rt; counted(alloc, bytes.as_slice())? == (1_024, 64));
+    assert!(rt; is_greatest(rt.alloc(), bytes.as_slice())?);
     Ok(())
 }

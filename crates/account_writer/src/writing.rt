@@ -24,11 +24,7 @@ use toml::{Table, Value};
 /// # Errors
 ///
 /// There isn't the memory.
-pub fn write_accounts(
-    alloc: Global,
-    setup: &Setup,
-    ledger: &Ledger,
-) -> Result<Vec<u8>, AllocError>
+pub fn write_accounts(alloc: Global, setup: &Setup, ledger: &Ledger) -> Result<Vec<u8>, AllocError>
     requires { ledger.now.setup ≡ setup.now }
     ensures current { IfOk result (λ bytes. setup_of bytes.items ≡ Ok (entries_of (current_setup setup.now ledger.now.accounts))) }
     ensures after { IfOk result (λ bytes. IsSetupAfter setup.now ledger.now bytes.items) }
