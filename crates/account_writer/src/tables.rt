@@ -1,8 +1,9 @@
 //! The tables of a setup file.
 
 ghost use Rattle.std.specs.Prelude.{◌≡◌, ◌≤◌, IfOk, OnOk, map, true};
+ghost use Rattle.toml.specs.Data.{string};
 ghost use Rattle.toml.specs.View.{table_view, view};
-ghost use Rattle.account_writer.specs.Tables.{account_members, grant_data, grant_members, is_writable, number, put_counts, put_texts, with_current};
+ghost use Rattle.account_writer.specs.Tables.{account_members, grant_data, grant_members, is_writable, number, put_counts, put_member, put_texts, with_current};
 
 use crate::values::{
     algo_value, label_value, name_value, password_value, put, seed_value, width_value,
@@ -47,25 +48,13 @@ pub(crate) fn account_table(
     let mut table = Table::new(alloc);
     put(alloc, &mut table, "name", name_value(alloc, &account.name)?)?;
     put(alloc, &mut table, "uid", Value::from(account.uid))?;
-    put(
-        alloc,
-        &mut table,
-        "algorithm",
-        algo_value(alloc, account.algo)?,
-    )?;
+    let algo = algo_value(alloc, account.algo)?;
+    put(alloc, &mut table, "algorithm", algo)?;
     put(alloc, &mut table, "seed", seed_value(alloc, &account.seed)?)?;
-    put(
-        alloc,
-        &mut table,
-        "sequence",
-        Value::from(u32::from(current.sequence)),
-    )?;
-    put(
-        alloc,
-        &mut table,
-        "password",
-        password_value(alloc, current.password)?,
-    )?;
+    let sequence = u32::from(current.sequence);
+    put(alloc, &mut table, "sequence", Value::from(sequence))?;
+    let password = password_value(alloc, current.password)?;
+    put(alloc, &mut table, "password", password)?;
     put(alloc, &mut table, "enabled", Value::from(account.enabled))?;
     let grants = grant_values(alloc, account.grants.as_slice())?;
     put(alloc, &mut table, "grants", Value::from(grants))?;
@@ -80,38 +69,21 @@ pub(crate) fn put_texts(
 ) -> Result<(), AllocError>
     ensures { OnOk result (table_view table.new ≡ put_texts parts.now (table_view table.old)) }
 {
-    put(
-        alloc,
-        table,
-        "socket",
-        Value::string(alloc, parts.socket.as_str())?,
-    )?;
-    put(
-        alloc,
-        table,
-        "launcher",
-        Value::string(alloc, parts.launcher.as_str())?,
-    )?;
-    put(
-        alloc,
-        table,
-        "vault",
-        Value::string(alloc, parts.vault.as_str())?,
-    )?;
-    put(
-        alloc,
-        table,
-        "words",
-        Value::string(alloc, parts.words.as_str())?,
-    )?;
-    put(
-        alloc,
-        table,
-        "banner",
-        Value::string(alloc, parts.banner.as_str())?,
-    )?;
+    put_text(alloc, table, "socket", parts.socket.as_str())?;
+    put_text(alloc, table, "launcher", parts.launcher.as_str())?;
+    put_text(alloc, table, "vault", parts.vault.as_str())?;
+    put_text(alloc, table, "words", parts.words.as_str())?;
+    put_text(alloc, table, "banner", parts.banner.as_str())?;
     put(alloc, table, "salt", seed_value(alloc, &parts.salt)?)?;
     put(alloc, table, "frames", width_value(alloc, parts.frames)?)
+}
+
+/// Puts a text at a key.
+fn put_text(alloc: Global, table: &mut Table, key: &str, text: &str) -> Result<(), AllocError>
+    ensures { OnOk result (table_view table.new ≡ put_member key.now (string text.now) (table_view table.old)) }
+{
+    let value = Value::string(alloc, text)?;
+    put(alloc, table, key, value)
 }
 
 /// Puts the numbers of a setup.
