@@ -1,5 +1,5 @@
 -- The tables of grants and accounts are read as these.
-use Rattle.std.proofs.Common.{◌≡◌, ℕ, ◌+◌, ◌<◌, ◌^◌, Bool, true, false, ◌&&◌, List, [], ◌∷◌, ◌++◌, map, length, nat_le, le-leb, refl, sym, ap, ◌∙◌, subst, arith, append_assoc, Option, Some, None, Result, Ok, codes, ◌==◌}
+use Rattle.std.proofs.Common.{◌≡◌, ℕ, ◌+◌, ◌<◌, ◌^◌, Bool, true, false, List, [], ◌∷◌, ◌++◌, map, length, nat_le, le-leb, refl, sym, ap, ◌∙◌, subst, arith, append_assoc, Option, Some, Result, Ok, codes, ◌==◌}
 use Rattle.std.specs.Prelude.{nat_lt}
 use Rattle.std.specs.List.{cons_option, list_all, list_any}
 use Rattle.std.specs.Str.{bytes_eq}
@@ -13,12 +13,12 @@ use Rattle.request_catalogue.specs.TextBytes.{label_bytes, name_bytes}
 use Rattle.policy_model.specs.declared.account.Account.{Account}
 use Rattle.policy_model.specs.declared.account.Grant.{Grant}
 use Rattle.policy_model.specs.Settings.{are_accounts, are_distinct, are_grants, is_account, is_number, same_label, same_name}
-use Rattle.toml.specs.Data.{Data, Members, array, get_member, string}
+use Rattle.toml.specs.Data.{Data, Members, array, get_member}
 use Rattle.toml.specs.View.{items_of}
 use Rattle.account_file.specs.declared.fault.SetupFault.{SetupFault}
 use Rattle.account_file.specs.declared.fault.SetupKey.TheVariants as keys
 use Rattle.account_file.specs.Accounts.{account_behind, account_keys_of, account_of, accounts_of, grant_behind, grant_of, grants_of, new_string_of, spot_in, uid_at, uid_of, uids_of}
-use Rattle.account_file.specs.Entries.{AccountEntry, GrantEntry, account_entry, grant_entry}
+use Rattle.account_file.specs.Entries.{GrantEntry, account_entry, grant_entry}
 use Rattle.account_file.specs.Faults.{◌>>=◌}
 use Rattle.account_file.specs.Keys.{algo_of, number_of, password_of, seed_of, truth_of}
 use Rattle.account_file.specs.Setups.{top}

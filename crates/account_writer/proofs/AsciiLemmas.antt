@@ -6,13 +6,8 @@ use Rattle.std.proofs.lemmas.Bool.{and_parts}
 use Rattle.std.proofs.lemmas.Bool.Decides.{nat_tests}
 use Rattle.std.proofs.lemmas.Str.{IsUtf8-from_ascii}
 use Rattle.std.proofs.lemmas.Str.Ascii.{IsAscii-cons, IsAscii-nil}
-use Rattle.otp_hash.specs.declared.seed.Seed.{Seed}
 use Rattle.otp_hash.specs.Seeds.{is_seed, is_seed_byte}
-use Rattle.otp_hash.specs.SeedBytes.{seed_bytes}
-use Rattle.request_catalogue.specs.declared.texts.Label.{Label}
-use Rattle.request_catalogue.specs.declared.texts.Name.{Name}
 use Rattle.request_catalogue.specs.Texts.{begins_name, continues_label, continues_name, is_label, is_lowercase, is_name}
-use Rattle.request_catalogue.specs.TextBytes.{label_bytes, name_bytes}
 
 -- bytes that pass a test which only ASCII passes
 all_ascii : (p : ℕ → Bool) → ((c : ℕ) → p c ≡ true → c < 128) → (bytes : List ℕ) → list_all p bytes ≡ true → IsAscii bytes

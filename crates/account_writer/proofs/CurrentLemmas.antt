@@ -1,6 +1,5 @@
 -- A setup with what a ledger knows of its accounts is a setup.
-use Rattle.std.proofs.Common.{◌≡◌, ℕ, zero, suc, ◌+◌, ◌<◌, ◌≤◌, Bool, true, ◌&&◌, List, [], ◌∷◌, ◌++◌, map, length, get_or, take, nat_le, Ok, refl, sym, ap, ◌∙◌, subst, arith, ◌==◌}
-use Rattle.std.specs.Prelude.{nat_lt}
+use Rattle.std.proofs.Common.{◌≡◌, ℕ, zero, suc, ◌+◌, ◌<◌, true, ◌&&◌, List, [], ◌∷◌, ◌++◌, map, length, get_or, take, nat_le, Ok, refl, sym, ap, ◌∙◌, arith, ◌==◌}
 use Rattle.std.specs.List.{list_all}
 use Rattle.std.proofs.lemmas.Bool.{and_parts, and_from}
 use Rattle.std.proofs.lemmas.List.{map-append, take_more}
@@ -18,7 +17,7 @@ use Rattle.otp_ledger.specs.Standing.{state_by}
 use Rattle.account_file.specs.Entries.{entries_of}
 use Rattle.account_file.specs.Setups.{setup_of}
 use Rattle.account_writer.specs.CurrentSetup.{IsSetupAfter, account_after, current_account, current_accounts, current_setup}
-use Rattle.account_writer.specs.Tables.{account_data, is_writable, with_current}
+use Rattle.account_writer.specs.Tables.{is_writable, with_current}
 use Rattle.account_writer.proofs.ListLemmas.{distinct-map}
 
 -- 1. The accounts

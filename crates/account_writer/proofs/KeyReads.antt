@@ -1,5 +1,5 @@
 -- What is written at a key is read there.
-use Rattle.std.proofs.Common.{◌≡◌, ℕ, zero, suc, ◌<◌, ◌^◌, Bool, true, false, not, ◌&&◌, cond, List, [], ◌∷◌, map, length, get_or, nat_le, refl, sym, ap, ◌∙◌, arith, Option, Some, None, Result, Ok, codes, pos, ◌==◌}
+use Rattle.std.proofs.Common.{◌≡◌, ℕ, ◌<◌, ◌^◌, Bool, true, false, not, ◌&&◌, List, [], ◌∷◌, map, length, nat_le, refl, ap, ◌∙◌, arith, Some, Result, Ok, ◌==◌}
 use Rattle.std.specs.Bool.{then_some}
 use Rattle.std.specs.Char.{is_ascii_alphanumeric, to_ascii_lowercase}
 use Rattle.std.specs.Int.{w64, from_be_bytes, to_be_bytes}
@@ -10,10 +10,10 @@ use Rattle.std.specs.Str.{bytes_eq}
 use Rattle.std.proofs.lemmas.Bool.{and_parts, and_from}
 use Rattle.std.proofs.lemmas.Bool.Decides.{nat_tests}
 use Rattle.std.proofs.lemmas.Nat.{from_be_bytes-to_be_bytes_8}
-use Rattle.hex.specs.Hex.{IsBytes, decode_sized, encode_lower}
+use Rattle.hex.specs.Hex.{IsBytes}
 use Rattle.hex.specs.declared.error.FromHexError.{FromHexError}
 use Rattle.hex.proofs.HexLemmas.{decode_sized-encode_lower}
-use Rattle.toml.specs.Data.{Data, string, integer, boolean, array}
+use Rattle.toml.specs.Data.{Data, string, boolean, array}
 use Rattle.toml.specs.View.{items_of}
 use Rattle.otp_hash.specs.declared.chain.Algo.{Algo}
 use Rattle.otp_hash.specs.declared.chain.Algo.TheVariants as algos

@@ -1,22 +1,22 @@
 -- The table of a setup is read as this setup.
-use Rattle.std.proofs.Common.{◌≡◌, ℕ, ◌+◌, ◌*◌, ◌≤◌, Bool, true, false, ◌&&◌, cond, List, [], ◌∷◌, map, length, nat_le, le-leb, eq-eqb, refl, sym, ap, ◌∙◌, arith, Option, Some, None, Result, Ok, codes, ◌==◌}
+use Rattle.std.proofs.Common.{◌≡◌, ℕ, ◌+◌, ◌*◌, ◌≤◌, Bool, true, cond, List, [], ◌∷◌, map, length, nat_le, le-leb, eq-eqb, refl, ap, ◌∙◌, arith, Option, Some, None, Result, Ok, codes, ◌==◌}
 use Rattle.std.specs.Bool.{then_some}
 use Rattle.std.specs.List.{list_all}
 use Rattle.std.specs.Option.{is_some, option_and_then, option_map}
 use Rattle.std.specs.Str.{IsUtf8}
 use Rattle.std.specs.Str.Lossy.{utf8_valid_len}
-use Rattle.std.proofs.lemmas.Bool.{and_parts, and_from}
+use Rattle.std.proofs.lemmas.Bool.{and_parts}
 use Rattle.std.proofs.lemmas.Bool.Decides.{nat_tests}
 use Rattle.std.proofs.lemmas.List.{length-map}
 use Rattle.std.proofs.lemmas.Str.{utf8_valid_len-IsUtf8}
-use Rattle.toml.specs.Data.{Data, Members, array, as_integer, depth, get_member, items_depth, items_have_valid_dates, has_valid_dates, members_depth, members_have_valid_dates}
+use Rattle.toml.specs.Data.{Data, Members, array, as_integer, get_member, items_depth, items_have_valid_dates, members_depth, members_have_valid_dates}
 use Rattle.toml.specs.Parse.{parse_document}
 use Rattle.toml.specs.View.{items_of}
 use Rattle.otp_hash.specs.SeedBytes.{seed_bytes}
 use Rattle.request_catalogue.specs.declared.width.Width.{Width}
 use Rattle.policy_model.specs.declared.account.Account.{Account}
 use Rattle.policy_model.specs.declared.account.Grant.{Grant}
-use Rattle.policy_model.specs.Settings.{IsInRange, Settings, are_distinct, are_numbers, are_texts, is_number, is_text}
+use Rattle.policy_model.specs.Settings.{IsInRange, Settings, are_distinct, are_numbers, is_number}
 use Rattle.account_file.specs.declared.fault.SetupFault.{SetupFault}
 use Rattle.account_file.specs.declared.fault.SetupKey.TheVariants as keys
 use Rattle.account_file.specs.declared.fault.SetupRule.TheVariants as rules
@@ -24,9 +24,9 @@ use Rattle.account_file.specs.Accounts.{accounts_of}
 use Rattle.account_file.specs.Entries.{AccountEntry, CountEntries, SetupEntries, TextEntries, account_entry, entries_of}
 use Rattle.account_file.specs.Faults.{demand, ◌>>=◌}
 use Rattle.account_file.specs.Keys.{number_in, number_of, text_of}
-use Rattle.account_file.specs.Setups.{all_some, banner_of, counts_of, document_of, frames_of, info_items, info_of, product_of, salt_of, settings_of, setup_keys, setup_of, texts_of, top}
-use Rattle.account_file.specs.Trees.{are_known, data_of}
-use Rattle.account_writer.specs.Tables.{account_data, account_members, grant_data, is_writable, number, setup_members}
+use Rattle.account_file.specs.Setups.{all_some, banner_of, counts_of, frames_of, info_items, info_of, product_of, salt_of, settings_of, setup_keys, setup_of, texts_of, top}
+use Rattle.account_file.specs.Trees.{are_known}
+use Rattle.account_writer.specs.Tables.{account_data, grant_data, is_writable, number, setup_members}
 use Rattle.account_writer.proofs.AccountReads.{accounts_read}
 use Rattle.account_writer.proofs.KeyReads.{data_of-items, number_read, seed_read, text_read, width_read}
 

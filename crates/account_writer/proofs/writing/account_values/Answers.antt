@@ -1,13 +1,12 @@
-use Rattle.std.proofs.Common.{◌≡◌, ◌∙◌, ◌<◌, ◌≤◌, ℕ, List, true, length, map, get_or, refl, sym, ap, subst, arith, rules}
+use Rattle.std.proofs.Common.{◌≡◌, ◌∙◌, ◌<◌, ◌≤◌, List, length, map, get_or, sym, ap, arith, rules}
 use Rattle.std.specs.List.{list_all}
 use Rattle.std.proofs.lemmas.List.{take_all}
 use Rattle.policy_model.specs.declared.account.Account.{Account}
 use Rattle.policy_model.specs.Settings.{Settings}
-use Rattle.toml.specs.Data.{Data, table}
+use Rattle.toml.specs.Data.{table}
 use Rattle.toml.specs.View.{table_view, view}
-use Rattle.otp_ledger.specs.Accounts.{AccountState}
 use Rattle.account_writer.specs.CurrentSetup.{current_accounts}
-use Rattle.account_writer.specs.Tables.{account_data, account_members, is_writable, with_current}
+use Rattle.account_writer.specs.Tables.{account_data, is_writable, with_current}
 use Rattle.account_writer.proofs.CurrentLemmas.{current_here, length-current, values_more, writable_more}
 use Rattle.account_writer.proofs.writing.account_values.Goals as goal
 
