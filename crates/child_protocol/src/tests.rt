@@ -76,6 +76,7 @@ fn frames_of(alloc: Global, pid: u32, lines: &str) -> Result<Vec<u8>, AllocError
 }
 
 /// What a child is sent, and what it is to send, as frames.
+#[derive(Drop)]
 struct Rows {
     replies: Vec<u8>,
     requests: Vec<u8>,

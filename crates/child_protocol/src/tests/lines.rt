@@ -185,7 +185,7 @@ const FAULTS_REQUESTS: &str = "\
 
 /// The replies of a dialogue in which numbers, notes and texts break the catalogue's rules, or don't.
 const WORDS_REPLIES: &str = "\
-    0601 00 e9030000 03 'bob' 'OTS1' 01 0000 02 5400 'info 0' 0a 'info 00' 0a 'info 4294967295' 0a 'info 4294967296' 0a 'note hello' 0a 'note ' 0a 'put c ' 0a 'put c' 0a 'hello' 0a 03 0800 02000000 77000000\n\
+    0601 00 e9030000 03 'bob' 'OTS1' 01 0000 02 5400 'info 0' 0a 'info 00' 0a 'info 4294967295' 0a 'info 4294967296' 0a 'note hello' 0a 'note ' 0a 'put c ' 0a 'put  c' 0a 'hello' 0a 03 0800 02000000 77000000\n\
     0801 00\n\
     0b01 00 'bob has 1'\n\
     0801 00\n\
@@ -251,43 +251,49 @@ const SPOILT_REQUESTS: &str = "\
     0600\n\
     0d00";
 
+/// Whether the child before the login ends so and asks just this for these replies.
+fn pre_says(
+    alloc: Global,
+    replies: &str,
+    requests: &str,
+    end: ChildEnd,
+) -> Result<bool, AllocError> {
+    let rows = rows_of(alloc, replies, requests)?;
+    pre_asks(alloc, &rows, end)
+}
+
+/// Whether bob's child asks just this for these replies.
+fn bob_says(alloc: Global, replies: &str, requests: &str) -> Result<bool, AllocError> {
+    let rows = rows_of(alloc, replies, requests)?;
+    bob_asks(alloc, &rows)
+}
+
 #[test]
 fn the_child_before_the_login_answers_its_lines(rt: HostRuntime) -> Result<(), Fault> {
     let alloc = rt.alloc();
-    let login = rows_of(alloc, LOGIN_REPLIES, LOGIN_REQUESTS)?;
-    assert!(rt; pre_asks(alloc, &login, ChildEnd::LinkEnded)?);
-    let misplaced = rows_of(alloc, MISPLACED_REPLIES, MISPLACED_REQUESTS)?;
-    assert!(rt; pre_asks(alloc, &misplaced, ChildEnd::Done)?);
-    let given_up = rows_of(alloc, GIVEN_UP_REPLIES, GIVEN_UP_REQUESTS)?;
-    assert!(rt; pre_asks(alloc, &given_up, ChildEnd::Done)?);
-    let cut = rows_of(alloc, CUT_REPLIES, CUT_REQUESTS)?;
-    assert!(rt; pre_asks(alloc, &cut, ChildEnd::Done)?);
-    let violation = rows_of(alloc, VIOLATION_REPLIES, VIOLATION_REQUESTS)?;
-    assert!(rt; pre_asks(alloc, &violation, ChildEnd::Done)?);
+    assert!(rt; pre_says(alloc, LOGIN_REPLIES, LOGIN_REQUESTS, ChildEnd::LinkEnded)?);
+    assert!(rt; pre_says(alloc, MISPLACED_REPLIES, MISPLACED_REQUESTS, ChildEnd::Done)?);
+    assert!(rt; pre_says(alloc, GIVEN_UP_REPLIES, GIVEN_UP_REQUESTS, ChildEnd::Done)?);
+    assert!(rt; pre_says(alloc, CUT_REPLIES, CUT_REQUESTS, ChildEnd::Done)?);
+    assert!(rt; pre_says(alloc, VIOLATION_REPLIES, VIOLATION_REQUESTS, ChildEnd::Done)?);
     Ok(())
 }
 
 #[test]
 fn the_users_child_answers_its_lines(rt: HostRuntime) -> Result<(), Fault> {
     let alloc = rt.alloc();
-    let files = rows_of(alloc, FILES_REPLIES, FILES_REQUESTS)?;
-    assert!(rt; bob_asks(alloc, &files)?);
-    let faults = rows_of(alloc, FAULTS_REPLIES, FAULTS_REQUESTS)?;
-    assert!(rt; bob_asks(alloc, &faults)?);
-    let words = rows_of(alloc, WORDS_REPLIES, WORDS_REQUESTS)?;
-    assert!(rt; bob_asks(alloc, &words)?);
+    assert!(rt; bob_says(alloc, FILES_REPLIES, FILES_REQUESTS)?);
+    assert!(rt; bob_says(alloc, FAULTS_REPLIES, FAULTS_REQUESTS)?);
+    assert!(rt; bob_says(alloc, WORDS_REPLIES, WORDS_REQUESTS)?);
     Ok(())
 }
 
 #[test]
 fn the_users_child_serves_its_user_alone(rt: HostRuntime) -> Result<(), Fault> {
     let alloc = rt.alloc();
-    let user = rows_of(alloc, OTHER_USER_REPLIES, OTHER_USER_REQUESTS)?;
-    assert!(rt; bob_asks(alloc, &user)?);
-    let name = rows_of(alloc, OTHER_NAME_REPLIES, OTHER_NAME_REQUESTS)?;
-    assert!(rt; bob_asks(alloc, &name)?);
-    let spoilt = rows_of(alloc, SPOILT_REPLIES, SPOILT_REQUESTS)?;
-    assert!(rt; bob_asks(alloc, &spoilt)?);
+    assert!(rt; bob_says(alloc, OTHER_USER_REPLIES, OTHER_USER_REQUESTS)?);
+    assert!(rt; bob_says(alloc, OTHER_NAME_REPLIES, OTHER_NAME_REQUESTS)?);
+    assert!(rt; bob_says(alloc, SPOILT_REPLIES, SPOILT_REQUESTS)?);
     Ok(())
 }
 
