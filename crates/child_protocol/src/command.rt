@@ -1,0 +1,152 @@
+//! What a client's line asks.
+
+ghost use Rattle.std.specs.Prelude.{◌≡◌, ◌≤◌, true, length, is_some, IfSome};
+ghost use Rattle.std.specs.List.{list_all};
+ghost use Rattle.fixed_list.specs.FixedList.{list_of};
+ghost use Rattle.request_catalogue.specs.Texts.{is_name, is_reply, is_printable, is_typed};
+ghost use Rattle.request_catalogue.specs.Catalogue.{value_of, IsInRange};
+ghost use Rattle.child_protocol.specs.Commands.{IsLegal, Terminal, User, Respond, legal, is_terminal, pre_command};
+ghost use Rattle.child_protocol.specs.Pre.{say, pre_request};
+ghost use Rattle.child_protocol.specs.Frames.{frame_width};
+ghost use Rattle.child_protocol.specs.Reading.{command_value};
+ghost use Rattle.child_protocol.specs.Places.{place_by};
+
+use crate::place::Place;
+use fixed_list::FixedList;
+use request_catalogue::{Name, Request};
+
+/// The most bytes of a terminal's name.
+const TERMINAL_MAX: usize = 64;
+
+/// The most bytes of a typed reply.
+const REPLY_MAX: usize = 256;
+
+/// A line to the pre-authentication child.
+#[derive(Clone, Copy)]
+pub(crate) enum Command<'a> {
+    Terminal { text: FixedList<64> },
+    User { name: Name },
+    Respond { text: &'a [u8] },
+    Cancel,
+    Quit,
+    Other,
+}
+
+#[tactic(auto, unfolding(crate::specs::Commands::pre_command))]
+pub(crate) fn command_of(line: &[u8]) -> Command<'_>
+    ensures value { command_value result ≡ pre_command line.now }
+    ensures legal { IsLegal (command_value result) }
+{
+    if let Some(text) = line.strip_prefix(b"term ") {
+        return terminal_of(text);
+    }
+    if let Some(name) = line.strip_prefix(b"user ") {
+        return user_of(name);
+    }
+    if let Some(text) = line.strip_prefix(b"resp ") {
+        return respond_of(text);
+    }
+    if line == b"cancel".as_slice() {
+        Command::Cancel
+    } else if line == b"quit".as_slice() {
+        Command::Quit
+    } else {
+        Command::Other
+    }
+}
+
+#[tactic(auto, unfolding(crate::specs::Commands::is_terminal))]
+fn terminal_of(text: &[u8]) -> Command<'_>
+    ensures value { command_value result ≡ legal (is_terminal text.now) (Terminal text.now) }
+    ensures legal { IsLegal (command_value result) }
+{
+    if text.len() > TERMINAL_MAX || !are_printable(text) {
+        return Command::Other;
+    }
+    Command::Terminal {
+        text: FixedList::of(text),
+    }
+}
+
+fn user_of(name: &[u8]) -> Command<'_>
+    ensures value { command_value result ≡ legal (is_name name.now) (User name.now) }
+    ensures legal { IsLegal (command_value result) }
+{
+    match Name::of(name) {
+        Some(name) => Command::User { name },
+        None => Command::Other,
+    }
+}
+
+fn respond_of(text: &[u8]) -> Command<'_>
+    ensures value { command_value result ≡ legal (is_reply text.now) (Respond text.now) }
+    ensures legal { IsLegal (command_value result) }
+{
+    if is_reply(text) {
+        Command::Respond { text }
+    } else {
+        Command::Other
+    }
+}
+
+/// Whether all bytes are printable ASCII, space to `~`.
+fn are_printable(bytes: &[u8]) -> bool
+    ensures { result ≡ list_all is_printable bytes.now }
+{
+    bytes.iter().all(|byte| matches!(byte, b' '..=b'~'))
+}
+
+/// Whether bytes are a typed reply: 1 to 256 bytes, each a tab or printable.
+#[tactic(auto, unfolding(request_catalogue::specs::Texts::is_reply))]
+fn is_reply(bytes: &[u8]) -> bool
+    ensures { result ≡ is_reply bytes.now }
+{
+    !bytes.is_empty() && bytes.len() <= REPLY_MAX && are_typed(bytes)
+}
+
+/// Whether all bytes are tabs or printable.
+fn are_typed(bytes: &[u8]) -> bool
+    ensures { result ≡ list_all is_typed bytes.now }
+{
+    bytes.iter().all(|byte| matches!(byte, b'\t' | b' '..=b'~'))
+}
+
+/// What a command leads to first.
+pub(crate) fn request_for<'a>(command: Command<'a>, challenged: bool) -> Request<'a>
+    requires { IsLegal (command_value command) }
+    ensures value { value_of result ≡ pre_request (command_value command.entry) challenged }
+    ensures in_range { IsInRange frame_width (value_of result) }
+{
+    match (command, challenged) {
+        (Command::Terminal { .. }, _) => say(b"done\n"),
+        (Command::User { name }, false) => Request::Challenge { user: name },
+        (Command::Respond { text }, true) => Request::Reply { text },
+        (Command::Cancel, true) => Request::Abandon,
+        (Command::Quit, _) => say(b"bye\n"),
+        _ => say(b"what\n"),
+    }
+}
+
+/// A text to the client.
+pub(crate) fn say(bytes: &[u8]) -> Request<'_>
+    ensures { value_of result ≡ say bytes.now }
+{
+    Request::WriteAt {
+        handle: 0,
+        offset: 0,
+        bytes,
+    }
+}
+
+/// Where a command leads to.
+pub(crate) fn place_for(command: &Command<'_>, challenged: bool) -> Place
+    ensures { result ≡ place_by (command_value command.now) challenged }
+{
+    match (command, challenged) {
+        (Command::User { .. }, false) => Place::Challenging,
+        (Command::Respond { .. }, true) => Place::Replying,
+        (Command::Cancel, true) => Place::Abandoning,
+        (Command::Quit, _) => Place::Parting,
+        _ => Place::Saying,
+    }
+}

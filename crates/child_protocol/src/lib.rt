@@ -1,0 +1,32 @@
+//! The two child programs that parse the client's lines without any privilege: the child before the
+//! login and the user's child. What each asks of the monitor is read off the whole list of replies
+//! that it had (`says`), and each request has a cell in the policy's phase table. Believe `specs/Says`
+//! with what it names, `specs/Cores`, `specs/Runs` and `specs/Phases`; the program's modes stand above.
+#![tactic(auto)]
+
+mod child;
+mod child_core;
+mod command;
+mod form;
+mod frame;
+mod line;
+mod place;
+mod pre;
+mod reply;
+pub mod rows;
+mod run;
+mod text;
+mod turn;
+mod user;
+mod user_child;
+mod user_command;
+mod user_place;
+
+pub use child::PreChild;
+pub use child_core::ChildCore;
+pub use run::{ChildEnd, run_child};
+pub use turn::Turn;
+pub use user_child::UserChild;
+
+#[cfg(test)]
+mod tests;

@@ -1,0 +1,217 @@
+//! What a client's line to the user child asks.
+
+ghost use Rattle.std.specs.Prelude.{◌≡◌, ◌≤◌, ◌<◌, ◌^◌, IfSome, true, length};
+ghost use Rattle.std.specs.List.{list_all};
+ghost use Rattle.request_catalogue.specs.Catalogue.{value_of, IsInRange};
+ghost use Rattle.request_catalogue.specs.Texts.{is_label, is_note, is_digit, is_printable};
+ghost use Rattle.child_protocol.specs.User.{Get, Remark, IsLegalUser, decimal_value, if_legal, is_content, is_number, leads_right, number_of, put_command, put_parts, space_in, tell_command, user_command, user_request};
+ghost use Rattle.child_protocol.specs.Frames.{frame_width};
+ghost use Rattle.child_protocol.specs.Reading.{line_value};
+ghost use Rattle.child_protocol.specs.UserPlaces.{user_place_by};
+
+use crate::command::say;
+use crate::user_place::UserPlace;
+use request_catalogue::{Label, Note, Request};
+
+/// The most bytes that a line puts in a file.
+const CONTENT_MAX: usize = 200;
+
+/// The most digits of a number of 32 bits.
+const DIGITS_MAX: usize = 10;
+
+/// A line to the user child.
+#[derive(Clone, Copy)]
+pub(crate) enum UserLine<'a> {
+    Get { name: Label },
+    Put { name: Label, text: &'a [u8] },
+    Tell { number: u32 },
+    Remark { text: Note },
+    Leave,
+    Unknown,
+}
+
+#[tactic(auto, unfolding(crate::specs::User::user_command))]
+pub(crate) fn user_command_of(line: &[u8]) -> UserLine<'_>
+    ensures value { line_value result ≡ user_command line.now }
+    ensures legal { IsLegalUser (line_value result) }
+{
+    if let Some(name) = line.strip_prefix(b"get ") {
+        return get_of(name);
+    }
+    if let Some(text) = line.strip_prefix(b"put ") {
+        return put_of(text);
+    }
+    if let Some(text) = line.strip_prefix(b"info ") {
+        return tell_of(text);
+    }
+    if let Some(text) = line.strip_prefix(b"note ") {
+        return remark_of(text);
+    }
+    if line == b"quit".as_slice() {
+        UserLine::Leave
+    } else {
+        UserLine::Unknown
+    }
+}
+
+fn get_of(name: &[u8]) -> UserLine<'_>
+    ensures value { line_value result ≡ if_legal (is_label name.now) (Get name.now) }
+    ensures legal { IsLegalUser (line_value result) }
+{
+    match Label::of(name) {
+        Some(name) => UserLine::Get { name },
+        None => UserLine::Unknown,
+    }
+}
+
+fn put_of(text: &[u8]) -> UserLine<'_>
+    ensures value { line_value result ≡ put_command text.now (space_in text.now) }
+    ensures legal { IsLegalUser (line_value result) }
+{
+    match space_in(text) {
+        Some(i) => put_parts(&text[..i], &text[i + 1..]),
+        None => UserLine::Unknown,
+    }
+}
+
+/// Where the first space stands.
+#[tactic(auto, unfolding(crate::specs::User::space_in))]
+fn space_in(text: &[u8]) -> Option<usize>
+    ensures end { result ≡ space_in text.now }
+    ensures within { IfSome result (λ i. i < length text.now) }
+{
+    text.iter().position(|byte| *byte == b' ')
+}
+
+fn put_parts<'a>(name: &[u8], text: &'a [u8]) -> UserLine<'a>
+    ensures value { line_value result ≡ put_parts name.now text.now }
+    ensures legal { IsLegalUser (line_value result) }
+{
+    match Label::of(name) {
+        Some(name) if is_content(text) => UserLine::Put { name, text },
+        _ => UserLine::Unknown,
+    }
+}
+
+/// Whether a text may be put in a file.
+#[tactic(auto, unfolding(crate::specs::User::is_content))]
+fn is_content(text: &[u8]) -> bool
+    ensures value { result ≡ is_content text.now }
+    ensures some { result ≡ true → 1 ≤ length text.now }
+    ensures few { result ≡ true → length text.now ≤ 200 }
+{
+    !text.is_empty() && text.len() <= CONTENT_MAX && are_printable(text)
+}
+
+/// Whether all bytes are printable ASCII, space to `~`.
+fn are_printable(bytes: &[u8]) -> bool
+    ensures { result ≡ list_all is_printable bytes.now }
+{
+    bytes.iter().all(|byte| matches!(byte, b' '..=b'~'))
+}
+
+fn tell_of(text: &[u8]) -> UserLine<'_>
+    ensures value { line_value result ≡ tell_command (number_of text.now) }
+    ensures legal { IsLegalUser (line_value result) }
+{
+    match number_of(text) {
+        Some(number) => UserLine::Tell { number },
+        None => UserLine::Unknown,
+    }
+}
+
+/// The number of 32 bits whose decimal text this is.
+#[tactic(auto, unfolding(crate::specs::User::number_of))]
+fn number_of(text: &[u8]) -> Option<u32>
+    ensures { result ≡ number_of text.now }
+{
+    if !is_number(text) {
+        return None;
+    }
+    let number = decimal_value(text);
+    if number <= 4_294_967_295 {
+        Some(number as u32)
+    } else {
+        None
+    }
+}
+
+/// Whether a text is a number: 1 to 10 digits without a leading zero.
+#[tactic(auto, unfolding(crate::specs::User::is_number))]
+fn is_number(text: &[u8]) -> bool
+    ensures value { result ≡ is_number text.now }
+    ensures few { result ≡ true → length text.now ≤ 10 }
+    ensures digits { result ≡ true → list_all is_digit text.now ≡ true }
+{
+    text.len() <= DIGITS_MAX && leads_right(text) && are_digits(text)
+}
+
+/// Whether the first byte is no `0`, or the only byte.
+fn leads_right(text: &[u8]) -> bool
+    ensures { result ≡ leads_right text.now }
+{
+    match text {
+        [] => false,
+        [first, rest @ ..] => *first != b'0' || rest.is_empty(),
+    }
+}
+
+/// Whether all bytes are digits.
+fn are_digits(bytes: &[u8]) -> bool
+    ensures { result ≡ list_all is_digit bytes.now }
+{
+    bytes.iter().all(|byte| matches!(byte, b'0'..=b'9'))
+}
+
+/// The number that these digits spell.
+fn decimal_value(digits: &[u8]) -> u64
+    requires few { length digits.now ≤ 10 }
+    requires digits { list_all is_digit digits.now ≡ true }
+    ensures { result ≡ decimal_value digits.now }
+{
+    let mut number = 0;
+    for digit in digits {
+        number = number * 10 + u64::from(*digit - b'0');
+    }
+    number
+}
+
+fn remark_of(text: &[u8]) -> UserLine<'_>
+    ensures value { line_value result ≡ if_legal (is_note text.now) (Remark text.now) }
+    ensures legal { IsLegalUser (line_value result) }
+{
+    match Note::of(text) {
+        Some(text) => UserLine::Remark { text },
+        None => UserLine::Unknown,
+    }
+}
+
+/// What a command leads to first.
+pub(crate) fn user_request_for<'a>(command: &UserLine<'a>) -> Request<'a>
+    requires { IsLegalUser (line_value command.now) }
+    ensures value { value_of result ≡ user_request (line_value command.now) }
+    ensures in_range { IsInRange frame_width (value_of result) }
+{
+    match *command {
+        UserLine::Get { name } => Request::OpenFile { mode: 1, name },
+        UserLine::Put { name, .. } => Request::OpenFile { mode: 2, name },
+        UserLine::Tell { number } => Request::Info { number },
+        UserLine::Remark { text } => Request::Note { text },
+        UserLine::Leave => say(b"bye\n"),
+        UserLine::Unknown => say(b"what\n"),
+    }
+}
+
+/// Where a command leads to.
+pub(crate) fn user_place_for(command: &UserLine<'_>) -> UserPlace
+    ensures { result ≡ user_place_by (line_value command.now) }
+{
+    match command {
+        UserLine::Get { .. } => UserPlace::OpeningGet,
+        UserLine::Put { .. } => UserPlace::OpeningPut,
+        UserLine::Tell { .. } => UserPlace::Asking,
+        UserLine::Remark { .. } => UserPlace::Noting,
+        UserLine::Leave => UserPlace::Parting,
+        UserLine::Unknown => UserPlace::Saying,
+    }
+}
