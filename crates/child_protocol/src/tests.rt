@@ -55,7 +55,7 @@ fn put_digit(bytes: &mut Vec<u8>, high: Option<u8>, digit: u8) -> Result<Option<
 /// Appends the frame of a kind and a body, of this process.
 fn put_frame(frames: &mut Vec<u8>, pid: u32, line: &[u8]) -> Result<(), AllocError> {
     if let [low, high, body @ ..] = line {
-        let len = (body.len() as u16).wrapping_add(16);
+        let len = u16::try_from(body.len()).unwrap_or(0).wrapping_add(16);
         frames.extend_from_slice(&[*low, *high, 0, 0])?;
         frames.extend_from_slice(&len.to_le_bytes())?;
         frames.extend_from_slice(&[0; 6])?;

@@ -362,10 +362,9 @@ fn a_line_has_at_most_300_bytes(rt: HostRuntime) -> Result<(), Fault> {
 }
 
 /// Whether so many letters may be put in a file.
-fn is_put(alloc: Global, letters: usize, answer: &str) -> Result<bool, AllocError> {
+fn is_put(alloc: Global, letters: u16, answer: &str) -> Result<bool, AllocError> {
     let mut left = bytes_of(alloc, b"0601 00 e9030000 03 'bob' 'OTS1' 01 0000 02")?;
-    let len = (letters as u16).wrapping_add(7);
-    left.extend_from_slice(&len.to_le_bytes())?;
+    left.extend_from_slice(&letters.wrapping_add(7).to_le_bytes())?;
     left.extend_from_slice(b"put c ")?;
     let mut written = bytes_of(alloc, b"0800 01000000 0000000000000000")?;
     for _letter in 0..letters {
