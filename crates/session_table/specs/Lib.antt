@@ -1,0 +1,5 @@
+pub mod Files
+pub mod Marks
+pub mod Rows
+pub mod Standing
+pub mod Tables

@@ -1,0 +1,194 @@
+//! The files that a session has open, in eight places.
+
+ghost use Rattle.std.specs.Prelude.{◌≡◌, ◌≤◌, ◌++◌, ◌∷◌, [], true, length};
+ghost use Rattle.std.specs.List.{find};
+ghost use Rattle.std.specs.Option.{option_copied};
+ghost use Rattle.policy_model.specs.Settings.{same_label};
+ghost use Rattle.policy_model.specs.Verdict.{allows, grant_verdict};
+ghost use Rattle.session_table.specs.Files.{FitsFiles, IsNewHandle, file_at, files_after, free_of, is_free, look_of, open_decision, without};
+
+use arrayvec::ArrayVec;
+use policy_model::{Ask, Decision, Event, Grant, Grants};
+use request_catalogue::{Label, rules};
+use std::marker::Model;
+
+/// The most files that a session has open.
+const PLACES: usize = 8;
+
+/// The numbers that handles have.
+const NUMBERS: [u32; 8] = [1, 2, 3, 4, 5, 6, 7, 8];
+
+/// A file that a session has open.
+#[derive(Clone, Copy, PartialEq, Eq, Debug, Default)]
+pub struct LiveHandle {
+    /// 1 to 8.
+    pub handle: u32,
+    /// The number of the account's grant, counted from 0.
+    pub grant: u32,
+    /// The mode that was asked: 1 to read, 2 to write, 3 for both.
+    pub mode: u8,
+}
+
+/// The files that a session has open, in the order in which they were opened: at most eight, with
+/// different handles of 1 to 8.
+#[derive(Debug, Drop)]
+pub struct Handles {
+    live: ArrayVec<LiveHandle, 8>,
+}
+
+impl Model for Handles {
+    ghost use Rattle.std.specs.Prelude.{List};
+    ghost use Rattle.session_table.specs.declared.handles.LiveHandle.{LiveHandle};
+    ghost use Rattle.session_table.specs.Files.{AreHandles};
+
+    ghost Value = { List LiveHandle };
+
+    ghost view = { λ h. h.live.items };
+
+    ghost invariant = { λ h. AreHandles h.live.items };
+}
+
+/// Whether a mode has all that is needed.
+fn allows(mode: u8, needed: u8) -> bool
+    ensures { result ≡ allows mode needed }
+{
+    needed & mode == needed
+}
+
+/// The grant of a file's name.
+fn grant_of<'a>(grants: &'a [Grant], name: &Label) -> Option<&'a Grant>
+    ensures { option_copied result ≡ find (λ g. same_label g.name name.now) grants.entry.now }
+{
+    grants.iter().find(|g| g.name == *name)
+}
+
+/// Rules 20 and 21 of an OPEN, else a permit with the handle.
+fn judge_grant(grants: &[Grant], mode: u8, name: &Label, free: u32) -> Decision
+    ensures { result ≡ grant_verdict free mode (find (λ g. same_label g.name name.now) grants.now) }
+{
+    match grant_of(grants, name) {
+        None => Decision::Deny {
+            rule: rules::NOT_GRANTED,
+            detail: 0,
+        },
+        Some(grant) if allows(grant.mode, mode) => Decision::Permit {
+            value: u64::from(free),
+        },
+        Some(_) => Decision::Deny {
+            rule: rules::MODE_NOT_GRANTED,
+            detail: u32::from(mode),
+        },
+    }
+}
+
+/// The file with this handle.
+fn file_of<'a>(live: &'a [LiveHandle], handle: u32) -> Option<&'a LiveHandle>
+    ensures { option_copied result ≡ file_at handle live.entry.now }
+{
+    live.iter().find(|file| file.handle == handle)
+}
+
+/// Whether no file has this handle.
+fn is_free(live: &[LiveHandle], handle: u32) -> bool
+    ensures { result ≡ is_free handle live.now }
+{
+    file_of(live, handle).is_none()
+}
+
+/// The least handle of 1 to 8 that is free, or 0 where none is.
+fn free_handle(live: &[LiveHandle]) -> u32
+    ensures { result ≡ free_of live.now }
+{
+    for handle in &NUMBERS {
+        if is_free(live, *handle) {
+            return *handle;
+        }
+    }
+    0
+}
+
+impl Handles {
+    /// No file is open.
+    pub fn new() -> Handles
+        ensures { result ≡ [] }
+    {
+        Handles {
+            live: ArrayVec::new(),
+        }
+    }
+
+    /// How many files are open, at most eight.
+    pub fn len(&self) -> usize
+        ensures value { result ≡ length self.now }
+        ensures bound { result ≤ 8 }
+    {
+        self.live.len()
+    }
+
+    /// Whether a handle of 1 to 8 isn't taken.
+    pub fn is_free(&self, handle: u32) -> bool
+        ensures { result ≡ is_free handle self.now }
+    {
+        is_free(self.live.as_slice(), handle)
+    }
+
+    /// The decision on an OPEN of a file by its name, in a mode of 1 to 3, where these are the user's
+    /// grants: rule 19 where eight files are open, rule 20 where no grant has the name, rule 21 where the
+    /// grant's mode lacks what is asked, and else a permit with the least handle of 1 to 8 that is free.
+    pub fn judge_open(&self, grants: &Grants, mode: u8, name: &Label) -> Decision
+        ensures value { result ≡ open_decision self.now grants.now mode name.now }
+        ensures new { IsNewHandle self.now result }
+    {
+        if self.live.len() >= PLACES {
+            return Decision::Deny {
+                rule: rules::HANDLES_SPENT,
+                detail: 8,
+            };
+        }
+        judge_grant(grants.as_slice(), mode, name, free_handle(self.live.as_slice()))
+    }
+
+    /// A file is open behind those that were.
+    pub fn add(&mut self, handle: u32, grant: u32, mode: u8)
+        requires number { (1 ≤ handle) × (handle ≤ 8) }
+        requires free { is_free handle self.old ≡ true }
+        ensures { self.new ≡ self.old ++ record { handle = handle; grant = grant; mode = mode } ∷ [] }
+    {
+        self.live.push(LiveHandle {
+            handle,
+            grant,
+            mode,
+        });
+    }
+
+    /// The number of the grant and the mode of a file that is open.
+    pub fn look(&self, handle: u32) -> Option<(u32, u8)>
+        ensures { result ≡ look_of handle self.now }
+    {
+        match file_of(self.live.as_slice(), handle) {
+            None => None,
+            Some(file) => Some((file.grant, file.mode)),
+        }
+    }
+
+    /// The file isn't open any more; where none has the handle nothing changes.
+    pub fn remove(&mut self, handle: u32)
+        ensures { self.new ≡ without handle self.old }
+    {
+        self.live.retain(|file| file.handle != handle);
+    }
+
+    /// What an event of the session makes of these; where it is a permitted OPEN, it is for this grant.
+    pub(crate) fn advance(&mut self, event: &Event, grant: u32)
+        requires { FitsFiles self.old event.now }
+        ensures { self.new ≡ files_after self.old event.now grant }
+    {
+        if let Decision::Permit { value } = event.decision {
+            match event.ask {
+                Ask::OpenFile { mode, .. } => self.add(value as u32, grant, mode),
+                Ask::CloseFile { handle } => self.remove(handle),
+                _ => {}
+            }
+        }
+    }
+}

@@ -1,0 +1,18 @@
+//! The session table: what the policy knows of the sessions that are open, in memory that is taken once.
+//! Each worker has a row while it has a session: the phase, which kinds of requests were permitted, how
+//! many asks were made and replies denied, whose account it is, and the files that are open.
+#![tactic(auto)]
+
+mod bits;
+mod handles;
+mod reading;
+mod rows;
+mod table;
+
+pub use bits::Bits;
+pub use handles::{Handles, LiveHandle};
+pub use rows::SessionRow;
+pub use table::Table;
+
+#[cfg(test)]
+mod tests;
