@@ -1,6 +1,6 @@
 -- A ledger that stands for a journal, and one event more.
 use Rattle.std.proofs.Common.{◌≡◌, ◌≢◌, ℕ, zero, suc, ◌<◌, ◌≤◌, Bool, true, false, not, ◌&&◌, ◌||◌, cond, List, [], ◌∷◌, ◌++◌, length, map, get_or, nat_le, set, Some, None, slice_get, refl, sym, ap, subst, ◌∙◌, arith}
-use Rattle.std.specs.List.{list_any}
+use Rattle.std.specs.List.{list_all, list_any}
 use Rattle.std.proofs.lemmas.Bool.{false≢true}
 use Rattle.std.proofs.lemmas.Bool.Decides.{nat_tests}
 use Rattle.std.proofs.lemmas.List.{get_or-set_same, length-map, set-set}
@@ -15,7 +15,7 @@ use Rattle.policy_model.specs.declared.event.Event.{Event}
 use Rattle.policy_model.specs.Asks.{accepts, ends_session, gives_up, is_challenge_for, is_permit, moment_of, reserves, value_of}
 use Rattle.policy_model.specs.Logins.{challenged_user, is_user, reply_for}
 use Rattle.policy_model.specs.Phases.{is_over}
-use Rattle.policy_model.specs.Settings.{IsInRange, Settings, are_distinct, same_name}
+use Rattle.policy_model.specs.Settings.{IsInRange, Settings, are_distinct, is_account, same_name}
 use Rattle.policy_model.specs.Verdict.{is_holder}
 use Rattle.otp_ledger.specs.Accounts.{AccountState, LedgerParts, accepting, holding, ledger_holding, ledger_releasing, ledger_spending, no_state, releasing, state_at}
 use Rattle.otp_ledger.specs.Standing.{HoldsAtMost, StandsFor, StandsLeft, StandsReplied, StandsTaken, state_by}
@@ -83,6 +83,13 @@ accounts_few setup range =
     let names = both_true _ _ uids.0 in
     let few : nat_le (length setup.accounts) 1024 ≡ true = (both_true _ _ names.0).0 in
     grind (arith, nat_tests, few)
+
+-- the accounts of a setup are accounts by themselves
+pub accounts_legal : (setup : Settings) → IsInRange setup → list_all is_account setup.accounts ≡ true
+accounts_legal setup range =
+    let uids = both_true _ _ range.accounts in
+    let names = both_true _ _ uids.0 in
+    (both_true _ _ names.0).1
 
 -- 2. A list of which one element changes
 

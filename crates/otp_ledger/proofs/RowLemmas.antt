@@ -1,13 +1,13 @@
 -- The accounts that rows stand for.
-use Rattle.std.proofs.Common.{◌≡◌, ◌≢◌, ℕ, zero, suc, ◌-◌, ◌<◌, ◌≤◌, ◌&&◌, not, nat_eq, Bool, true, false, List, ◌∷◌, [], ◌++◌, length, map, get_or, set, reverse, unwrap_or, Some, None, refl, sym, ap, subst, ◌∙◌, arith, inl, inr, ◌⊎◌}
-use Rattle.std.specs.List.{last_or}
-use Rattle.std.proofs.lemmas.Bool.{cases_eq}
+use Rattle.std.proofs.Common.{◌≡◌, ◌≢◌, ℕ, zero, suc, ◌-◌, ◌<◌, ◌≤◌, ◌&&◌, not, nat_eq, Bool, true, false, List, ◌∷◌, [], ◌++◌, length, map, get_or, nat_le, set, reverse, unwrap_or, Some, None, refl, sym, ap, subst, ◌∙◌, arith, inl, inr, ◌⊎◌}
+use Rattle.std.specs.List.{last_or, list_all}
+use Rattle.std.proofs.lemmas.Bool.{and_parts, cases_eq}
 use Rattle.std.proofs.lemmas.Bool.Decides.{nat_tests}
 use Rattle.std.proofs.lemmas.List.{get_or-map, get_or-set_other, get_or-set_same, length-map, length-set, map-set, reverse-append}
 use Rattle.otp_hash.specs.declared.chain.Algo.{Algo}
 use Rattle.otp_hash.specs.Hashing.{hash_of}
 use Rattle.policy_model.specs.declared.account.Account.{Account}
-use Rattle.policy_model.specs.Settings.{Settings}
+use Rattle.policy_model.specs.Settings.{Settings, is_account}
 use Rattle.policy_model.proofs.Lists.{last_or-push}
 use Rattle.otp_ledger.specs.declared.rows.AccountRow.{AccountRow}
 use Rattle.otp_ledger.specs.Accounts.{AccountState, LedgerParts, accepting, current_of, new_ledger, new_state, no_state, was_accepted}
@@ -55,6 +55,13 @@ few_set rows new account few lt at u d bound = go (cases_eq u account) where
   go (inl here) = subst (λ (r : AccountRow). r.sequence ≤ r.start) (sym (ap (λ i. get_or (set rows account new) i d) here ∙ get_or-set_same rows account new d lt)) at
   go (inr ne) = subst (λ (r : AccountRow). r.sequence ≤ r.start) (sym (get_or-set_other rows account u new d ne)) (few u d (omega (arith, bound, length-set rows account new)))
 
+-- no account had a greater sequence than a setup allows
+pub short_set : (rows : List AccountRow) (new : AccountRow) (account : ℕ) → ((u : ℕ) (d : AccountRow) → u < length rows → (get_or rows u d).start ≤ 9999) → account < length rows → new.start ≤ 9999 → (u : ℕ) (d : AccountRow) → u < length (set rows account new) → (get_or (set rows account new) u d).start ≤ 9999
+short_set rows new account few lt at u d bound = go (cases_eq u account) where
+  go : (u ≡ account) ⊎ (u ≢ account) → (get_or (set rows account new) u d).start ≤ 9999
+  go (inl here) = subst (λ (r : AccountRow). r.start ≤ 9999) (sym (ap (λ i. get_or (set rows account new) i d) here ∙ get_or-set_same rows account new d lt)) at
+  go (inr ne) = subst (λ (r : AccountRow). r.start ≤ 9999) (sym (get_or-set_other rows account u new d ne)) (few u d (omega (arith, bound, length-set rows account new)))
+
 -- the accounts of the rows before the first event
 pub new_states : (accounts : List Account) → map state_of (map new_row accounts) ≡ map new_state accounts
 new_states [] = refl
@@ -66,6 +73,14 @@ pub few_new : (accounts : List Account) (u : ℕ) (d : AccountRow) → u < lengt
 few_new [] u d lt = absurd (omega arith)
 few_new (a ∷ accounts) zero d lt = omega arith
 few_new (a ∷ accounts) (suc u) d lt = few_new accounts u d (omega arith)
+
+pub short_new : (accounts : List Account) → list_all is_account accounts ≡ true → (u : ℕ) (d : AccountRow) → u < length (map new_row accounts) → (get_or (map new_row accounts) u d).start ≤ 9999
+short_new [] legal u d lt = absurd (omega arith)
+short_new (a ∷ accounts) legal zero d lt =
+    let here = (and_parts (is_account a) (list_all is_account accounts) legal).0 in
+    let few : nat_le a.sequence 9999 ≡ true = (and_parts _ _ (and_parts _ _ here).0).1 in
+    grind (arith, nat_tests, few)
+short_new (a ∷ accounts) legal (suc u) d lt = short_new accounts (and_parts (is_account a) (list_all is_account accounts) legal).1 u d (omega arith)
 
 -- a reading against a row is one against its account
 next_is : (row : AccountRow) (state : AccountState) (password hash : ℕ) → state_of row ≡ state → hash ≡ hash_of row.algo password → (nat_eq hash row.password && not (was_accepted state password)) ≡ is_next state password

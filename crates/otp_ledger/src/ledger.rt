@@ -106,7 +106,8 @@ impl Ledger {
 
     /// The setup that the ledger was made from.
     pub fn setup(&self) -> &Setup
-        ensures { result.now ≡ self.now.setup }
+        ensures value { result.now ≡ self.now.setup }
+        ensures accounts { length result.now.accounts ≡ length self.now.accounts }
     {
         &self.setup
     }
@@ -147,6 +148,7 @@ impl Ledger {
         requires { account < length self.now.accounts }
         ensures state { state_of result.now ≡ state_at self.now account }
         ensures password { result.now.password ≡ current_of (state_at self.now account) }
+        ensures few { result.now.sequence ≤ 9999 }
     {
         &self.rows[account as usize]
     }
@@ -163,6 +165,7 @@ impl Ledger {
     pub fn current(&self, account: u32) -> Current
         requires { account < length self.now.accounts }
         ensures sequence { result.sequence ≡ (state_at self.now account).sequence }
+        ensures few { result.sequence ≤ 9999 }
         ensures password { result.password ≡ current_of (state_at self.now account) }
         ensures stands { IsCurrent self.now account result }
     {

@@ -8,7 +8,7 @@ use Rattle.policy_model.specs.Settings.{IsInRange}
 use Rattle.otp_ledger.specs.Standing.{StandsTaken}
 use Rattle.otp_ledger.proofs.GoingLemmas.{stands_taken}
 use Rattle.otp_ledger.proofs.EntryLemmas.{entries_row}
-use Rattle.otp_ledger.proofs.RowLemmas.{changed_view, few_set, row_within}
+use Rattle.otp_ledger.proofs.RowLemmas.{changed_view, few_set, row_within, short_set}
 use Rattle.otp_ledger.proofs.ledger.Ledger.hold.Goals as goal
 
 pub invariant_of-self : goal.invariant_of-self
@@ -22,6 +22,7 @@ invariant_of-self c =
       rising = inv.rising;
       entries = subst (λ (rs : List AccountRow). AreEntries c.self.inside.kept.items (map state_of rs)) (sym c.take.ensures) (entries_row c.self.inside.kept.items rows row c.args.account inv.entries lt refl);
       few = rw c.take.ensures (few_set rows row c.args.account inv.few lt (inv.few c.args.account no_row lt));
+      short = rw c.take.ensures (short_set rows row c.args.account inv.short lt (inv.short c.args.account no_row lt));
       room = inv.room;
       accounts = ap length c.take.ensures ∙ length-set rows c.args.account row ∙ inv.accounts;
       named = inv.named;

@@ -1,14 +1,16 @@
-use Rattle.std.proofs.Common.{◌≡◌, ◌∙◌, [], List, length, map, ap, subst, sym, arith}
+use Rattle.std.proofs.Common.{◌≡◌, ◌∙◌, true, [], List, length, map, ap, subst, sym, arith}
 use Rattle.std.specs.Prelude.{position}
+use Rattle.std.specs.List.{list_all}
 use Rattle.std.proofs.lemmas.List.{length-map}
 use Rattle.policy_model.specs.declared.account.Account.{Account}
-use Rattle.policy_model.specs.Settings.{IsInRange, Settings, same_name}
+use Rattle.policy_model.specs.Settings.{IsInRange, Settings, is_account, same_name}
 use Rattle.otp_ledger.specs.declared.rows.AccountRow.{AccountRow}
 use Rattle.otp_ledger.specs.Accounts.{LedgerParts}
 use Rattle.otp_ledger.specs.Kept.{AreEntries}
 use Rattle.otp_ledger.specs.Rows.{new_row, state_of}
 use Rattle.otp_ledger.specs.Standing.{StandsFor}
-use Rattle.otp_ledger.proofs.RowLemmas.{few_new, new_is}
+use Rattle.otp_ledger.proofs.GoingLemmas.{accounts_legal}
+use Rattle.otp_ledger.proofs.RowLemmas.{few_new, new_is, short_new}
 use Rattle.otp_ledger.proofs.StandingLemmas.{new_stands}
 use Rattle.otp_ledger.proofs.ledger.Ledger.new.Goals as goal
 
@@ -22,6 +24,7 @@ invariant_of-result c =
       rising = c.in_ok-kept.ensures.rising;
       entries = subst (λ (rs : List AccountRow). AreEntries c.in_ok-kept.kept.items (map state_of rs)) (sym c.in_ok-rows.ensures) c.in_ok-kept.ensures.entries;
       few = rw c.in_ok-rows.ensures (few_new accounts);
+      short = rw c.in_ok-rows.ensures (short_new accounts (subst (λ (s : List Account). list_all is_account s ≡ true) (sym own) (accounts_legal c.args.setup.now c.parts.ensures.in_range)));
       room = omega (arith, c.in_ok-kept.ensures.room);
       accounts = ap length c.in_ok-rows.ensures ∙ length-map accounts new_row ∙ ap length copied;
       named = c.in_ok-names.ensures.rising;

@@ -7,7 +7,7 @@ use Rattle.otp_ledger.specs.Rows.{no_row, released, state_of}
 use Rattle.otp_ledger.specs.Standing.{StandsLeft}
 use Rattle.otp_ledger.proofs.GoingLemmas.{stands_left}
 use Rattle.otp_ledger.proofs.EntryLemmas.{entries_row}
-use Rattle.otp_ledger.proofs.RowLemmas.{changed_view, few_set, row_within}
+use Rattle.otp_ledger.proofs.RowLemmas.{changed_view, few_set, row_within, short_set}
 use Rattle.otp_ledger.proofs.ledger.Ledger.release.Goals as goal
 
 pub invariant_of-self : goal.invariant_of-self
@@ -21,6 +21,7 @@ invariant_of-self c =
       rising = inv.rising;
       entries = subst (λ (rs : List AccountRow). AreEntries c.self.inside.kept.items (map state_of rs)) (sym c.let_go.ensures) (entries_row c.self.inside.kept.items rows row c.args.account inv.entries lt refl);
       few = rw c.let_go.ensures (few_set rows row c.args.account inv.few lt (inv.few c.args.account no_row lt));
+      short = rw c.let_go.ensures (short_set rows row c.args.account inv.short lt (inv.short c.args.account no_row lt));
       room = inv.room;
       accounts = ap length c.let_go.ensures ∙ length-set rows c.args.account row ∙ inv.accounts;
       named = inv.named;

@@ -9,7 +9,7 @@ use Rattle.policy_model.specs.Settings.{IsInRange}
 use Rattle.otp_ledger.specs.Standing.{StandsReplied}
 use Rattle.otp_ledger.proofs.GoingLemmas.{stands_replied}
 use Rattle.otp_ledger.proofs.EntryLemmas.{entries_spend}
-use Rattle.otp_ledger.proofs.RowLemmas.{changed_view, few_set, password_is, row_within, state_is, state_of-spending}
+use Rattle.otp_ledger.proofs.RowLemmas.{changed_view, few_set, password_is, row_within, short_set, state_is, state_of-spending}
 use Rattle.otp_ledger.proofs.ledger.Ledger.spend.Goals as goal
 
 pub invariant_of-self : goal.invariant_of-self
@@ -27,6 +27,7 @@ invariant_of-self c =
       rising = c.keep.ensures.rising;
       entries = subst (λ (rs : List AccountRow). AreEntries c.keep.new.kept.items (map state_of rs)) (sym c.renew.ensures) (entries_spend c.self.inside.kept.items c.keep.new.kept.items rows c.args.account c.args.password inv.entries lt (state_of-spending row c.args.password some few hashes) c.keep.ensures.entries);
       few = rw c.renew.ensures (few_set rows (spending row c.args.password) c.args.account inv.few lt (omega (arith, few)));
+      short = rw c.renew.ensures (short_set rows (spending row c.args.password) c.args.account inv.short lt (inv.short c.args.account no_row lt));
       room = omega (arith, inv.room, c.keep.ensures.len, c.keep.ensures.capacity);
       accounts = ap length c.renew.ensures ∙ length-set rows c.args.account (spending row c.args.password) ∙ inv.accounts;
       named = inv.named;

@@ -1,0 +1,107 @@
+-- What is written at a key is read there.
+use Rattle.std.proofs.Common.{◌≡◌, ℕ, zero, suc, ◌<◌, ◌^◌, Bool, true, false, not, ◌&&◌, cond, List, [], ◌∷◌, map, length, get_or, nat_le, refl, sym, ap, ◌∙◌, arith, Option, Some, None, Result, Ok, codes, pos, ◌==◌}
+use Rattle.std.specs.Bool.{then_some}
+use Rattle.std.specs.Char.{is_ascii_alphanumeric, to_ascii_lowercase}
+use Rattle.std.specs.Int.{w64, from_be_bytes, to_be_bytes}
+use Rattle.std.specs.List.{list_all, list_any}
+use Rattle.std.specs.Option.{option_map}
+use Rattle.std.specs.Result.{result_ok}
+use Rattle.std.specs.Str.{bytes_eq}
+use Rattle.std.proofs.lemmas.Bool.{and_parts, and_from}
+use Rattle.std.proofs.lemmas.Bool.Decides.{nat_tests}
+use Rattle.std.proofs.lemmas.Nat.{from_be_bytes-to_be_bytes_8}
+use Rattle.hex.specs.Hex.{IsBytes, decode_sized, encode_lower}
+use Rattle.hex.specs.declared.error.FromHexError.{FromHexError}
+use Rattle.hex.proofs.HexLemmas.{decode_sized-encode_lower}
+use Rattle.toml.specs.Data.{Data, string, integer, boolean, array}
+use Rattle.toml.specs.View.{items_of}
+use Rattle.otp_hash.specs.declared.chain.Algo.{Algo}
+use Rattle.otp_hash.specs.declared.chain.Algo.TheVariants as algos
+use Rattle.otp_hash.specs.declared.seed.Seed.{Seed}
+use Rattle.otp_hash.specs.Seeds.{is_seed, is_seed_byte, is_seed_text}
+use Rattle.otp_hash.specs.SeedBytes.{seed_bytes}
+use Rattle.request_catalogue.specs.declared.width.Width.{Width}
+use Rattle.request_catalogue.specs.declared.width.Width.TheVariants.{Narrow, Wide}
+use Rattle.policy_model.specs.Settings.{is_text, is_number}
+use Rattle.account_file.specs.declared.fault.SetupFault.{SetupFault}
+use Rattle.account_file.specs.declared.fault.SetupRule.TheVariants as rules
+use Rattle.account_file.specs.declared.fault.Spot.{Spot}
+use Rattle.account_file.specs.Accounts.{new_string_of, uid_of}
+use Rattle.account_file.specs.Faults.{demand, ◌>>=◌}
+use Rattle.account_file.specs.Keys.{text_of, number_of, algo_of, width_of, seed_of, password_of, truth_of}
+use Rattle.account_file.specs.Trees.{data_of}
+use Rattle.account_file.specs.Trees as trees
+use Rattle.account_writer.specs.Tables.{algo_word, width_word, password_text, number}
+
+pub text_read : (spot : Spot) (low high : ℕ) (bytes : List ℕ) → is_text low high bytes ≡ true → text_of spot low high (Some (string bytes)) ≡ Ok bytes
+text_read spot low high bytes legal = ap (λ (b : Bool). demand spot rules.Text (then_some b bytes)) legal
+
+pub number_read : (spot : Spot) (low high n : ℕ) → is_number low high n ≡ true → number_of spot low high (Some (number n)) ≡ Ok n
+number_read spot low high n legal = ap (λ (b : Bool). demand spot rules.Range (then_some b n)) legal
+
+pub algo_read : (spot : Spot) (a : Algo) → algo_of spot (Some (string (algo_word a))) ≡ Ok a
+algo_read spot algos.Md5 = refl
+algo_read spot algos.Sha1 = refl
+
+pub width_read : (spot : Spot) (w : Width) → width_of spot (Some (string (width_word w))) ≡ Ok w
+width_read spot Narrow = refl
+width_read spot Wide = refl
+
+pub truth_read : (spot : Spot) (b : Bool) → truth_of spot (Some (boolean b)) ≡ Ok b
+truth_read spot b = refl
+
+-- a byte of a seed is a letter or a digit, and in lower case
+seed_byte : (c : ℕ) → is_seed_byte c ≡ true → (is_ascii_alphanumeric c ≡ true) × (to_ascii_lowercase c ≡ c)
+seed_byte c legal = (grind (arith, nat_tests, legal), grind (arith, nat_tests, legal))
+
+seed_bytes_pass : (bytes : List ℕ) → list_all is_seed_byte bytes ≡ true → (list_all is_ascii_alphanumeric bytes ≡ true) × (map to_ascii_lowercase bytes ≡ bytes)
+seed_bytes_pass [] legal = (refl, refl)
+seed_bytes_pass (c ∷ cs) legal =
+    let parts = and_parts (is_seed_byte c) (list_all is_seed_byte cs) legal in
+    let here = seed_byte c parts.0 in
+    let rest = seed_bytes_pass cs parts.1 in
+    (and_from _ _ here.0 rest.0, ap (λ (n : ℕ). n ∷ map to_ascii_lowercase cs) here.1 ∙ ap (λ (ns : List ℕ). c ∷ ns) rest.1)
+
+-- a seed is a seed's text, in lower case
+seed_text : (bytes : List ℕ) → is_seed bytes ≡ true → (is_seed_text bytes ≡ true) × (map to_ascii_lowercase bytes ≡ bytes)
+unfolding is_seed is_seed_text
+seed_text bytes legal =
+    let parts = and_parts (nat_le 1 (length bytes) && nat_le (length bytes) 16) (list_all is_seed_byte bytes) legal in
+    let all = seed_bytes_pass bytes parts.1 in
+    (and_from _ _ parts.0 all.0, all.1)
+
+pub seed_read : (spot : Spot) (s : Seed) → seed_of spot (Some (string (seed_bytes s))) ≡ Ok (seed_bytes s)
+seed_read spot s =
+    let is = seed_text (seed_bytes s) s.legal in
+    ap (λ (b : Bool). demand spot rules.Text (then_some b (map to_ascii_lowercase (seed_bytes s)))) is.0
+    ∙ ap (λ (bytes : List ℕ). Ok bytes) is.1
+
+-- a word's bytes are bytes
+are_bytes : (n : ℕ) → IsBytes (to_be_bytes w64 n)
+are_bytes n i = search (arith)
+
+pub password_read : (spot : Spot) (password : ℕ) → password < 2 ^ 64 → password_of spot (Some (string (password_text password))) ≡ Ok password
+password_read spot password fits =
+    ap (λ (r : Result (List ℕ) FromHexError). demand spot rules.Text (option_map (from_be_bytes w64) (result_ok r))) (decode_sized-encode_lower (to_be_bytes w64 password) 8 refl (are_bytes password))
+    ∙ ap (λ (n : ℕ). demand spot rules.Text (Some n)) (from_be_bytes-to_be_bytes_8 password fits)
+
+-- a string that passes a test, and that no other is the same as
+pub new_string_read : (spot : Spot) (test : List ℕ → Bool) (others : List (List ℕ)) (bytes : List ℕ) → test bytes ≡ true → list_any (λ other. bytes_eq other bytes) others ≡ false → new_string_of spot test others (Some (string bytes)) ≡ Ok bytes
+new_string_read spot test others bytes legal new =
+    ap (λ (b : Bool). demand spot rules.Text (then_some b bytes) >>= (λ legal. demand spot rules.Twice (then_some (not (list_any (λ other. bytes_eq other legal) others)) legal))) legal
+    ∙ ap (λ (b : Bool). demand spot rules.Twice (then_some (not b) bytes)) new
+
+pub uid_read : (spot : Spot) (others : List ℕ) (uid : ℕ) → is_number 1 4294967294 uid ≡ true → list_any (λ other. other == uid) others ≡ false → uid_of spot others (Some (number uid)) ≡ Ok uid
+uid_read spot others uid legal new =
+    ap (λ (r : Result ℕ SetupFault). r >>= (λ n. demand spot rules.Twice (then_some (not (list_any (λ other. other == n) others)) n))) (number_read spot 1 4294967294 uid legal)
+    ∙ ap (λ (b : Bool). demand spot rules.Twice (then_some (not b) uid)) new
+
+-- the items of an array that is written
+pub data_of-items : (ds : List Data) → data_of (items_of ds) ≡ ds
+data_of-items [] = refl
+data_of-items (d ∷ ds) = ap (λ (more : List Data). d ∷ more) (data_of-items ds)
+
+pub items_read : (spot : Spot) (most : ℕ) (ds : List Data) → nat_le (length ds) most ≡ true → trees.items_of spot most (array (items_of ds)) ≡ Ok ds
+items_read spot most ds few =
+    ap (λ (all : List Data). demand spot rules.Range (then_some (nat_le (length all) most) all)) (data_of-items ds)
+    ∙ ap (λ (b : Bool). demand spot rules.Range (then_some b ds)) few

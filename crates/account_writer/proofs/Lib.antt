@@ -1,0 +1,7 @@
+pub mod AccountReads
+pub mod AsciiLemmas
+pub mod CurrentLemmas
+pub mod KeyReads
+pub mod ListLemmas
+pub mod PutLemmas
+pub mod SetupReads

@@ -1,0 +1,160 @@
+-- The table of a setup is read as this setup.
+use Rattle.std.proofs.Common.{◌≡◌, ℕ, ◌+◌, ◌*◌, ◌≤◌, Bool, true, false, ◌&&◌, cond, List, [], ◌∷◌, map, length, nat_le, le-leb, eq-eqb, refl, sym, ap, ◌∙◌, arith, Option, Some, None, Result, Ok, codes, ◌==◌}
+use Rattle.std.specs.Bool.{then_some}
+use Rattle.std.specs.List.{list_all}
+use Rattle.std.specs.Option.{is_some, option_and_then, option_map}
+use Rattle.std.specs.Str.{IsUtf8}
+use Rattle.std.specs.Str.Lossy.{utf8_valid_len}
+use Rattle.std.proofs.lemmas.Bool.{and_parts, and_from}
+use Rattle.std.proofs.lemmas.Bool.Decides.{nat_tests}
+use Rattle.std.proofs.lemmas.List.{length-map}
+use Rattle.std.proofs.lemmas.Str.{utf8_valid_len-IsUtf8}
+use Rattle.toml.specs.Data.{Data, Members, array, as_integer, depth, get_member, items_depth, items_have_valid_dates, has_valid_dates, members_depth, members_have_valid_dates}
+use Rattle.toml.specs.Parse.{parse_document}
+use Rattle.toml.specs.View.{items_of}
+use Rattle.otp_hash.specs.SeedBytes.{seed_bytes}
+use Rattle.request_catalogue.specs.declared.width.Width.{Width}
+use Rattle.policy_model.specs.declared.account.Account.{Account}
+use Rattle.policy_model.specs.declared.account.Grant.{Grant}
+use Rattle.policy_model.specs.Settings.{IsInRange, Settings, are_distinct, are_numbers, are_texts, is_number, is_text}
+use Rattle.account_file.specs.declared.fault.SetupFault.{SetupFault}
+use Rattle.account_file.specs.declared.fault.SetupKey.TheVariants as keys
+use Rattle.account_file.specs.declared.fault.SetupRule.TheVariants as rules
+use Rattle.account_file.specs.Accounts.{accounts_of}
+use Rattle.account_file.specs.Entries.{AccountEntry, CountEntries, SetupEntries, TextEntries, account_entry, entries_of}
+use Rattle.account_file.specs.Faults.{demand, ◌>>=◌}
+use Rattle.account_file.specs.Keys.{number_in, number_of, text_of}
+use Rattle.account_file.specs.Setups.{all_some, banner_of, counts_of, document_of, frames_of, info_items, info_of, product_of, salt_of, settings_of, setup_keys, setup_of, texts_of, top}
+use Rattle.account_file.specs.Trees.{are_known, data_of}
+use Rattle.account_writer.specs.Tables.{account_data, account_members, grant_data, is_writable, number, setup_members}
+use Rattle.account_writer.proofs.AccountReads.{accounts_read}
+use Rattle.account_writer.proofs.KeyReads.{data_of-items, number_read, seed_read, text_read, width_read}
+
+-- 1. The parts of a setup, one after the other
+
+texts_by : (ms : Members) (socket launcher vault words banner : List ℕ)
+    → text_of (top keys.Socket) 1 100 (get_member (codes "socket") ms) ≡ Ok socket
+    → text_of (top keys.Launcher) 1 255 (get_member (codes "launcher") ms) ≡ Ok launcher
+    → text_of (top keys.Vault) 1 255 (get_member (codes "vault") ms) ≡ Ok vault
+    → text_of (top keys.Words) 1 255 (get_member (codes "words") ms) ≡ Ok words
+    → banner_of (get_member (codes "banner") ms) ≡ Ok banner
+    → texts_of ms ≡ Ok (record { socket = socket; launcher = launcher; vault = vault; words = words; banner = banner })
+texts_by ms socket launcher vault words banner a b c d e = rw (a, b, c, d, e) refl
+
+counts_by : (ms : Members) (workers connections requests tries hold : ℕ)
+    → number_of (top keys.Workers) 1 64 (get_member (codes "workers") ms) ≡ Ok workers
+    → number_of (top keys.Connections) 1 4096 (get_member (codes "connections") ms) ≡ Ok connections
+    → number_of (top keys.Requests) 8 4096 (get_member (codes "requests") ms) ≡ Ok requests
+    → number_of (top keys.Tries) 1 10 (get_member (codes "tries") ms) ≡ Ok tries
+    → number_of (top keys.Hold) 1 3600000 (get_member (codes "hold") ms) ≡ Ok hold
+    → counts_of ms ≡ Ok (record { workers = workers; connections = connections; requests = requests; tries = tries; hold = hold })
+counts_by ms workers connections requests tries hold a b c d e = rw (a, b, c, d, e) refl
+
+settings_by : (ms : Members) (texts : TextEntries) (salt : List ℕ) (frames : Width) (counts : CountEntries) (info : List ℕ) (accounts : List AccountEntry)
+    → texts_of ms ≡ Ok texts
+    → salt_of (get_member (codes "salt") ms) ≡ Ok salt
+    → frames_of (get_member (codes "frames") ms) ≡ Ok frames
+    → counts_of ms ≡ Ok counts
+    → info_of (get_member (codes "info") ms) ≡ Ok info
+    → product_of counts ≡ Ok counts
+    → accounts_of (get_member (codes "account") ms) ≡ Ok accounts
+    → settings_of ms ≡ Ok (record { texts = texts; salt = salt; frames = frames; counts = counts; info = info; accounts = accounts })
+settings_by ms texts salt frames counts info accounts a b c d e f g = rw (a, b, c, d, e, f, g) refl
+
+-- 2. Numbers of information
+
+all_integers : (info : List ℕ) → list_all (λ d. is_some (as_integer d)) (map number info) ≡ true
+all_integers [] = refl
+all_integers (n ∷ info) = all_integers info
+
+all_there : (info : List ℕ) → list_all (is_number 1 1000) info ≡ true → all_some (λ d. option_and_then (number_in 1 1000) (as_integer d)) (map number info) ≡ Some info
+all_there [] legal = refl
+all_there (n ∷ info) legal =
+    let parts = and_parts (is_number 1 1000 n) (list_all (is_number 1 1000) info) legal in
+    ap (λ (b : Bool). option_and_then (λ m. option_map (λ ms. m ∷ ms) (all_some (λ d. option_and_then (number_in 1 1000) (as_integer d)) (map number info))) (then_some b n)) parts.0
+    ∙ ap (λ (o : Option (List ℕ)). option_map (λ ms. n ∷ ms) o) (all_there info parts.1)
+
+info_by : (items : List Data) (info : List ℕ) → list_all (λ d. is_some (as_integer d)) items ≡ true → nat_le (length items) 32 ≡ true → all_some (λ d. option_and_then (number_in 1 1000) (as_integer d)) items ≡ Some info → are_distinct ◌==◌ info ≡ true → info_items items ≡ Ok info
+info_by items info integers few all distinct =
+    ap (λ (b : Bool). demand (top keys.Info) rules.Kind (then_some b items) >>= (λ integers. demand (top keys.Info) rules.Range (then_some (nat_le (length integers) 32) integers) >>= (λ few. demand (top keys.Info) rules.Range (all_some (λ d. option_and_then (number_in 1 1000) (as_integer d)) few) >>= (λ found. demand (top keys.Info) rules.Twice (then_some (are_distinct ◌==◌ found) found))))) integers
+    ∙ ap (λ (b : Bool). demand (top keys.Info) rules.Range (then_some b items) >>= (λ few. demand (top keys.Info) rules.Range (all_some (λ d. option_and_then (number_in 1 1000) (as_integer d)) few) >>= (λ found. demand (top keys.Info) rules.Twice (then_some (are_distinct ◌==◌ found) found)))) few
+    ∙ ap (λ (o : Option (List ℕ)). demand (top keys.Info) rules.Range o >>= (λ found. demand (top keys.Info) rules.Twice (then_some (are_distinct ◌==◌ found) found))) all
+    ∙ ap (λ (b : Bool). demand (top keys.Info) rules.Twice (then_some b info)) distinct
+
+info_read : (info : List ℕ) → are_numbers info ≡ true → info_of (Some (array (items_of (map number info)))) ≡ Ok info
+info_read info legal =
+    let parts = and_parts _ _ legal in
+    let first = and_parts _ _ parts.0 in
+    let few : nat_le (length (map number info)) 32 ≡ true = ap (λ (n : ℕ). nat_le n 32) (length-map info number) ∙ first.0 in
+    ap info_items (data_of-items (map number info)) ∙ info_by (map number info) info (all_integers info) few (all_there info first.1) parts.1
+
+-- 3. The whole
+
+within : (low high n : ℕ) → (low ≤ n) × (n ≤ high) → is_number low high n ≡ true
+within low high n h = grind (arith, nat_tests)
+
+product_read : (counts : CountEntries) → counts.workers * (counts.connections * (counts.requests + 3)) ≤ 1048576 → product_of counts ≡ Ok counts
+product_read counts few = ap (λ (b : Bool). demand (top keys.Requests) rules.Product (then_some b counts)) (le-leb _ _ few)
+
+pub setup_read : (s : Settings) → IsInRange s → list_all is_writable s.accounts ≡ true → settings_of (setup_members s (map account_data s.accounts)) ≡ Ok (entries_of s)
+setup_read s range writable =
+    let ms = setup_members s (map account_data s.accounts) in
+    let t4 = and_parts _ _ range.texts in
+    let t3 = and_parts _ _ t4.0 in
+    let t2 = and_parts _ _ t3.0 in
+    let t1 = and_parts _ _ t2.0 in
+    let texts = texts_by ms s.socket s.launcher s.vault s.words s.banner (text_read (top keys.Socket) 1 100 s.socket t1.0) (text_read (top keys.Launcher) 1 255 s.launcher t1.1) (text_read (top keys.Vault) 1 255 s.vault t2.1) (text_read (top keys.Words) 1 255 s.words t3.1) (text_read (top keys.Banner) 0 200 s.banner t4.1) in
+    let counts = counts_by ms s.workers s.connections s.requests s.tries s.hold (number_read (top keys.Workers) 1 64 s.workers (within 1 64 s.workers range.workers)) (number_read (top keys.Connections) 1 4096 s.connections (within 1 4096 s.connections range.connections)) (number_read (top keys.Requests) 8 4096 s.requests (within 8 4096 s.requests range.requests)) (number_read (top keys.Tries) 1 10 s.tries (within 1 10 s.tries range.tries)) (number_read (top keys.Hold) 1 3600000 s.hold (within 1 3600000 s.hold range.hold)) in
+    settings_by ms _ (seed_bytes s.salt) s.frames _ s.info (map account_entry s.accounts) texts (seed_read (top keys.Salt) s.salt) (width_read (top keys.Frames) s.frames) counts (info_read s.info range.info) (product_read _ range.product) (accounts_read s.accounts range.accounts writable)
+
+keys_known : (s : Settings) (accounts : List Data) → are_known setup_keys (setup_members s accounts) ≡ true
+keys_known s accounts = refl
+
+-- what follows from a document's entries
+abbrev known_of : Members → Result SetupEntries SetupFault
+known_of entries = demand (top keys.Other) rules.Unknown (then_some (are_known setup_keys entries) entries) >>= settings_of
+
+-- a text that parses is the setup of its table
+document_read : (bytes : List ℕ) (ms : Members) (e : SetupEntries) → IsUtf8 bytes → parse_document bytes ≡ Some ms → are_known setup_keys ms ≡ true → settings_of ms ≡ Ok e → setup_of bytes ≡ Ok e
+unfolding setup_of
+document_read bytes ms e utf8 parsed known is =
+    let test : (utf8_valid_len bytes == length bytes) ≡ true = eq-eqb (utf8_valid_len bytes) (length bytes) (utf8_valid_len-IsUtf8 bytes utf8) in
+    ap (λ (t : Bool). demand (top keys.File) rules.NotToml (cond t (parse_document bytes) None) >>= known_of) test
+    ∙ ap (λ (o : Option Members). demand (top keys.File) rules.NotToml o >>= known_of) parsed
+    ∙ ap (λ (b : Bool). demand (top keys.Other) rules.Unknown (then_some b ms) >>= settings_of) known
+    ∙ is
+
+pub text_is_setup : (bytes : List ℕ) (s : Settings) → IsUtf8 bytes → parse_document bytes ≡ Some (setup_members s (map account_data s.accounts)) → IsInRange s → list_all is_writable s.accounts ≡ true → setup_of bytes ≡ Ok (entries_of s)
+text_is_setup bytes s utf8 parsed range writable = document_read bytes (setup_members s (map account_data s.accounts)) (entries_of s) utf8 parsed (keys_known s (map account_data s.accounts)) (setup_read s range writable)
+
+-- 4. The table is flat, and has no dates
+
+numbers_flat : (info : List ℕ) → items_depth (items_of (map number info)) ≤ 0
+numbers_flat [] = omega arith
+numbers_flat (n ∷ info) = omega (arith, numbers_flat info)
+
+grants_flat : (gs : List Grant) → items_depth (items_of (map grant_data gs)) ≤ 1
+grants_flat [] = omega arith
+grants_flat (g ∷ gs) = omega (arith, grants_flat gs)
+
+accounts_flat : (accounts : List Account) → items_depth (items_of (map account_data accounts)) ≤ 3
+accounts_flat [] = omega arith
+accounts_flat (a ∷ accounts) = omega (arith, grants_flat a.grants, accounts_flat accounts)
+
+pub setup_flat : (s : Settings) (accounts : List Account) → members_depth (setup_members s (map account_data accounts)) ≤ 80
+setup_flat s accounts = omega (arith, accounts_flat accounts, numbers_flat s.info)
+
+numbers_dated : (info : List ℕ) → items_have_valid_dates (items_of (map number info)) ≡ true
+numbers_dated [] = refl
+numbers_dated (n ∷ info) = numbers_dated info
+
+grants_dated : (gs : List Grant) → items_have_valid_dates (items_of (map grant_data gs)) ≡ true
+grants_dated [] = refl
+grants_dated (g ∷ gs) = grants_dated gs
+
+accounts_dated : (accounts : List Account) → items_have_valid_dates (items_of (map account_data accounts)) ≡ true
+accounts_dated [] = refl
+accounts_dated (a ∷ accounts) = rw (grants_dated a.grants, accounts_dated accounts) refl
+
+pub setup_dated : (s : Settings) (accounts : List Account) → members_have_valid_dates (setup_members s (map account_data accounts)) ≡ true
+setup_dated s accounts = rw (accounts_dated accounts, numbers_dated s.info) refl

@@ -1,0 +1,35 @@
+-- Believed: a setup with what a ledger knows of its accounts.
+use Rattle.std.specs.Prelude.{ℕ, ◌≡◌, List, map, Ok}
+use Rattle.std.specs.List.{zip}
+use Rattle.policy_model.specs.declared.account.Account.{Account}
+use Rattle.policy_model.specs.declared.event.Event.{Event}
+use Rattle.policy_model.specs.Logins.{current_password, current_sequence}
+use Rattle.policy_model.specs.Settings.{Settings}
+use Rattle.otp_ledger.specs.Accounts.{AccountState, LedgerParts, current_of}
+use Rattle.otp_ledger.specs.Standing.{StandsFor}
+use Rattle.account_file.specs.Entries.{entries_of}
+use Rattle.account_file.specs.Setups.{setup_of}
+
+-- an account with the sequence and the password that are known of it
+abbrev pub current_account : Account → AccountState → Account
+current_account a state = record a { sequence = state.sequence; password = current_of state }
+
+-- the accounts with what is known of each, one beside the other
+abbrev pub current_accounts : List Account → List AccountState → List Account
+current_accounts accounts states = map (λ p. current_account p.0 p.1) (zip accounts states)
+
+-- a setup with each account's sequence and password as they are known, and all else as it was
+abbrev pub current_setup : Settings → List AccountState → Settings
+current_setup setup states = record setup { accounts = current_accounts setup.accounts states }
+
+-- an account with the sequence and the password that a journal says of it
+abbrev pub account_after : List Event → Account → Account
+account_after journal a = record a { sequence = current_sequence journal a; password = current_password journal a }
+
+-- the setup after a journal: each account's sequence and password as the journal says, and all else as it was
+abbrev pub setup_after : Settings → List Event → Settings
+setup_after setup journal = record setup { accounts = map (account_after journal) setup.accounts }
+
+-- bytes spell the setup after each journal that a ledger stands for
+pub record IsSetupAfter (setup : Settings) (l : LedgerParts) (bytes : List ℕ) : Type 0 where
+  pub by_journal : (journal : List Event) → StandsFor l journal → setup_of bytes ≡ Ok (entries_of (setup_after setup journal))

@@ -1,0 +1,2 @@
+pub mod CurrentSetup
+pub mod Tables

@@ -1,0 +1,96 @@
+-- Inner: the tables that are printed for the parts of a setup.
+use Rattle.std.specs.Prelude.{ℕ, pos, Bool, ◌&&◌, List, map, codes, nat_le, nat_lt}
+use Rattle.std.specs.Cmp.Lexicographic.{slice_cmp}
+use Rattle.std.specs.Int.{w64, to_be_bytes}
+use Rattle.std.specs.Ordering.{nat_cmp, match_ordering}
+use Rattle.hex.specs.Hex.{encode_lower}
+use Rattle.otp_hash.specs.declared.chain.Algo.{Algo}
+use Rattle.otp_hash.specs.declared.chain.Algo.TheVariants as algos
+use Rattle.otp_hash.specs.SeedBytes.{seed_bytes}
+use Rattle.request_catalogue.specs.declared.width.Width.{Width}
+use Rattle.request_catalogue.specs.declared.width.Width.TheVariants.{Narrow, Wide}
+use Rattle.request_catalogue.specs.TextBytes.{name_bytes, label_bytes}
+use Rattle.policy_model.specs.declared.account.Account.{Account}
+use Rattle.policy_model.specs.declared.account.Grant.{Grant}
+use Rattle.policy_model.specs.Settings.{Settings}
+use Rattle.otp_ledger.specs.declared.ledger.Current.{Current}
+use Rattle.toml.specs.Data.{Data, string, integer, boolean, array, table, Members, no_members, member}
+use Rattle.toml.specs.View.{items_of}
+
+-- members with a value at a key, in the order of their keys
+abbrev pub put_member : List ℕ → Data → Members → Members
+put_member k d no_members = member k d no_members
+put_member k d (member l e ms) = match_ordering (slice_cmp nat_cmp k l) (member k d (member l e ms)) (member l d ms) (member l e (put_member k d ms))
+
+-- the word of an algorithm
+abbrev pub algo_word : Algo → List ℕ
+algo_word algos.Md5 = codes "md5"
+algo_word algos.Sha1 = codes "sha1"
+
+-- the word of a width
+abbrev pub width_word : Width → List ℕ
+width_word Narrow = codes "narrow"
+width_word Wide = codes "wide"
+
+-- a password in 16 hexadecimal digits, the most significant first
+abbrev pub password_text : ℕ → List ℕ
+password_text password = encode_lower (to_be_bytes w64 password)
+
+-- a whole number
+abbrev pub number : ℕ → Data
+number n = integer (pos n)
+
+-- the table of a grant
+abbrev pub grant_members : Grant → Members
+grant_members g = put_member (codes "mode") (number g.mode) (put_member (codes "name") (string (label_bytes g.name)) no_members)
+
+abbrev pub grant_data : Grant → Data
+grant_data g = table (grant_members g)
+
+-- the table of an account
+abbrev pub account_members : Account → Members
+account_members a =
+    put_member (codes "grants") (array (items_of (map grant_data a.grants)))
+    (put_member (codes "enabled") (boolean a.enabled)
+    (put_member (codes "password") (string (password_text a.password))
+    (put_member (codes "sequence") (number a.sequence)
+    (put_member (codes "seed") (string (seed_bytes a.seed))
+    (put_member (codes "algorithm") (string (algo_word a.algo))
+    (put_member (codes "uid") (number a.uid)
+    (put_member (codes "name") (string (name_bytes a.name)) no_members)))))))
+
+abbrev pub account_data : Account → Data
+account_data a = table (account_members a)
+
+-- an account with what its chain has come to
+abbrev pub with_current : Account → Current → Account
+with_current a current = record a { sequence = current.sequence; password = current.password }
+
+-- the texts of a setup, behind other members
+abbrev pub put_texts : Settings → Members → Members
+put_texts s ms =
+    put_member (codes "frames") (string (width_word s.frames))
+    (put_member (codes "salt") (string (seed_bytes s.salt))
+    (put_member (codes "banner") (string s.banner)
+    (put_member (codes "words") (string s.words)
+    (put_member (codes "vault") (string s.vault)
+    (put_member (codes "launcher") (string s.launcher)
+    (put_member (codes "socket") (string s.socket) ms))))))
+
+-- the numbers of a setup, behind other members
+abbrev pub put_counts : Settings → Members → Members
+put_counts s ms =
+    put_member (codes "info") (array (items_of (map number s.info)))
+    (put_member (codes "hold") (number s.hold)
+    (put_member (codes "tries") (number s.tries)
+    (put_member (codes "requests") (number s.requests)
+    (put_member (codes "connections") (number s.connections)
+    (put_member (codes "workers") (number s.workers) ms)))))
+
+-- the table of a setup, with the tables of its accounts
+abbrev pub setup_members : Settings → List Data → Members
+setup_members s accounts = put_member (codes "account") (array (items_of accounts)) (put_counts s (put_texts s no_members))
+
+-- an account's sequence and password can be written
+abbrev pub is_writable : Account → Bool
+is_writable a = nat_le a.sequence 9999 && nat_lt a.password 18446744073709551616

@@ -1,0 +1,103 @@
+//! The tables of a setup file.
+
+ghost use Rattle.std.specs.Prelude.{◌≡◌, ◌≤◌, IfOk, OnOk, map, true};
+ghost use Rattle.toml.specs.View.{table_view, view};
+ghost use Rattle.account_writer.specs.Tables.{account_members, grant_data, grant_members, is_writable, number, put_counts, put_texts, with_current};
+
+use crate::values::{
+    algo_value, label_value, name_value, password_value, put, seed_value, width_value,
+};
+use otp_ledger::Current;
+use policy_model::{Account, Grant, SetupParts};
+use std::alloc::{AllocError, Global};
+use toml::{Table, Value};
+
+/// The table of a grant.
+fn grant_table(alloc: Global, grant: &Grant) -> Result<Table, AllocError>
+    ensures { IfOk result (λ table. table_view table ≡ grant_members grant.now) }
+{
+    let mut table = Table::new(alloc);
+    put(alloc, &mut table, "name", label_value(alloc, &grant.name)?)?;
+    put(alloc, &mut table, "mode", Value::from(grant.mode))?;
+    Ok(table)
+}
+
+/// The tables of grants.
+fn grant_values(alloc: Global, grants: &[Grant]) -> Result<Vec<Value>, AllocError>
+    ensures { IfOk result (λ values. map view values.items ≡ map grant_data grants.now) }
+{
+    let mut values = Vec::with_capacity(alloc, grants.len())?;
+    for grant in grants {
+        let table = grant_table(alloc, grant)?;
+        values.push(Value::from(table))?;
+    }
+    Ok(values)
+}
+
+/// The table of an account, with the sequence and the password that its chain has come to.
+pub(crate) fn account_table(
+    alloc: Global,
+    account: &Account,
+    current: Current,
+) -> Result<Table, AllocError>
+    requires { current.sequence ≤ 9999 }
+    ensures table { IfOk result (λ table. table_view table ≡ account_members (with_current account.now current)) }
+    ensures writable { is_writable (with_current account.now current) ≡ true }
+{
+    let mut table = Table::new(alloc);
+    put(alloc, &mut table, "name", name_value(alloc, &account.name)?)?;
+    put(alloc, &mut table, "uid", Value::from(account.uid))?;
+    put(alloc, &mut table, "algorithm", algo_value(alloc, account.algo)?)?;
+    put(alloc, &mut table, "seed", seed_value(alloc, &account.seed)?)?;
+    put(alloc, &mut table, "sequence", Value::from(u32::from(current.sequence)))?;
+    put(alloc, &mut table, "password", password_value(alloc, current.password)?)?;
+    put(alloc, &mut table, "enabled", Value::from(account.enabled))?;
+    let grants = grant_values(alloc, account.grants.as_slice())?;
+    put(alloc, &mut table, "grants", Value::from(grants))?;
+    Ok(table)
+}
+
+/// Puts the texts of a setup, and what is written as one.
+pub(crate) fn put_texts(
+    alloc: Global,
+    table: &mut Table,
+    parts: &SetupParts,
+) -> Result<(), AllocError>
+    ensures { OnOk result (table_view table.new ≡ put_texts parts.now (table_view table.old)) }
+{
+    put(alloc, table, "socket", Value::string(alloc, parts.socket.as_str())?)?;
+    put(alloc, table, "launcher", Value::string(alloc, parts.launcher.as_str())?)?;
+    put(alloc, table, "vault", Value::string(alloc, parts.vault.as_str())?)?;
+    put(alloc, table, "words", Value::string(alloc, parts.words.as_str())?)?;
+    put(alloc, table, "banner", Value::string(alloc, parts.banner.as_str())?)?;
+    put(alloc, table, "salt", seed_value(alloc, &parts.salt)?)?;
+    put(alloc, table, "frames", width_value(alloc, parts.frames)?)
+}
+
+/// Puts the numbers of a setup.
+pub(crate) fn put_counts(
+    alloc: Global,
+    table: &mut Table,
+    parts: &SetupParts,
+) -> Result<(), AllocError>
+    ensures { OnOk result (table_view table.new ≡ put_counts parts.now (table_view table.old)) }
+{
+    put(alloc, table, "workers", Value::from(parts.workers))?;
+    put(alloc, table, "connections", Value::from(parts.connections))?;
+    put(alloc, table, "requests", Value::from(parts.requests))?;
+    put(alloc, table, "tries", Value::from(parts.tries))?;
+    put(alloc, table, "hold", Value::from(parts.hold))?;
+    let info = number_values(alloc, parts.info.as_slice())?;
+    put(alloc, table, "info", Value::from(info))
+}
+
+/// Numbers as values.
+fn number_values(alloc: Global, numbers: &[u32]) -> Result<Vec<Value>, AllocError>
+    ensures { IfOk result (λ values. map view values.items ≡ map number numbers.now) }
+{
+    let mut values = Vec::with_capacity(alloc, numbers.len())?;
+    for number in numbers {
+        values.push(Value::from(*number))?;
+    }
+    Ok(values)
+}
