@@ -16,3 +16,5 @@ pub mod LoggedIn
 pub mod Numbers
 pub mod Rooms
 pub mod NextEvents
+pub mod Settling
+pub mod Judging

@@ -14,7 +14,7 @@ use Rattle.policy_model.specs.Logins.{account_of, challenged_user, holder_of, wa
 use Rattle.policy_model.specs.Phases.{phase_of}
 use Rattle.policy_model.specs.Settings.{IsInRange, Settings, account_number, are_distinct, is_account, same_name}
 use Rattle.policy_model.specs.Verdict.{is_holder}
-use Rattle.session_laws.specs.Numbered.{HoldsOnly, IsNumbered}
+use Rattle.session_laws.specs.Numbered.{HoldsNone, HoldsOnly, IsNumbered}
 use Rattle.session_laws.specs.Tied.{IsTied}
 use Rattle.session_laws.proofs.Holders.{decoyed_holds_none, legal_tied, unchallenged_holds_none}
 use Rattle.session_laws.proofs.Permits.{found_name, same_name-same, same_some}
@@ -122,7 +122,7 @@ number_at setup number account r stands =
 
 -- 4. What a session holds, by numbers
 
-holds_is : (session : ℕ) (o : Option ℕ) → is_holder session o ≡ true → o ≡ Some session
+pub holds_is : (session : ℕ) (o : Option ℕ) → is_holder session o ≡ true → o ≡ Some session
 holds_is session None h = absurd cc
 holds_is session (Some holder) h = ap Some (eqb-true holder session h)
 
@@ -142,8 +142,8 @@ holds_only setup journal session number user r legal challenged is = record {
 }
 
 -- one that was challenged by a decoy holds none, and one that isn't in Challenged
-pub decoyed_holds : (setup : Settings) (journal : List Event) (session : ℕ) → IsLegal setup journal → was_decoyed journal session ≡ true → (user : Name) → is_holder session (holder_of journal user) ≡ false
-decoyed_holds setup journal session legal decoyed user = not_holder session (holder_of journal user) (decoyed_holds_none setup journal legal session decoyed user)
+pub decoyed_holds : (setup : Settings) (journal : List Event) (session : ℕ) → IsLegal setup journal → was_decoyed journal session ≡ true → HoldsNone journal session
+decoyed_holds setup journal session legal decoyed = record { none = λ user. not_holder session (holder_of journal user) (decoyed_holds_none setup journal legal session decoyed user) }
 
-pub unchallenged_holds : (setup : Settings) (journal : List Event) (session : ℕ) → IsLegal setup journal → phase_of journal session ≢ Challenged → (user : Name) → is_holder session (holder_of journal user) ≡ false
-unchallenged_holds setup journal session legal other user = not_holder session (holder_of journal user) (unchallenged_holds_none setup journal legal session other user)
+pub unchallenged_holds : (setup : Settings) (journal : List Event) (session : ℕ) → IsLegal setup journal → phase_of journal session ≢ Challenged → HoldsNone journal session
+unchallenged_holds setup journal session legal other = record { none = λ user. not_holder session (holder_of journal user) (unchallenged_holds_none setup journal legal session other user) }

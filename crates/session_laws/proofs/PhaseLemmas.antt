@@ -6,6 +6,7 @@ use Rattle.policy_model.specs.declared.phase.Phase.TheVariants.{Pre, Challenged,
 use Rattle.policy_model.specs.Asks.{accepts, ends_session, exports, is_login_step, opens, takes}
 use Rattle.policy_model.specs.Journal.{has_event, last_event}
 use Rattle.policy_model.specs.Phases.{is_over, is_taking, phase_of}
+use Rattle.session_laws.specs.Judged.{is_over_phase}
 use Rattle.session_laws.specs.Phased.{IsPhasedBy, phase_after}
 use Rattle.session_laws.proofs.SessionEvents.{has_event-other, has_event-own, is_over-other, is_over-own, last_event-other, last_event-own}
 
@@ -110,10 +111,6 @@ phase_tests journal session phase h =
     subst (λ p. TestsOf p o u v t) (sym (phase_is journal session o u v t refl refl refl refl) ∙ h) (tests_by o u v t)
 
 -- a session is over just where its phase is Over
-abbrev pub is_over_phase : Phase → Bool
-is_over_phase Over = true
-is_over_phase _ = false
-
 over_by : (o u v t : Bool) → is_over_phase (chain o u v t) ≡ o
 over_by true u v t = refl
 over_by false true v t = refl

@@ -1,8 +1,9 @@
 pub mod Phased
+pub mod Judged
+pub mod Early
 pub mod Handled
 pub mod Opened
-pub mod Tied
-pub mod LoggedIn
 pub mod Counted
+pub mod LoggedIn
 pub mod Numbered
-pub mod Early
+pub mod Tied
