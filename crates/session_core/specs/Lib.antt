@@ -1,0 +1,4 @@
+pub mod Parts
+pub mod Deciding
+pub mod Settling
+pub mod Standing
