@@ -1,16 +1,17 @@
 -- Files of different handles, and the handles that are left.
-use Rattle.std.proofs.Common.{◌≡◌, ℕ, zero, suc, ◌+◌, ◌<◌, ◌≤◌, Bool, true, false, ◌&&◌, ◌||◌, ◌==◌, not, cond, eqb, List, [], ◌∷◌, ◌++◌, length, Option, Some, None, is_none, unwrap_or, refl, sym, ap, subst, ◌∙◌, arith}
+use Rattle.std.proofs.Common.{◌≡◌, ℕ, zero, suc, ◌+◌, ◌<◌, ◌≤◌, Bool, true, false, ◌&&◌, ◌||◌, ◌==◌, not, cond, eqb, List, [], ◌∷◌, ◌++◌, length, nat_le, Option, Some, None, is_none, unwrap_or, refl, sym, ap, subst, ◌∙◌, arith}
 use Rattle.std.specs.List.{find, list_any}
 use Rattle.std.proofs.lemmas.Bool.Decides.{nat_tests}
-use Rattle.request_catalogue.specs.Rules.{mode_not_granted}
+use Rattle.request_catalogue.specs.declared.texts.Label.{Label}
+use Rattle.request_catalogue.specs.Rules.{handles_spent, mode_not_granted}
 use Rattle.policy_model.specs.declared.account.Grant.{Grant}
 use Rattle.policy_model.specs.declared.event.Decision.{Decision}
 use Rattle.policy_model.specs.declared.event.Decision.TheVariants.{Permit, Deny, Lost}
 use Rattle.policy_model.specs.Handles.{handle_numbers}
-use Rattle.policy_model.specs.Settings.{are_distinct}
+use Rattle.policy_model.specs.Settings.{are_distinct, same_label}
 use Rattle.policy_model.specs.Verdict.{allows, grant_verdict}
 use Rattle.session_table.specs.declared.handles.LiveHandle.{LiveHandle}
-use Rattle.session_table.specs.Files.{AreHandles, AreUpTo, IsNewHandle, file_at, free_of, is_free, without}
+use Rattle.session_table.specs.Files.{AreHandles, AreUpTo, IsNewHandle, file_at, free_of, is_free, open_decision, without}
 
 -- a test of the first file and of those behind it
 free_cons : (handle : ℕ) (file : LiveHandle) (live : List LiveHandle) → is_free handle (file ∷ live) ≡ (not (file.handle == handle) && is_free handle live)
@@ -19,7 +20,7 @@ free_cons handle file live = go (file.handle == handle) where
   go true = refl
   go false = refl
 
-and_parts : (a b : Bool) → (a && b) ≡ true → (a ≡ true) × (b ≡ true)
+pub and_parts : (a b : Bool) → (a && b) ≡ true → (a ≡ true) × (b ≡ true)
 and_parts true b h = (refl, h)
 and_parts false b h = absurd cc
 
@@ -175,9 +176,15 @@ least_is_free live lt = go (find (λ n. is_free n live) handle_numbers) refl whe
   go (Some n) h = found_number (λ k. is_free k live) handle_numbers n numbers h
 
 -- what a permitted OPEN gives
-pub granted_is_new : (live : List LiveHandle) (grant : Option Grant) (mode : ℕ) → length live < 8 → IsNewHandle live (grant_verdict (free_of live) mode grant)
+granted_is_new : (live : List LiveHandle) (grant : Option Grant) (mode : ℕ) → length live < 8 → IsNewHandle live (grant_verdict (free_of live) mode grant)
 granted_is_new live None mode lt = tt
 granted_is_new live (Some grant) mode lt = go (allows grant.mode mode) where
   go : (b : Bool) → IsNewHandle live (cond b (Permit (free_of live)) (Deny mode_not_granted mode))
   go true = least_is_free live lt
   go false = tt
+
+pub open_is_new : (live : List LiveHandle) (grants : List Grant) (mode : ℕ) (name : Label) → IsNewHandle live (open_decision live grants mode name)
+open_is_new live grants mode name = go (nat_le 8 (length live)) refl where
+  go : (b : Bool) → nat_le 8 (length live) ≡ b → IsNewHandle live (cond b (Deny handles_spent 8) (grant_verdict (free_of live) mode (find (λ g. same_label g.name name) grants)))
+  go true is = tt
+  go false is = granted_is_new live (find (λ g. same_label g.name name) grants) mode (grind (arith, nat_tests, is))

@@ -1,3 +1,5 @@
 pub mod FileLemmas
 pub mod RowLemmas
+pub mod FitLemmas
 pub mod TableLemmas
+pub mod VerdictLemmas

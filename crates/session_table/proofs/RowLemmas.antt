@@ -388,5 +388,7 @@ pub stands_after : (row : SessionRow) (e : Event) (number grant : ℕ) → Stand
 stands_after row e number grant = record { by_journal = λ setup journal r f. row_own setup row journal e number grant r f }
 
 pub stands_new : (session : ℕ) → StandsNew session (new_row session)
-stands_new session = record { by_journal = λ setup journal e numbered opened is next.
-    subst (λ s. RowStands setup (new_row s) (journal ++ e ∷ []) s) is (row_new setup journal e numbered opened (is ∙ next)) }
+stands_new session = record {
+  by_journal = λ setup journal e numbered opened is next.
+      subst (λ s. RowStands setup (new_row s) (journal ++ e ∷ []) s) is (row_new setup journal e numbered opened (is ∙ next));
+}

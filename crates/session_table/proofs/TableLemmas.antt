@@ -8,13 +8,15 @@ use Rattle.policy_model.specs.declared.event.Decision.{Decision}
 use Rattle.policy_model.specs.declared.event.Event.{Event}
 use Rattle.policy_model.specs.Asks.{is_begin, is_end, is_lost, is_permit, opens}
 use Rattle.policy_model.specs.Journal.{open_session_of, openings_of}
-use Rattle.policy_model.specs.Legal.{session_of}
+use Rattle.policy_model.specs.Legal.{IsNext, session_of}
 use Rattle.policy_model.specs.Settings.{Settings}
+use Rattle.policy_model.proofs.Runs.{next_session}
 use Rattle.session_laws.proofs.Openings.{AreApart-push, not_of_other, numbered-push, open_session-ended, open_session-kept, open_session-opened, open_session-other, openings-kept, openings-opened, session_new, session_own}
 use Rattle.session_table.specs.declared.rows.SessionRow.{SessionRow}
 use Rattle.session_table.specs.Rows.{new_row, row_after}
-use Rattle.session_table.specs.Standing.{FitsRow, RowStands}
-use Rattle.session_table.specs.Tables.{Follows, StandsBegun, StandsEnded, StandsKept, StandsOpen, TableParts, TableStands, WorkerStands, new_table, row_at, table_after, table_begun, table_ended, worker_after}
+use Rattle.session_table.specs.Standing.{NamesFit, RowStands}
+use Rattle.session_table.specs.Tables.{Follows, NamesFound, StandsBegun, StandsEnded, StandsKept, StandsOpen, TableParts, TableStands, WorkerStands, new_table, row_at, table_after, table_begun, table_ended, worker_after}
+use Rattle.session_table.proofs.FitLemmas.{fits_row}
 use Rattle.session_table.proofs.RowLemmas.{row_new, row_other, row_own}
 
 -- no worker has a session before the first event
@@ -78,34 +80,42 @@ ended_stands setup table journal e st below is kept end permit =
     (open_session-ended journal e end permit)
 
 -- the worker has an event that neither opens nor ends its session
-kept_stands : (setup : Settings) (table : TableParts) (journal : List Event) (e : Event) (number grant : ℕ) → TableStands setup table journal → e.worker < setup.workers → e.session ≡ session_of journal e.worker e.ask e.decision → is_lost e.decision ≡ false → opens e ≡ false → (is_end e.ask && is_permit e.decision) ≡ false → ((row : SessionRow) → row_at table e.worker ≡ Some row → FitsRow setup row e number grant) → TableStands setup (table_after table e.worker e number grant) (journal ++ e ∷ [])
-kept_stands setup table journal e number grant st below is kept closed unended fits =
-    table_push setup table journal e (worker_after (row_at table e.worker) e number grant) table.begun st below is kept
+kept_stands : (setup : Settings) (table : TableParts) (journal : List Event) (e : Event) (number grant : ℕ) → TableStands setup table journal → e.worker < setup.workers → IsNext setup journal e → is_lost e.decision ≡ false → opens e ≡ false → (is_end e.ask && is_permit e.decision) ≡ false → NamesFound setup (row_at table e.worker) e number grant → TableStands setup (table_after table e.worker e number grant) (journal ++ e ∷ [])
+kept_stands setup table journal e number grant st below next kept closed unended names =
+    table_push setup table journal e (worker_after (row_at table e.worker) e number grant) table.begun st below (next_session setup journal e next) kept
     (st.begun ∙ sym (openings-kept journal e closed))
-    (subst (λ s. WorkerStands setup (worker_after (row_at table e.worker) e number grant) (journal ++ e ∷ []) s) (sym (open_session-kept journal e closed unended)) (go (row_at table e.worker) (st.rows e.worker below) fits)) where
+    (subst (λ s. WorkerStands setup (worker_after (row_at table e.worker) e number grant) (journal ++ e ∷ []) s) (sym (open_session-kept journal e closed unended)) (go (row_at table e.worker) (st.rows e.worker below) names.names)) where
       own : e.session ≡ open_session_of journal e.worker
-      own = session_own journal e is kept closed
+      own = session_own journal e (next_session setup journal e next) kept closed
 
-      go : (o : Option SessionRow) → WorkerStands setup o journal (open_session_of journal e.worker) → ((row : SessionRow) → o ≡ Some row → FitsRow setup row e number grant) → WorkerStands setup (worker_after o e number grant) (journal ++ e ∷ []) (open_session_of journal e.worker)
-      go None st fits = st
-      go (Some row) st fits = (st.0, subst (λ s. RowStands setup (row_after row e number grant) (journal ++ e ∷ []) s) own (row_own setup row journal e number grant (subst (λ s. RowStands setup row journal s) (sym own) st.1) (fits row refl)))
+      go : (o : Option SessionRow) → WorkerStands setup o journal (open_session_of journal e.worker) → ((row : SessionRow) → o ≡ Some row → NamesFit setup row e number grant) → WorkerStands setup (worker_after o e number grant) (journal ++ e ∷ []) (open_session_of journal e.worker)
+      go None w fits = w
+      go (Some row) w fits =
+          let here : RowStands setup row journal e.session = subst (λ s. RowStands setup row journal s) (sym own) w.1 in
+          (w.0, subst (λ s. RowStands setup (row_after row e number grant) (journal ++ e ∷ []) s) own (row_own setup row journal e number grant here (fits_row setup row journal e number grant here next closed (fits row refl))))
 
 -- the clauses
 pub stands_open : (workers : ℕ) → StandsOpen workers (new_table workers)
 stands_open workers = record { by_setup = λ setup same. subst (λ n. TableStands setup (new_table n) []) same (table_new setup) }
 
-within : (setup : Settings) (table : TableParts) (journal : List Event) (worker : ℕ) (e : Event) → worker < length table.rows → TableStands setup table journal → Follows journal worker e → e.worker < setup.workers
+within : (setup : Settings) (table : TableParts) (journal : List Event) (worker : ℕ) (e : Event) → worker < length table.rows → TableStands setup table journal → Follows setup journal worker e → e.worker < setup.workers
 within setup table journal worker e lt st f = omega (arith, lt, st.workers, f.by)
 
 pub stands_begun : (table : TableParts) (worker : ℕ) → worker < length table.rows → StandsBegun table worker (table_begun table worker)
-stands_begun table worker lt = record { by_journal = λ setup journal e st f opened.
-    subst (λ w. TableStands setup (table_begun table w) (journal ++ e ∷ [])) f.by (begun_stands setup table journal e st (within setup table journal worker e lt st f) f.session f.kept opened) }
+stands_begun table worker lt = record {
+  by_journal = λ setup journal e st f opened.
+      subst (λ w. TableStands setup (table_begun table w) (journal ++ e ∷ [])) f.by (begun_stands setup table journal e st (within setup table journal worker e lt st f) (next_session setup journal e f.next) f.kept opened);
+}
 
 pub stands_ended : (table : TableParts) (worker : ℕ) → worker < length table.rows → StandsEnded table worker (table_ended table worker)
-stands_ended table worker lt = record { by_journal = λ setup journal e st f end permit.
-    subst (λ w. TableStands setup (table_ended table w) (journal ++ e ∷ [])) f.by (ended_stands setup table journal e st (within setup table journal worker e lt st f) f.session f.kept end permit) }
+stands_ended table worker lt = record {
+  by_journal = λ setup journal e st f end permit.
+      subst (λ w. TableStands setup (table_ended table w) (journal ++ e ∷ [])) f.by (ended_stands setup table journal e st (within setup table journal worker e lt st f) (next_session setup journal e f.next) f.kept end permit);
+}
 
 pub stands_kept : (table : TableParts) (worker : ℕ) (e : Event) (number grant : ℕ) → worker < length table.rows → StandsKept table worker e number grant (table_after table worker e number grant)
-stands_kept table worker e number grant lt = record { by_journal = λ setup journal st f closed unended fits.
-    subst (λ w. TableStands setup (table_after table w e number grant) (journal ++ e ∷ [])) f.by
-    (kept_stands setup table journal e number grant st (within setup table journal worker e lt st f) f.session f.kept closed unended (λ row at. fits row (ap (row_at table) (sym f.by) ∙ at))) }
+stands_kept table worker e number grant lt = record {
+  by_journal = λ setup journal st f closed unended names.
+      subst (λ w. TableStands setup (table_after table w e number grant) (journal ++ e ∷ [])) f.by
+      (kept_stands setup table journal e number grant st (within setup table journal worker e lt st f) f.next f.kept closed unended (record { names = λ row at. names.names row (ap (row_at table) (sym f.by) ∙ at) }));
+}

@@ -1,8 +1,8 @@
 -- The files that a session has open, as a list.
-use Rattle.std.specs.Prelude.{ℕ, ◌≡◌, ◌++◌, ◌≤◌, ◌==◌, Bool, true, List, [], ◌∷◌, filter, length, not, Option, Some, None, is_none, nat_le, unwrap_or, if◌then◌else◌}
+use Rattle.std.specs.Prelude.{ℕ, ◌≡◌, ◌++◌, ◌≤◌, ◌==◌, ◌||◌, Bool, true, List, [], ◌∷◌, filter, length, not, Option, Some, None, is_none, nat_le, unwrap_or, if◌then◌else◌}
 use Rattle.std.specs.List.{find}
 use Rattle.request_catalogue.specs.declared.texts.Label.{Label}
-use Rattle.request_catalogue.specs.Rules.{handles_spent}
+use Rattle.request_catalogue.specs.Rules.{handles_spent, mode_lacking, no_handle}
 use Rattle.policy_model.specs.declared.account.Grant.{Grant}
 use Rattle.policy_model.specs.declared.event.Ask.{Ask}
 use Rattle.policy_model.specs.declared.event.Ask.TheVariants as asks
@@ -12,7 +12,7 @@ use Rattle.policy_model.specs.declared.event.Event.{Event}
 use Rattle.policy_model.specs.Asks.{handle_of, is_permit, mode_of, opens_file, value_of}
 use Rattle.policy_model.specs.Handles.{handle_numbers}
 use Rattle.policy_model.specs.Settings.{same_label}
-use Rattle.policy_model.specs.Verdict.{grant_verdict}
+use Rattle.policy_model.specs.Verdict.{allows, grant_verdict}
 use Rattle.session_table.specs.declared.handles.LiveHandle.{LiveHandle}
 
 -- the file with this handle
@@ -50,6 +50,19 @@ open_decision live grants mode name =
 abbrev pub IsNewHandle : List LiveHandle → Decision → Type 0
 IsNewHandle live (Permit value) = (1 ≤ value) × (value ≤ 8) × (is_free value live ≡ true)
 IsNewHandle live _ = Unit {0}
+
+-- the decision on a use of a file: rules 17 and 18
+abbrev pub use_by : ℕ → ℕ → Option LiveHandle → Decision
+use_by handle needed None = Deny no_handle handle
+use_by handle needed (Some file) = if allows file.mode needed then Permit 0 else Deny mode_lacking handle
+
+-- the decision on a READ or WRITE; 0 is the client's connection
+abbrev pub use_decision : List LiveHandle → ℕ → ℕ → Decision
+use_decision live handle needed = if handle == 0 then Permit 0 else use_by handle needed (file_at handle live)
+
+-- the decision on a CLOSE: rule 17
+abbrev pub close_decision : List LiveHandle → ℕ → Decision
+close_decision live handle = if handle == 0 || is_free handle live then Deny no_handle handle else Permit 0
 
 -- what is told of a file
 abbrev pub told_of : Option LiveHandle → Option (ℕ × ℕ)

@@ -2,4 +2,5 @@ pub mod Files
 pub mod Marks
 pub mod Rows
 pub mod Standing
+pub mod Judging
 pub mod Tables

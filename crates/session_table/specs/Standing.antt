@@ -99,6 +99,11 @@ pub record FitsRow (setup : Settings) (row : SessionRow) (e : Event) (number gra
   pub exporting : exports e ≡ true → row.phase ≡ Verified
   pub opening : opens_file e ≡ true → (row.phase ≡ User) × (grant_number (grants_at setup row.account) (label_named e.ask) ≡ Some grant)
 
+-- the account and the grant are those that an event of the session names
+pub record NamesFit (setup : Settings) (row : SessionRow) (e : Event) (number grant : ℕ) : Type 0 where
+  pub taking : takes e ≡ true → account_taken setup e ≡ Some number
+  pub opening : opens_file e ≡ true → grant_number (grants_at setup row.account) (label_named e.ask) ≡ Some grant
+
 -- a row stands for a session that one more event opens
 pub record StandsNew (session : ℕ) (row : SessionRow) : Type 0 where
   pub by_journal : (setup : Settings) (journal : List Event) (e : Event) → AreNumbered journal (openings_of journal) → opens e ≡ true → e.session ≡ session → session ≡ openings_of journal + 1 → RowStands setup row (journal ++ e ∷ []) session

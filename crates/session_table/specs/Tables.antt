@@ -3,14 +3,14 @@ use Rattle.std.specs.Prelude.{ℕ, ◌≡◌, ◌≢◌, ◌<◌, ◌+◌, ◌-�
 use Rattle.policy_model.specs.declared.event.Event.{Event}
 use Rattle.policy_model.specs.Asks.{is_end, is_lost, is_permit, opens}
 use Rattle.policy_model.specs.Journal.{open_session_of, openings_of}
-use Rattle.policy_model.specs.Legal.{session_of}
+use Rattle.policy_model.specs.Legal.{IsNext}
 use Rattle.policy_model.specs.Runs.{AreNumbered}
 use Rattle.policy_model.specs.Settings.{Settings}
 use Rattle.session_laws.specs.Opened.{AreApart}
 use Rattle.session_table.specs.declared.rows.SessionRow.{SessionRow}
 use Rattle.session_table.specs.Files.{FitsFiles}
 use Rattle.session_table.specs.Rows.{new_row, row_after}
-use Rattle.session_table.specs.Standing.{FitsRow, RowStands}
+use Rattle.session_table.specs.Standing.{NamesFit, RowStands}
 
 -- a row a worker that has a session, and how many sessions were opened
 pub record TableParts : Type 0 where
@@ -71,11 +71,15 @@ pub record TableStands (setup : Settings) (table : TableParts) (journal : List E
   pub apart : AreApart journal
   pub rows : (w : ℕ) → w < setup.workers → WorkerStands setup (row_at table w) journal (open_session_of journal w)
 
--- an event of the worker follows a journal: its session is the one that the policy gives it, and it isn't lost
-pub record Follows (journal : List Event) (worker : ℕ) (e : Event) : Type 0 where
+-- an event is the worker's and the one that the policy gives behind a journal, and isn't lost
+pub record Follows (setup : Settings) (journal : List Event) (worker : ℕ) (e : Event) : Type 0 where
   pub by : e.worker ≡ worker
-  pub session : e.session ≡ session_of journal e.worker e.ask e.decision
+  pub next : IsNext setup journal e
   pub kept : is_lost e.decision ≡ false
+
+-- the account and the grant are those that the event of a worker with this row names
+pub record NamesFound (setup : Settings) (row : Option SessionRow) (e : Event) (number grant : ℕ) : Type 0 where
+  pub names : (found : SessionRow) → row ≡ Some found → NamesFit setup found e number grant
 
 -- the table of a setup's workers stands for no event
 pub record StandsOpen (workers : ℕ) (table : TableParts) : Type 0 where
@@ -83,12 +87,12 @@ pub record StandsOpen (workers : ℕ) (table : TableParts) : Type 0 where
 
 -- what a table becomes stands for a journal and one event more, by which the worker opens a session
 pub record StandsBegun (old : TableParts) (worker : ℕ) (new : TableParts) : Type 0 where
-  pub by_journal : (setup : Settings) (journal : List Event) (e : Event) → TableStands setup old journal → Follows journal worker e → opens e ≡ true → TableStands setup new (journal ++ e ∷ [])
+  pub by_journal : (setup : Settings) (journal : List Event) (e : Event) → TableStands setup old journal → Follows setup journal worker e → opens e ≡ true → TableStands setup new (journal ++ e ∷ [])
 
 -- so with an event by which the worker's session ends
 pub record StandsEnded (old : TableParts) (worker : ℕ) (new : TableParts) : Type 0 where
-  pub by_journal : (setup : Settings) (journal : List Event) (e : Event) → TableStands setup old journal → Follows journal worker e → is_end e.ask ≡ true → is_permit e.decision ≡ true → TableStands setup new (journal ++ e ∷ [])
+  pub by_journal : (setup : Settings) (journal : List Event) (e : Event) → TableStands setup old journal → Follows setup journal worker e → is_end e.ask ≡ true → is_permit e.decision ≡ true → TableStands setup new (journal ++ e ∷ [])
 
 -- so with an event that neither opens nor ends a session
 pub record StandsKept (old : TableParts) (worker : ℕ) (e : Event) (number grant : ℕ) (new : TableParts) : Type 0 where
-  pub by_journal : (setup : Settings) (journal : List Event) → TableStands setup old journal → Follows journal worker e → opens e ≡ false → (is_end e.ask && is_permit e.decision) ≡ false → ((row : SessionRow) → row_at old worker ≡ Some row → FitsRow setup row e number grant) → TableStands setup new (journal ++ e ∷ [])
+  pub by_journal : (setup : Settings) (journal : List Event) → TableStands setup old journal → Follows setup journal worker e → opens e ≡ false → (is_end e.ask && is_permit e.decision) ≡ false → NamesFound setup (row_at old worker) e number grant → TableStands setup new (journal ++ e ∷ [])

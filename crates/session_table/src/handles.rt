@@ -5,7 +5,8 @@ ghost use Rattle.std.specs.List.{find};
 ghost use Rattle.std.specs.Option.{option_copied};
 ghost use Rattle.policy_model.specs.Settings.{same_label};
 ghost use Rattle.policy_model.specs.Verdict.{allows, grant_verdict};
-ghost use Rattle.session_table.specs.Files.{FitsFiles, IsNewHandle, file_at, files_after, free_of, is_free, look_of, open_decision, without};
+ghost use Rattle.session_table.specs.Files.{FitsFiles, IsNewHandle, close_decision, file_at, files_after, free_of, is_free, look_of, open_decision, use_decision, without};
+ghost use Rattle.session_table.specs.Judging.{IsCloseVerdict, IsOpenVerdict, IsUseVerdict};
 
 use arrayvec::ArrayVec;
 use policy_model::{Ask, Decision, Event, Grant, Grants};
@@ -107,6 +108,53 @@ fn free_handle(live: &[LiveHandle]) -> u32
     0
 }
 
+/// Rules 19 to 21 of an OPEN, else a permit with the handle.
+fn judge_open(live: &[LiveHandle], grants: &[Grant], mode: u8, name: &Label) -> Decision
+    ensures { result ≡ open_decision live.now grants.now mode name.now }
+{
+    if live.len() >= PLACES {
+        return Decision::Deny {
+            rule: rules::HANDLES_SPENT,
+            detail: 8,
+        };
+    }
+    judge_grant(grants, mode, name, free_handle(live))
+}
+
+/// Rules 17 and 18 of a READ or WRITE.
+fn judge_use(live: &[LiveHandle], handle: u32, needed: u8) -> Decision
+    ensures { result ≡ use_decision live.now handle needed }
+{
+    if handle == 0 {
+        return Decision::Permit { value: 0 };
+    }
+    match file_of(live, handle) {
+        None => Decision::Deny {
+            rule: rules::NO_HANDLE,
+            detail: handle,
+        },
+        Some(file) if allows(file.mode, needed) => Decision::Permit { value: 0 },
+        Some(_) => Decision::Deny {
+            rule: rules::MODE_LACKING,
+            detail: handle,
+        },
+    }
+}
+
+/// Rule 17 of a CLOSE.
+fn judge_close(live: &[LiveHandle], handle: u32) -> Decision
+    ensures { result ≡ close_decision live.now handle }
+{
+    if handle == 0 || is_free(live, handle) {
+        Decision::Deny {
+            rule: rules::NO_HANDLE,
+            detail: handle,
+        }
+    } else {
+        Decision::Permit { value: 0 }
+    }
+}
+
 impl Handles {
     /// No file is open.
     pub fn new() -> Handles
@@ -138,14 +186,26 @@ impl Handles {
     pub fn judge_open(&self, grants: &Grants, mode: u8, name: &Label) -> Decision
         ensures value { result ≡ open_decision self.now grants.now mode name.now }
         ensures new { IsNewHandle self.now result }
+        ensures verdict { IsOpenVerdict self.now grants.now mode name.now result }
     {
-        if self.live.len() >= PLACES {
-            return Decision::Deny {
-                rule: rules::HANDLES_SPENT,
-                detail: 8,
-            };
-        }
-        judge_grant(grants.as_slice(), mode, name, free_handle(self.live.as_slice()))
+        judge_open(self.live.as_slice(), grants.as_slice(), mode, name)
+    }
+
+    /// The decision on a READ, which needs the mode 1, or a WRITE, which needs 2: rule 17 where no file
+    /// has the handle, and rule 18 where its mode lacks what is needed. Handle 0 is the client's connection.
+    pub fn judge_use(&self, handle: u32, needed: u8) -> Decision
+        ensures value { result ≡ use_decision self.now handle needed }
+        ensures verdict { IsUseVerdict self.now handle needed result }
+    {
+        judge_use(self.live.as_slice(), handle, needed)
+    }
+
+    /// The decision on a CLOSE: rule 17 where no file has the handle, also for handle 0.
+    pub fn judge_close(&self, handle: u32) -> Decision
+        ensures value { result ≡ close_decision self.now handle }
+        ensures verdict { IsCloseVerdict self.now handle result }
+    {
+        judge_close(self.live.as_slice(), handle)
     }
 
     /// A file is open behind those that were.

@@ -5,6 +5,7 @@
 
 mod bits;
 mod handles;
+mod judging;
 mod reading;
 mod rows;
 mod table;

@@ -74,6 +74,17 @@ fn is_told(handles: &Handles, words: &mut SplitWhitespace<'_>) -> Result<bool, F
     }
 }
 
+/// Whether what is decided on a use or a closing of a handle is the rest of the line.
+fn is_judged(handles: &Handles, kind: &str, words: &mut SplitWhitespace<'_>) -> Result<bool, Fail> {
+    let handle = small(words)?;
+    let judged = match kind {
+        "read" => handles.judge_use(handle, 1),
+        "write" => handles.judge_use(handle, 2),
+        _ => handles.judge_close(handle),
+    };
+    Ok(judged == decision(words)?)
+}
+
 /// Whether a line holds: what it says is done, or is so.
 fn file_line_holds(handles: &mut Handles, grants: &Grants, line: &str) -> Result<bool, Fail> {
     let mut words = line.split_whitespace();
@@ -85,7 +96,8 @@ fn file_line_holds(handles: &mut Handles, grants: &Grants, line: &str) -> Result
         }
         "add" => is_added(handles, &mut words),
         "look" => is_told(handles, &mut words),
-        "close" => {
+        kind @ ("read" | "write" | "close") => is_judged(handles, kind, &mut words),
+        "remove" => {
             handles.remove(small(&mut words)?);
             Ok(true)
         }
@@ -112,7 +124,9 @@ const ONE_FILE_TWICE: &str = "
     add 2 0 1
     look 1 0 1
     look 2 0 1
-    close 1
+    close 1 permit 0
+    remove 1
+    look 1 -
     look 2 0 1
     open f1 1 permit 1
     len 1";
@@ -134,21 +148,28 @@ const EIGHT_FILES: &str = "
     open f1 2 deny 19 8
     look 9 -
     look 0 -
-    close 3
+    read 9 deny 17 9
+    read 1 permit 0
+    write 1 deny 18 1
+    write 0 permit 0
+    close 0 deny 17 0
+    close 3 permit 0
+    remove 3
     look 3 -
+    close 3 deny 17 3
     look 4 3 1
     open f9 1 permit 3
     add 3 8 1
     look 3 8 1
-    close 9
+    remove 9
     len 8
-    close 8
+    remove 8
     open g 1 deny 20 0
     open g 2 deny 20 0
     open f1 2 deny 21 2
     open f1 3 deny 21 3
     open f1 1 permit 8
-    close 1
+    remove 1
     open f1 1 permit 1
     len 6";
 
@@ -226,12 +247,22 @@ fn follows(row: &mut SessionRow, event: &Event) -> bool {
 
 /// Whether a row is as a line says: its phase, account, asks, denied replies and open files.
 fn is_row(row: &SessionRow, words: &mut SplitWhitespace<'_>) -> Result<bool, Fail> {
-    Ok(row.session == 9
-        && row.phase == phase(word(words)?)
-        && row.account == small(words)?
-        && row.asked == small(words)?
-        && row.tries == small(words)?
-        && row.handles.len() == small(words)? as usize)
+    Ok(
+        row.session == 9
+            && row.phase == phase(word(words)?)
+            && row.account == small(words)?
+            && row.asked == small(words)?
+            && row.tries == small(words)?
+            && row.handles.len() == small(words)? as usize,
+    )
+}
+
+/// Whether the row refuses just what is denied by a rule of 1 to 7.
+fn refuses(row: &SessionRow, event: &Event) -> bool {
+    match event.decision {
+        Decision::Deny { rule: 1..=7, .. } => row.refusal(64, &event.ask) == Some(event.decision),
+        _ => row.refusal(64, &event.ask).is_none(),
+    }
 }
 
 /// Whether the row follows an ask with its decision, and is then as the line says.
@@ -243,6 +274,9 @@ fn row_line_holds(row: &mut SessionRow, line: &str) -> Result<bool, Fail> {
         ask: ask(word(&mut words)?)?,
         decision: decision(&mut words)?,
     };
+    if event.ask.came_by_frame() && !refuses(row, &event) {
+        return Ok(false);
+    }
     Ok(follows(row, &event) && is_row(row, &mut words)?)
 }
 
@@ -277,6 +311,25 @@ const LOGIN: &str = "
     finish permit 0 over 5 17 1 1
     note deny 6 12 over 5 18 1 1";
 
+const EARLY_REPLY: &str = "
+    reply deny 6 3 over 0 1 0 0";
+
+const EARLY_EXPORT: &str = "
+    export deny 6 5 over 0 1 0 0";
+
+const LATE_EXPORT: &str = "
+    challenge permit 0 challenged 5 1 0 0
+    reply permit 77 verified 5 2 0 0
+    export permit 5 user 5 3 0 0
+    export deny 6 5 over 5 4 0 0";
+
+const TWO_IMPORTS: &str = "
+    challenge permit 0 challenged 5 1 0 0
+    reply permit 77 verified 5 2 0 0
+    export permit 5 user 5 3 0 0
+    import permit 0 user 5 4 0 0
+    import deny 7 6 over 5 5 0 0";
+
 const SECOND_BEGIN: &str = "
     open deny 6 0 over 0 0 0 0";
 
@@ -305,12 +358,26 @@ fn the_row_of_a_session(rt: HostRuntime) -> Result<(), Fail> {
 
 #[test]
 fn rows_that_are_over(rt: HostRuntime) -> Result<(), Fail> {
+    assert!(rt; row_holds(&mut SessionRow::new(9), EARLY_REPLY)?);
+    assert!(rt; row_holds(&mut SessionRow::new(9), EARLY_EXPORT)?);
+    assert!(rt; row_holds(&mut SessionRow::new(9), LATE_EXPORT)?);
+    assert!(rt; row_holds(&mut SessionRow::new(9), TWO_IMPORTS)?);
     assert!(rt; row_holds(&mut SessionRow::new(9), SECOND_BEGIN)?);
     assert!(rt; row_holds(&mut SessionRow::new(9), BAD_FRAME)?);
     assert!(rt; row_holds(&mut SessionRow::new(9), LOST_END)?);
     let mut row = SessionRow::new(9);
     assert!(rt; row_holds(&mut row, TWO_BANNERS)?);
     assert!(rt; row.bits.had(Kind::Banner) && !row.bits.had(Kind::Challenge));
+    Ok(())
+}
+
+#[test]
+fn asks_that_are_spent(rt: HostRuntime) -> Result<(), Fail> {
+    let mut row = SessionRow::new(9);
+    assert!(rt; row_holds(&mut row, "note permit 0 pre 0 1 0 0")?);
+    assert!(rt; row.refusal(2, &Ask::Banner).is_none());
+    let spent = Decision::Deny { rule: 1, detail: 1 };
+    assert!(rt; row.refusal(1, &Ask::Banner) == Some(spent));
     Ok(())
 }
 
