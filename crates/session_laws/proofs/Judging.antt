@@ -11,21 +11,23 @@ use Rattle.policy_model.specs.declared.account.Account.{Account}
 use Rattle.policy_model.specs.declared.event.Ask.{Ask}
 use Rattle.policy_model.specs.declared.event.Ask.TheVariants as asks
 use Rattle.policy_model.specs.declared.event.Decision.{Decision}
-use Rattle.policy_model.specs.declared.event.Decision.TheVariants.{Permit, Deny}
+use Rattle.policy_model.specs.declared.event.Decision.TheVariants.{Permit, Deny, Lost}
 use Rattle.policy_model.specs.declared.event.Event.{Event}
 use Rattle.policy_model.specs.declared.event.Why.{Why}
 use Rattle.policy_model.specs.declared.phase.Phase.{Phase}
 use Rattle.policy_model.specs.declared.phase.Row.{Row}
-use Rattle.policy_model.specs.Asks.{came_by_frame, is_denied_reply, kind_of, permits_kind, request_number}
+use Rattle.policy_model.specs.Asks.{came_by_frame, is_denied_reply, is_lost, kind_of, permits_kind, request_number}
 use Rattle.policy_model.specs.Handles.{free_handle_of, handle_opening, live_handles_of}
 use Rattle.policy_model.specs.Journal.{ask_count, count_of, has_event, open_session_of, openings_of}
+use Rattle.policy_model.specs.Legal.{event_with, next_event, session_of}
 use Rattle.policy_model.specs.Logins.{account_of, challenged_user, current_sequence, verified_user, was_decoyed}
 use Rattle.policy_model.specs.Phases.{is_over, phase_of, table_row}
 use Rattle.policy_model.specs.Settings.{Settings, account_number, same_label}
-use Rattle.policy_model.specs.Verdict.{account_named, account_verdict, challenge_verdict, close_verdict, decoy_verdict, grant_verdict, grants_of, handle_verdict, info_verdict, kind_verdict, number_named, open_verdict, own_verdict, readings, reply_verdict, request_verdict, row_verdict, sequence_of, table_verdict, use_verdict, user_verdict, verdict_by}
+use Rattle.policy_model.specs.Verdict.{account_named, account_verdict, challenge_verdict, close_verdict, decoy_verdict, grant_verdict, grants_of, handle_verdict, info_verdict, kind_verdict, number_named, open_verdict, own_verdict, readings, reply_verdict, request_verdict, row_verdict, sequence_of, table_verdict, use_verdict, user_verdict, verdict_by, verdict_of}
 use Rattle.policy_model.proofs.Verdicts.{verdict_of-request}
-use Rattle.session_laws.specs.Judged.{cell_decision, closing_decision, is_free_ask, is_over_phase, opening_decision, request_decision}
+use Rattle.session_laws.specs.Judged.{cell_decision, closing_decision, event_by, event_session, is_free_ask, is_over_phase, opening_decision, request_decision}
 use Rattle.session_laws.specs.Numbered.{IsNumbered}
+use Rattle.session_laws.proofs.NeverLost.{never_lost}
 use Rattle.session_laws.proofs.PhaseLemmas.{over_is}
 
 -- 1. An opening and an end
@@ -139,3 +141,18 @@ free_is setup journal session asks.Import h = refl
 free_is setup journal session (asks.Note text) h = refl
 free_is setup journal session asks.Finish h = refl
 free_is setup journal session _ h = absurd cc
+
+-- 7. The event that follows
+
+session_is : (journal : List Event) (worker session openings : ℕ) (ask : Ask) (decision : Decision) → session ≡ open_session_of journal worker → openings ≡ openings_of journal → is_lost decision ≡ false → event_session session openings ask decision ≡ session_of journal worker ask decision
+unfolding session_of
+session_is journal worker session openings asks.Begin (Permit value) is opened kept = ap (λ n. n + 1) opened
+session_is journal worker session openings asks.Begin (Deny rule detail) is opened kept = is
+session_is journal worker session openings asks.Begin Lost is opened kept = absurd cc
+session_is journal worker session openings _ decision is opened kept = is
+
+pub event_is : (setup : Settings) (journal : List Event) (worker session openings : ℕ) (ask : Ask) (decision : Decision) → session ≡ open_session_of journal worker → openings ≡ openings_of journal → decision ≡ verdict_of setup journal worker ask → event_by worker session openings ask decision ≡ next_event setup journal worker ask
+event_is setup journal worker session openings ask decision is opened decided =
+    let kept : is_lost decision ≡ false = ap is_lost decided ∙ never_lost table_row setup journal worker ask in
+    ap (λ (n : ℕ). let e : Event = record { worker = worker; session = n; ask = ask; decision = decision } in e) (session_is journal worker session openings ask decision is opened kept)
+    ∙ ap (event_with journal worker ask) decided

@@ -5,6 +5,7 @@ use Rattle.policy_model.specs.declared.event.Ask.{Ask}
 use Rattle.policy_model.specs.declared.event.Ask.TheVariants as asks
 use Rattle.policy_model.specs.declared.event.Decision.{Decision}
 use Rattle.policy_model.specs.declared.event.Decision.TheVariants.{Permit, Deny}
+use Rattle.policy_model.specs.declared.event.Event.{Event}
 use Rattle.policy_model.specs.declared.phase.Phase.{Phase}
 use Rattle.policy_model.specs.declared.phase.Phase.TheVariants.{Over}
 use Rattle.policy_model.specs.declared.phase.Row.{Row}
@@ -43,3 +44,12 @@ is_free_ask asks.Import = true
 is_free_ask (asks.Note text) = true
 is_free_ask asks.Finish = true
 is_free_ask _ = false
+
+-- the session of an event that isn't lost: the next number for a permitted opening, else the worker's open one
+abbrev pub event_session : ℕ → ℕ → Ask → Decision → ℕ
+event_session session openings asks.Begin (Permit value) = openings + 1
+event_session session openings _ _ = session
+
+-- the event of a worker with its open session, by how many were opened
+abbrev pub event_by : ℕ → ℕ → ℕ → Ask → Decision → Event
+event_by worker session openings ask decision = record { worker = worker; session = event_session session openings ask decision; ask = ask; decision = decision }
