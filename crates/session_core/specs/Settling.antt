@@ -1,19 +1,18 @@
 -- Inner: the event that a core makes of an ask and a decision, and what the event makes of the core.
-use Rattle.std.specs.Prelude.{ℕ, ◌+◌, ◌&&◌, Bool, true, false, length, Option, Some, None, nat_lt, unwrap_or, if◌then◌else◌}
+use Rattle.std.specs.Prelude.{ℕ, ◌+◌, ◌&&◌, Bool, true, false, length, Option, Some, None, nat_le, nat_lt, unwrap_or, if◌then◌else◌}
 use Rattle.otp_ledger.specs.Accounts.{LedgerParts, ledger_holding, ledger_releasing, ledger_spending}
 use Rattle.policy_model.specs.declared.event.Ask.{Ask}
-use Rattle.policy_model.specs.declared.event.Ask.TheVariants as asks
 use Rattle.policy_model.specs.declared.event.Decision.{Decision}
-use Rattle.policy_model.specs.declared.event.Decision.TheVariants.{Permit, Deny}
 use Rattle.policy_model.specs.declared.event.Event.{Event}
 use Rattle.policy_model.specs.declared.phase.Phase.{Phase}
 use Rattle.policy_model.specs.declared.phase.Phase.TheVariants.{Challenged}
-use Rattle.policy_model.specs.Asks.{accepts, is_end, is_permit, moment_of, opens, takes, value_of}
+use Rattle.policy_model.specs.Asks.{accepts, challenge_name, decoys_from, is_end, is_permit, moment_of, opens, takes, value_of}
 use Rattle.policy_model.specs.Settings.{Settings}
 use Rattle.session_core.specs.Parts.{CoreParts, row_of}
+use Rattle.session_laws.specs.Judged.{event_by}
 use Rattle.session_laws.specs.Tied.{leaves}
 use Rattle.session_table.specs.declared.rows.SessionRow.{SessionRow}
-use Rattle.session_table.specs.Standing.{account_taken, grant_number, grants_at, label_named}
+use Rattle.session_table.specs.Standing.{grant_number, grants_at, label_named, number_by}
 use Rattle.session_table.specs.Tables.{TableParts, table_after, table_begun, table_ended}
 
 -- the session of a worker, 0 where it has none
@@ -21,21 +20,15 @@ abbrev pub session_at : Option SessionRow → ℕ
 session_at None = 0
 session_at (Some row) = row.session
 
--- the session of an event
-abbrev pub opening_by : ℕ → ℕ → Decision → ℕ
-opening_by begun session (Permit value) = begun + 1
-opening_by begun session decision = session
-
-abbrev pub session_by : ℕ → ℕ → Ask → Decision → ℕ
-session_by begun session asks.Begin decision = opening_by begun session decision
-session_by begun session ask decision = session
-
-abbrev pub event_by : CoreParts → ℕ → Ask → Decision → Event
-event_by core worker ask decision = record { worker = worker; session = session_by core.table.begun (session_at (row_of core worker)) ask decision; ask = ask; decision = decision }
+-- the event of a worker's ask with a decision
+abbrev pub core_event : CoreParts → ℕ → Ask → Decision → Event
+core_event core worker ask decision = event_by worker (session_at (row_of core worker)) core.table.begun ask decision
 
 -- the account that a CHALLENGE is for, and the number of accounts for a decoy and for any other ask
-abbrev pub number_for : Settings → Event → ℕ
-number_for setup e = unwrap_or (account_taken setup e) (length setup.accounts)
+abbrev pub number_for : LedgerParts → Event → ℕ
+number_for l e =
+    if nat_le decoys_from (value_of e.decision) then length l.accounts
+    else unwrap_or (number_by l.setup (challenge_name e.ask)) (length l.accounts)
 
 -- the grant that an OPEN is for
 abbrev pub grant_in : Settings → SessionRow → Event → ℕ
@@ -66,7 +59,7 @@ ledger_leaving l row e = if leaves e && may_hold l row then ledger_releasing l r
 -- the accounts after an event of a session
 abbrev pub ledger_by : LedgerParts → SessionRow → Event → LedgerParts
 ledger_by l row e =
-    if takes e then ledger_taking l (number_for l.setup e) e
+    if takes e then ledger_taking l (number_for l e) e
     else (if accepts e then ledger_accepting l row.account e
     else ledger_leaving l row e)
 
@@ -85,6 +78,6 @@ table_next table e number grant =
 abbrev pub core_after : CoreParts → Event → CoreParts
 core_after core e = record {
   ledger = ledger_after core.ledger (row_of core e.worker) e;
-  table = table_next core.table e (number_for core.ledger.setup e) (grant_for core.ledger.setup (row_of core e.worker) e);
+  table = table_next core.table e (number_for core.ledger e) (grant_for core.ledger.setup (row_of core e.worker) e);
   settled = core.settled + 1;
 }

@@ -55,12 +55,14 @@ pub record IsSpendable (l : LedgerParts) (account password : ℕ) : Type 0 where
   pub left : 0 < (state_at l account).sequence
   pub room : l.spent < l.cap
 
--- an event may be settled
-pub record IsReady (l : LedgerParts) (table : TableParts) (e : Event) : Type 0 where
+-- an event may be settled in the accounts, and in the rows
+pub record FitsAccounts (l : LedgerParts) (table : TableParts) (e : Event) : Type 0 where
   pub worker : e.worker < length table.rows
-  pub same : length l.setup.accounts ≡ length l.accounts
   pub spends : (row : SessionRow) → row_at table e.worker ≡ Some row → accepts e ≡ true → IsSpendable l row.account (value_of e.decision)
+
+pub record FitsRows (table : TableParts) (e : Event) : Type 0 where
+  pub worker : e.worker < length table.rows
   pub idle : opens e ≡ true → is_none (row_at table e.worker) ≡ true
   pub few : opens e ≡ true → table.begun < 2 ^ 32 - 1
-  pub opened : (is_end e.ask && is_permit e.decision) ≡ true → is_some (row_at table e.worker) ≡ true
+  pub there : (is_end e.ask && is_permit e.decision) ≡ true → is_some (row_at table e.worker) ≡ true
   pub fits : opens e ≡ false → FitsWorker table.rows e.worker e

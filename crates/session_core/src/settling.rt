@@ -1,15 +1,17 @@
 //! What an event makes of the accounts and the rows.
 
-ghost use Rattle.std.specs.Prelude.{◌≡◌, ◌<◌, ◌-◌, ◌^◌, length, Some, unwrap_or};
+ghost use Rattle.std.specs.Prelude.{◌≡◌, ◌≤◌, ◌<◌, ◌-◌, ◌^◌, length, position, Some, true, unwrap_or};
 ghost use Rattle.policy_model.specs.Asks.{accepts, value_of};
-ghost use Rattle.session_core.specs.Settling.{grant_for, grant_in, ledger_accepting, ledger_after, ledger_by, ledger_leaving, ledger_taking, may_hold, number_for, session_at, session_by, table_next};
-ghost use Rattle.session_core.specs.Standing.{IsReady, IsSpendable};
+ghost use Rattle.policy_model.specs.Settings.{same_label};
+ghost use Rattle.session_core.specs.Settling.{grant_for, grant_in, ledger_accepting, ledger_after, ledger_by, ledger_leaving, ledger_taking, may_hold, number_for, session_at, table_next};
+ghost use Rattle.session_core.specs.Standing.{FitsAccounts, FitsRows, IsSpendable};
+ghost use Rattle.session_laws.specs.Judged.{event_session};
 ghost use Rattle.session_table.specs.Standing.{grant_number, grants_at};
-ghost use Rattle.session_table.specs.Tables.{FitsWorker, row_at};
+ghost use Rattle.session_table.specs.Tables.{row_at};
 
 use crate::reading::{accepts, closes, is_challenged, leaves, moment, opens, takes, value};
 use otp_ledger::Ledger;
-use policy_model::{Ask, Decision, Event, Setup};
+use policy_model::{Ask, Decision, Event, Grant, Setup};
 use request_catalogue::Label;
 use session_table::{SessionRow, Table};
 
@@ -30,7 +32,7 @@ pub(crate) fn session_of(table: &Table, worker: u32) -> u32
 /// The session of an event, where so many sessions were opened and the worker has this one.
 pub(crate) fn session_for(begun: u32, session: u32, ask: &Ask, decision: &Decision) -> u32
     requires { begun < 2 ^ 32 - 1 }
-    ensures { result ≡ session_by begun session ask.now decision.now }
+    ensures { result ≡ event_session session begun ask.now decision.now }
 {
     match (ask, decision) {
         (Ask::Begin, Decision::Permit { .. }) => begun + 1,
@@ -41,7 +43,7 @@ pub(crate) fn session_for(begun: u32, session: u32, ask: &Ask, decision: &Decisi
 /// The number of the account that a CHALLENGE is for, and that of accounts for a decoy and for any other
 /// ask.
 fn number_for(ledger: &Ledger, event: &Event) -> u32
-    ensures { result ≡ number_for ledger.now.setup event.now }
+    ensures { result ≡ number_for ledger.now event.now }
 {
     let none = ledger.len() as u32;
     match event.ask {
@@ -52,19 +54,25 @@ fn number_for(ledger: &Ledger, event: &Event) -> u32
     }
 }
 
+/// The place of the grant of a file's name, 0 where there is none.
+fn place_of(grants: &[Grant], name: &Label) -> usize
+    ensures value { result ≡ unwrap_or (position (λ g. same_label g.name name.now) grants.now) 0 }
+    ensures bound { result ≤ length grants.now }
+{
+    match grants.iter().position(|g| g.name == *name) {
+        None => 0,
+        Some(place) => place,
+    }
+}
+
 /// The number of the grant of a file's name, 0 where there is none.
 fn grant_of(setup: &Setup, account: u32, name: &Label) -> u32
     ensures { result ≡ unwrap_or (grant_number (grants_at setup.now account) (Some name.now)) 0 }
 {
-    match setup.parts().accounts.as_slice().get(account as usize) {
+    let parts = setup.parts();
+    match parts.accounts.as_slice().get(account as usize) {
         None => 0,
-        Some(account) => {
-            let grants = account.grants.as_slice();
-            match grants.iter().position(|g| g.name == *name) {
-                None => 0,
-                Some(grant) => grant as u32,
-            }
-        }
+        Some(account) => place_of(account.grants.as_slice(), name) as u32,
     }
 }
 
@@ -139,8 +147,8 @@ fn settle_session(ledger: &mut Ledger, row: &SessionRow, event: &Event)
 }
 
 /// What an event makes of the accounts.
-pub(crate) fn settle_accounts(ledger: &mut Ledger, table: &Table, event: &Event)
-    requires ready { IsReady ledger.old table.now event.now }
+fn settle_accounts(ledger: &mut Ledger, table: &Table, event: &Event)
+    requires { FitsAccounts ledger.old table.now event.now }
     ensures { ledger.new ≡ ledger_after ledger.old (row_at table.now event.now.worker) event.now }
 {
     if let Some(row) = table.row(event.worker) {
@@ -151,6 +159,7 @@ pub(crate) fn settle_accounts(ledger: &mut Ledger, table: &Table, event: &Event)
 /// What an event makes of the rows, where its CHALLENGE is for the account of this number and its OPEN
 /// for this grant.
 fn settle_rows(table: &mut Table, event: &Event, number: u32, grant: u32)
+    requires { FitsRows table.old event.now }
     ensures { table.new ≡ table_next table.old event.now number grant }
 {
     if opens(event) {
@@ -160,4 +169,17 @@ fn settle_rows(table: &mut Table, event: &Event, number: u32, grant: u32)
     } else {
         table.advance(event.worker, event, number, grant);
     }
+}
+
+/// What an event makes of the accounts and the rows.
+pub(crate) fn settle(ledger: &mut Ledger, table: &mut Table, event: &Event)
+    requires accounts { FitsAccounts ledger.old table.old event.now }
+    requires rows { FitsRows table.old event.now }
+    ensures accounts { ledger.new ≡ ledger_after ledger.old (row_at table.old event.now.worker) event.now }
+    ensures rows { table.new ≡ table_next table.old event.now (number_for ledger.old event.now) (grant_for ledger.old.setup (row_at table.old event.now.worker) event.now) }
+{
+    let number = number_for(ledger, event);
+    let grant = grant_for(ledger.setup(), table, event);
+    settle_accounts(ledger, table, event);
+    settle_rows(table, event, number, grant);
 }
