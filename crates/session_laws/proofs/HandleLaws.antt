@@ -1,7 +1,7 @@
 -- The live handles of a session of a legal journal: at most 8, each of 1 to 8, no two the same.
 use Rattle.std.proofs.Common.{◌≡◌, ◌≢◌, ℕ, ◌≤◌, ◌<◌, Bool, true, false, not, ◌&&◌, ◌||◌, ◌==◌, cond, eqb, nat_le, List, [], ◌∷◌, ◌++◌, filter, length, map, Option, Some, None, refl, sym, ap, subst, ◌∙◌, arith, inl, inr, ◌⊎◌}
 use Rattle.std.specs.List.{find, list_all, list_any}
-use Rattle.std.proofs.lemmas.Bool.{and_from, and_parts, cases_eq, not-true, or_parts}
+use Rattle.std.proofs.lemmas.Bool.{and_from, and_parts, cases_eq, false≢true, not-true, or_parts}
 use Rattle.std.proofs.lemmas.Bool.Decides.{nat_tests}
 use Rattle.std.proofs.lemmas.List.{append-nil, length-append, map-append}
 use Rattle.std.proofs.lemmas.List.Folds.{list_all-append, list_any-append}
@@ -14,19 +14,23 @@ use Rattle.policy_model.specs.declared.event.Decision.TheVariants.{Permit, Deny}
 use Rattle.policy_model.specs.declared.event.Event.{Event}
 use Rattle.policy_model.specs.declared.phase.Phase.{Phase}
 use Rattle.policy_model.specs.declared.phase.Row.{Row}
-use Rattle.policy_model.specs.Asks.{came_by_frame, closes_file, handle_of, is_open, is_permit, opens_file, value_of}
+use Rattle.policy_model.specs.Asks.{came_by_frame, closes_file, exports, handle_of, is_open, is_permit, kind_of, opens_file, value_of}
 use Rattle.policy_model.specs.Handles.{free_handle_of, live_handles_of}
-use Rattle.policy_model.specs.Journal.{ask_count}
-use Rattle.policy_model.specs.Legal.{IsLegalBy, IsNextBy}
+use Rattle.policy_model.specs.Journal.{ask_count, has_event}
+use Rattle.policy_model.specs.Legal.{IsLegal, IsLegalBy, IsNext, IsNextBy}
 use Rattle.policy_model.specs.Logins.{verified_user}
-use Rattle.policy_model.specs.Phases.{is_over, phase_of}
+use Rattle.policy_model.specs.Phases.{is_over, phase_of, table_row}
 use Rattle.policy_model.specs.Settings.{Settings, are_distinct, is_number, same_label}
 use Rattle.policy_model.specs.Verdict.{account_named, allows, grant_verdict, grants_of, kind_verdict, open_verdict, request_verdict}
+use Rattle.policy_model.specs.declared.phase.Phase.TheVariants.{Challenged, Over, Pre, User, Verified}
 use Rattle.session_laws.specs.Handled.{GivesLeast, HandlesDiffer, HandlesGoOn, handles_after}
 use Rattle.session_laws.proofs.ByEvents.{by_events}
 use Rattle.session_laws.proofs.FreeHandles.{IsFreeNumber, free_number, has_handle}
 use Rattle.session_laws.proofs.HandleSteps.{live_handles_of-other, live_handles_of-own}
 use Rattle.session_laws.proofs.Permits.{permit_from, request_permit, row_permit}
+use Rattle.session_laws.proofs.Permitted.{permitted_live}
+use Rattle.session_laws.proofs.PhaseLemmas.{phase_tests}
+use Rattle.session_laws.proofs.SessionEvents.{has_event-other, has_event-own}
 
 pub handles_go_on : (journal : List Event) (e : Event) → HandlesGoOn journal e
 handles_go_on journal e = record { own = live_handles_of-own journal e e.session refl; other = live_handles_of-other journal e }
@@ -177,3 +181,50 @@ handles_differ {table} setup journal legal session = let d = by_events setup All
 
   more : (j : List Event) (e : Event) → IsNextBy table setup j e → AllDiffer j → AllDiffer (j ++ e ∷ [])
   more j e next before = differ_next setup j e next before
+
+-- 4. No session has a live handle before its user's child runs
+
+only_user : (phase : Phase) → (table_row phase kinds.OpenFile).permitted ≡ true → phase ≡ User
+only_user Pre h = absurd cc
+only_user Challenged h = absurd cc
+only_user Verified h = absurd cc
+only_user User h = refl
+only_user Over h = absurd cc
+
+open_kind : (ask : Ask) → is_open ask ≡ true → kind_of ask ≡ Some kinds.OpenFile
+open_kind (asks.OpenFile mode name) h = refl
+open_kind _ h = absurd cc
+
+-- a permitted OPEN comes in User
+pub opened_in_user : (setup : Settings) (journal : List Event) (e : Event) → IsNext setup journal e → opens_file e ≡ true → phase_of journal e.session ≡ User
+opened_in_user setup journal e next opened =
+    let is = and_parts (is_open e.ask) (is_permit e.decision) opened in
+    only_user (phase_of journal e.session) ((permitted_live setup journal e next (by_frame e.ask is.0) is.1).cell kinds.OpenFile (open_kind e.ask is.0))
+
+record NoneBefore (journal : List Event) (session : ℕ) : Type 0 where
+  pub none : has_event journal session exports ≡ false → live_handles_of journal session ≡ []
+
+none_own : (setup : Settings) (journal : List Event) (e : Event) → IsNext setup journal e → NoneBefore journal e.session → NoneBefore (journal ++ e ∷ []) e.session
+none_own setup journal e next before = record {
+  none = λ h.
+      let kept = or_parts (has_event journal e.session exports) (exports e) (sym (has_event-own journal e e.session exports refl) ∙ h) in
+      live_handles_of-own journal e e.session refl ∙ ap (λ l. handles_after l e) (before.none kept.0) ∙ go (opens_file e) refl kept.0;
+} where
+  go : (b : Bool) → opens_file e ≡ b → has_event journal e.session exports ≡ false → cond b (e ∷ []) [] ≡ []
+  go false is h = refl
+  go true is h = absurd (false≢true (sym h ∙ (phase_tests journal e.session User (opened_in_user setup journal e next is)).1))
+
+none_next : (setup : Settings) (journal : List Event) (e : Event) → IsNext setup journal e → ((session : ℕ) → NoneBefore journal session) → (session : ℕ) → NoneBefore (journal ++ e ∷ []) session
+none_next setup journal e next before session = go (cases_eq e.session session) where
+  go : (e.session ≡ session) ⊎ (e.session ≢ session) → NoneBefore (journal ++ e ∷ []) session
+  go (inl same) = subst (NoneBefore (journal ++ e ∷ [])) same (none_own setup journal e next (before e.session))
+  go (inr other) = record { none = λ h. live_handles_of-other journal e session other ∙ (before session).none (sym (has_event-other journal e session exports other) ∙ h) }
+
+none_first : (session : ℕ) → live_handles_of [] session ≡ []
+unfolding live_handles_of
+none_first session = refl
+
+pub no_handles_before : (setup : Settings) (journal : List Event) → IsLegal setup journal → (session : ℕ) → has_event journal session exports ≡ false → live_handles_of journal session ≡ []
+no_handles_before setup journal legal session h =
+    let n : NoneBefore journal session = by_events setup (λ j. (s : ℕ) → NoneBefore j s) (λ s. record { none = λ k. none_first s }) (λ j e next before. none_next setup j e next before) journal legal session in
+    n.none h

@@ -1,10 +1,9 @@
 -- What the policy decides, by what is kept of a session: its phase, its counts, the kinds that were permitted, its users and its live handles.
-use Rattle.std.proofs.Common.{◌≡◌, ◌≢◌, ℕ, ◌+◌, Bool, true, false, not, ◌&&◌, ◌||◌, ◌==◌, cond, eqb, nat_eq, nat_le, List, [], ◌∷◌, ◌++◌, length, Option, Some, None, refl, sym, ap, subst, ◌∙◌, arith}
+use Rattle.std.proofs.Common.{◌≡◌, ◌≢◌, ℕ, ◌+◌, Bool, true, false, not, ◌&&◌, ◌||◌, cond, eqb, nat_eq, nat_le, List, length, Option, Some, refl, sym, ap, ◌∙◌, arith}
 use Rattle.std.specs.Prelude.{is_none, unwrap_or}
 use Rattle.std.specs.List.{find, list_any}
 use Rattle.std.proofs.lemmas.Bool.Decides.{nat_tests}
 use Rattle.request_catalogue.specs.declared.kind.Kind.{Kind}
-use Rattle.request_catalogue.specs.declared.kind.Kind.TheVariants as kinds
 use Rattle.request_catalogue.specs.declared.texts.Label.{Label}
 use Rattle.request_catalogue.specs.declared.texts.Name.{Name}
 use Rattle.policy_model.specs.declared.account.Account.{Account}
@@ -15,14 +14,13 @@ use Rattle.policy_model.specs.declared.event.Decision.TheVariants.{Permit, Deny,
 use Rattle.policy_model.specs.declared.event.Event.{Event}
 use Rattle.policy_model.specs.declared.event.Why.{Why}
 use Rattle.policy_model.specs.declared.phase.Phase.{Phase}
-use Rattle.policy_model.specs.declared.phase.Row.{Row}
 use Rattle.policy_model.specs.Asks.{came_by_frame, is_denied_reply, is_lost, kind_of, permits_kind, request_number}
 use Rattle.policy_model.specs.Handles.{free_handle_of, handle_opening, live_handles_of}
 use Rattle.policy_model.specs.Journal.{ask_count, count_of, has_event, open_session_of, openings_of}
 use Rattle.policy_model.specs.Legal.{event_with, next_event, session_of}
 use Rattle.policy_model.specs.Logins.{account_of, challenged_user, current_sequence, verified_user, was_decoyed}
 use Rattle.policy_model.specs.Phases.{is_over, phase_of, table_row}
-use Rattle.policy_model.specs.Settings.{Settings, account_number, same_label}
+use Rattle.policy_model.specs.Settings.{Settings, same_label}
 use Rattle.policy_model.specs.Verdict.{account_named, account_verdict, challenge_verdict, close_verdict, decoy_verdict, grant_verdict, grants_of, handle_verdict, info_verdict, kind_verdict, number_named, open_verdict, own_verdict, readings, reply_verdict, request_verdict, row_verdict, sequence_of, table_verdict, use_verdict, user_verdict, verdict_by, verdict_of}
 use Rattle.policy_model.proofs.Verdicts.{verdict_of-request}
 use Rattle.session_laws.specs.Judged.{cell_decision, closing_decision, event_by, event_session, is_free_ask, is_over_phase, opening_decision, request_decision}

@@ -1,30 +1,26 @@
 -- What the event that follows makes of the users: whom it takes, whose password it spends, and whom it leaves as they are.
-use Rattle.std.proofs.Common.{◌≡◌, ◌≢◌, ℕ, ◌+◌, ◌-◌, ◌<◌, ◌≤◌, Bool, true, false, not, ◌&&◌, ◌||◌, cond, eqb, ◌==◌, List, [], ◌∷◌, ◌++◌, length, Option, Some, None, refl, sym, ap, subst, ◌∙◌, arith}
+use Rattle.std.proofs.Common.{◌≡◌, ℕ, ◌-◌, ◌<◌, ◌≤◌, Bool, true, false, not, ◌&&◌, cond, eqb, ◌==◌, List, [], ◌∷◌, ◌++◌, length, Option, Some, None, refl, sym, ap, subst, ◌∙◌, arith}
 use Rattle.std.specs.Prelude.{nat_le, nat_lt}
 use Rattle.std.specs.List.{find, list_all}
 use Rattle.std.specs.Option.{option_to_list}
-use Rattle.std.proofs.lemmas.Bool.{and_parts, and_from, eqb-true, false_from_ne_true, false≢true}
+use Rattle.std.proofs.lemmas.Bool.{and_parts, and_from, false_from_ne_true, false≢true}
 use Rattle.std.proofs.lemmas.Bool.Decides.{nat_tests}
 use Rattle.std.proofs.lemmas.List.{append-nil}
 use Rattle.request_catalogue.specs.declared.texts.Name.{Name}
 use Rattle.policy_model.specs.declared.account.Account.{Account}
 use Rattle.policy_model.specs.declared.event.Event.{Event}
-use Rattle.policy_model.specs.declared.phase.Phase.TheVariants.{Challenged}
 use Rattle.policy_model.specs.Asks.{accepts, decoys_from, reserves, takes, takes_user, value_of}
-use Rattle.policy_model.specs.Journal.{is_own, openings_of}
-use Rattle.policy_model.specs.Legal.{IsLegal, IsNext, session_of}
+use Rattle.policy_model.specs.Legal.{IsLegal, IsNext}
 use Rattle.policy_model.specs.Logins.{account_of, challenged_user, current_sequence, holder_of, is_live, is_user, last_taking_of, replies_of, reply_for}
-use Rattle.policy_model.specs.Runs.{AreNumbered}
 use Rattle.policy_model.specs.Settings.{IsInRange, Settings, are_distinct, are_grants, is_account, is_number, same_name}
 use Rattle.policy_model.specs.Verdict.{is_holder}
 use Rattle.policy_model.proofs.LoginLemmas.{last_taking_of-push, replies_of-push}
 use Rattle.policy_model.proofs.Runs.{next_session}
-use Rattle.session_laws.specs.Numbered.{IsNumbered}
 use Rattle.session_laws.specs.Tied.{AcceptsNext, IsTied, LeavesUser, ReservesLive, holder_after, leaves}
 use Rattle.session_laws.proofs.Holders.{holder_of-other, legal_tied}
 use Rattle.session_laws.proofs.Numbers.{holds_is, numbered_by_name}
 use Rattle.session_laws.proofs.Openings.{legal_numbered}
-use Rattle.session_laws.proofs.Permits.{Accepted, Taken, accepted_reply, live_challenge, same_some, taken_challenge}
+use Rattle.session_laws.proofs.Permits.{accepted_reply, live_challenge, taken_challenge}
 use Rattle.session_laws.proofs.Permitted.{accepted_no_decoy, permitted_live, reserves_from, takes_from, taking}
 
 -- 1. A CHALLENGE that isn't a decoy

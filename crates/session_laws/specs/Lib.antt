@@ -1,9 +1,10 @@
 pub mod Phased
 pub mod Judged
-pub mod Early
+pub mod Rooms
 pub mod Handled
 pub mod Opened
 pub mod Counted
 pub mod LoggedIn
 pub mod Numbered
 pub mod Tied
+pub mod Laws

@@ -2,7 +2,7 @@
 use Rattle.std.specs.Prelude.{ℕ, ◌≡◌, ◌≢◌, false, List, [], None}
 use Rattle.request_catalogue.specs.declared.kind.Kind.{Kind}
 use Rattle.policy_model.specs.declared.event.Event.{Event}
-use Rattle.policy_model.specs.declared.phase.Phase.TheVariants.{Pre, Over}
+use Rattle.policy_model.specs.declared.phase.Phase.TheVariants.{Pre}
 use Rattle.policy_model.specs.Asks.{is_denied_reply, permits_kind}
 use Rattle.policy_model.specs.Handles.{live_handles_of}
 use Rattle.policy_model.specs.Journal.{ask_count, count_of, has_event, open_session_of}
@@ -12,10 +12,6 @@ use Rattle.policy_model.specs.Phases.{phase_of}
 -- the open sessions of two workers differ, where the first has one
 pub record AreApart (journal : List Event) : Type 0 where
   pub apart : (v w : ℕ) → v ≢ w → open_session_of journal v ≢ 0 → open_session_of journal v ≢ open_session_of journal w
-
--- no session has the number 0: to a worker without one everything is over
-pub record NoneIsZero (journal : List Event) : Type 0 where
-  pub over : phase_of journal 0 ≡ Over
 
 -- a session was just opened: it stands before its login, has asked for nothing, was permitted nothing, and has no user and no handle
 pub record IsFresh (journal : List Event) (session : ℕ) : Type 0 where

@@ -5,7 +5,7 @@
 mod laws;
 
 pub use laws::{
-    events_change_one_user, events_count_once, every_ask_is_decided, handles_differ, handles_go_on,
-    holders_are_tied, new_sessions_are_fresh, open_sessions_differ, phases_go_on,
-    sessions_have_users, sessions_hold_one_account,
+    events_change_one_user, events_count_once, every_ask_is_decided, handles_are_apart,
+    handles_go_on, holders_are_tied, phases_go_on, sessions_are_apart, sessions_begin_fresh,
+    sessions_have_users,
 };

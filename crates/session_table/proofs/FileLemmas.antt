@@ -5,8 +5,7 @@ use Rattle.std.proofs.lemmas.Bool.Decides.{nat_tests}
 use Rattle.request_catalogue.specs.declared.texts.Label.{Label}
 use Rattle.request_catalogue.specs.Rules.{handles_spent, mode_not_granted}
 use Rattle.policy_model.specs.declared.account.Grant.{Grant}
-use Rattle.policy_model.specs.declared.event.Decision.{Decision}
-use Rattle.policy_model.specs.declared.event.Decision.TheVariants.{Permit, Deny, Lost}
+use Rattle.policy_model.specs.declared.event.Decision.TheVariants.{Permit, Deny}
 use Rattle.policy_model.specs.Handles.{handle_numbers}
 use Rattle.policy_model.specs.Settings.{are_distinct, same_label}
 use Rattle.policy_model.specs.Verdict.{allows, grant_verdict}

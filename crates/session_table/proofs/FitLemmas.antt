@@ -1,17 +1,15 @@
 -- An event that the policy gives fits the table that stands for the journal before it.
-use Rattle.std.proofs.Common.{◌≡◌, ◌≢◌, ℕ, ◌+◌, ◌-◌, ◌^◌, ◌<◌, ◌≤◌, Bool, true, false, ◌&&◌, ◌==◌, cond, List, [], ◌∷◌, ◌++◌, length, map, nat_le, Option, Some, None, is_none, refl, sym, ap, subst, ◌∙◌, arith}
+use Rattle.std.proofs.Common.{◌≡◌, ℕ, ◌-◌, ◌^◌, ◌<◌, ◌≤◌, Bool, true, false, ◌&&◌, ◌==◌, cond, List, [], ◌∷◌, length, map, nat_le, Option, Some, None, is_none, refl, sym, ap, subst, ◌∙◌, arith}
 use Rattle.std.specs.List.{find}
-use Rattle.std.proofs.lemmas.Bool.{false≢true}
 use Rattle.std.proofs.lemmas.Bool.Decides.{nat_tests}
 use Rattle.std.proofs.lemmas.List.Sums.{count_by-le-length, length-filter}
-use Rattle.request_catalogue.specs.declared.kind.Kind.{Kind}
 use Rattle.request_catalogue.specs.declared.kind.Kind.TheVariants as kinds
 use Rattle.request_catalogue.specs.declared.texts.Name.{Name}
 use Rattle.policy_model.specs.declared.account.Grant.{Grant}
 use Rattle.policy_model.specs.declared.event.Ask.{Ask}
 use Rattle.policy_model.specs.declared.event.Ask.TheVariants as asks
 use Rattle.policy_model.specs.declared.event.Decision.{Decision}
-use Rattle.policy_model.specs.declared.event.Decision.TheVariants.{Permit, Deny, Lost}
+use Rattle.policy_model.specs.declared.event.Decision.TheVariants.{Permit}
 use Rattle.policy_model.specs.declared.event.Event.{Event}
 use Rattle.policy_model.specs.declared.phase.Phase.{Phase}
 use Rattle.policy_model.specs.declared.phase.Phase.TheVariants.{Pre, Challenged, Verified, User, Over}
@@ -30,7 +28,7 @@ use Rattle.session_laws.proofs.Permitted.{accepted_in_challenged, accepted_no_de
 use Rattle.session_table.specs.declared.handles.LiveHandle.{LiveHandle}
 use Rattle.session_table.specs.declared.rows.SessionRow.{SessionRow}
 use Rattle.session_table.specs.Files.{FitsFiles, IsNewHandle, is_free}
-use Rattle.session_table.specs.Standing.{FitsRow, NamesFit, RowStands, file_by, grants_at, has_account, number_by}
+use Rattle.session_table.specs.Standing.{FitsRow, NamesFit, RowStands, file_by, grants_at, has_taken, number_by}
 use Rattle.session_table.proofs.FileLemmas.{and_parts}
 use Rattle.session_table.specs.Tables.{FitsCounts, FitsWorker, TableParts, TableStands, WorkerStands, row_at}
 
@@ -66,7 +64,7 @@ fits_row setup row journal e number grant r next closed names = record {
   opening = λ h. (r.phase ∙ opened_in_user setup journal e next h, names.opening h);
 } where
   below : row.phase ≡ Challenged → was_decoyed journal e.session ≡ false → row.account < length setup.accounts
-  below phase real = go (challenged_user journal e.session) (sym (ap (λ b. cond b (Some (length setup.accounts)) (number_by setup (challenged_user journal e.session))) real) ∙ r.account (ap has_account phase)) where
+  below phase real = go (challenged_user journal e.session) (sym (ap (λ b. cond b (Some (length setup.accounts)) (number_by setup (challenged_user journal e.session))) real) ∙ r.account (ap has_taken phase)) where
     go : (o : Option Name) → number_by setup o ≡ Some row.account → row.account < length setup.accounts
     go None h = absurd cc
     go (Some user) h = (numbered_by_number setup user row.account h).1.below

@@ -23,7 +23,6 @@ use Rattle.policy_model.specs.Logins.{challenged_user, verified_user, was_decoye
 use Rattle.policy_model.specs.Runs.{AreNumbered}
 use Rattle.policy_model.specs.Settings.{Settings}
 use Rattle.session_laws.specs.Handled.{handles_after}
-use Rattle.session_laws.specs.Opened.{IsFresh}
 use Rattle.session_laws.specs.Phased.{phase_after}
 use Rattle.session_laws.proofs.HandleSteps.{live_handles_of-other, live_handles_of-own}
 use Rattle.session_laws.proofs.Opened.{opened_fresh, permits_is, permits_no, permits_other}
@@ -32,10 +31,10 @@ use Rattle.session_laws.proofs.SessionEvents.{ask_count-other, ask_count-own, co
 use Rattle.session_laws.proofs.UserLemmas.{challenged_user-other, challenged_user-own, verified_user-other, verified_user-own, was_decoyed-other, was_decoyed-own}
 use Rattle.session_table.specs.declared.handles.LiveHandle.{LiveHandle}
 use Rattle.session_table.specs.declared.rows.SessionRow.{SessionRow}
-use Rattle.session_table.specs.Files.{file_opened, files_after, files_by, without}
+use Rattle.session_table.specs.Files.{file_opened, files_after, files_by}
 use Rattle.session_table.specs.Marks.{has_mark, marks_after, marks_by, no_marks, with_mark}
 use Rattle.session_table.specs.Rows.{new_row, row_after}
-use Rattle.session_table.specs.Standing.{FitsRow, RowStands, StandsAfter, StandsNew, account_challenged, account_taken, file_by, grant_number, grants_at, has_account, is_early, is_granted, is_logged_in, label_named, number_by}
+use Rattle.session_table.specs.Standing.{FitsRow, RowStands, StandsAfter, StandsNew, account_challenged, file_by, grant_number, grants_at, has_taken, is_before_user, is_granted, is_logged_in, label_named, number_by}
 
 or_true : (b : Bool) → (b || true) ≡ true
 or_true true = refl
@@ -176,13 +175,13 @@ granted_step grants live e grant is all =
 -- 3. The phases
 
 -- a session that is challenged or logged in after an event was so before, unless the event takes a user
-had_account : (p : Phase) (e : Event) → takes e ≡ false → (accepts e ≡ true → p ≡ Challenged) → (exports e ≡ true → p ≡ Verified) → has_account (phase_after p e) ≡ true → has_account p ≡ true
-had_account Over e t a x h = h
-had_account Challenged e t a x h = refl
-had_account Verified e t a x h = refl
-had_account User e t a x h = refl
-had_account Pre e t a x h = go (ends_session e) (exports e) refl (accepts e) refl (is_login_step e) (takes e) t h where
-  go : (n x' : Bool) → exports e ≡ x' → (a' : Bool) → accepts e ≡ a' → (l k : Bool) → k ≡ false → has_account (cond n Over (cond x' User (cond a' Verified (cond l (cond k Challenged Pre) Pre)))) ≡ true → false ≡ true
+had_taken : (p : Phase) (e : Event) → takes e ≡ false → (accepts e ≡ true → p ≡ Challenged) → (exports e ≡ true → p ≡ Verified) → has_taken (phase_after p e) ≡ true → has_taken p ≡ true
+had_taken Over e t a x h = h
+had_taken Challenged e t a x h = refl
+had_taken Verified e t a x h = refl
+had_taken User e t a x h = refl
+had_taken Pre e t a x h = go (ends_session e) (exports e) refl (accepts e) refl (is_login_step e) (takes e) t h where
+  go : (n x' : Bool) → exports e ≡ x' → (a' : Bool) → accepts e ≡ a' → (l k : Bool) → k ≡ false → has_taken (cond n Over (cond x' User (cond a' Verified (cond l (cond k Challenged Pre) Pre)))) ≡ true → false ≡ true
   go true x' xs a' ac l k t h = h
   go false true xs a' ac l k t h = let p : Pre ≡ Verified = x xs in absurd cc
   go false false xs true ac l k t h = let p : Pre ≡ Challenged = a ac in absurd cc
@@ -213,13 +212,13 @@ was_logged_in Challenged e a x h = go (ends_session e) (exports e) refl (accepts
   go false false xs false ac false k h = h
 
 -- a session before its user's own child was so before the event too
-was_early : (p : Phase) (e : Event) → is_early (phase_after p e) ≡ true → is_early p ≡ true
-was_early Over e h = h
-was_early Pre e h = refl
-was_early Challenged e h = refl
-was_early Verified e h = refl
-was_early User e h = go (ends_session e) h where
-  go : (b : Bool) → is_early (cond b Over User) ≡ true → false ≡ true
+was_before_user : (p : Phase) (e : Event) → is_before_user (phase_after p e) ≡ true → is_before_user p ≡ true
+was_before_user Over e h = h
+was_before_user Pre e h = refl
+was_before_user Challenged e h = refl
+was_before_user Verified e h = refl
+was_before_user User e h = go (ends_session e) h where
+  go : (b : Bool) → is_before_user (cond b Over User) ≡ true → false ≡ true
   go true h = h
   go false h = h
 
@@ -255,7 +254,7 @@ row_own setup row journal e number grant r f = record {
   account = λ has. challenged ∙ account (takes e) refl has;
   user = λ logged. user (accepts e) refl logged;
   real = λ logged. real (accepts e) refl logged;
-  early = λ early. live_handles_of-own journal e e.session refl ∙ none early;
+  unopened = λ after. live_handles_of-own journal e e.session refl ∙ none after;
   handles = handles (takes e) refl ∙ ap (map (file_by (grants_at setup (cond (takes e) number row.account)))) (sym (live_handles_of-own journal e e.session refl));
   granted = ap (list_all (is_granted (grants_at setup (cond (takes e) number row.account)))) (live_handles_of-own journal e e.session refl) ∙ granted (takes e) refl;
 } where
@@ -273,9 +272,9 @@ row_own setup row journal e number grant r f = record {
       ap (λ b. cond b (Some (length setup.accounts)) (number_by setup (challenged_user (journal ++ e ∷ []) e.session))) (was_decoyed-own journal e e.session refl)
       ∙ ap (λ o. cond (cond (takes e) (nat_le decoys_from (value_of e.decision)) (was_decoyed journal e.session)) (Some (length setup.accounts)) (number_by setup o)) (challenged_user-own journal e e.session refl)
 
-  account : (b : Bool) → takes e ≡ b → has_account (phase_after row.phase e) ≡ true → cond (cond b (nat_le decoys_from (value_of e.decision)) (was_decoyed journal e.session)) (Some (length setup.accounts)) (number_by setup (cond b (challenge_name e.ask) (challenged_user journal e.session))) ≡ Some (cond b number row.account)
+  account : (b : Bool) → takes e ≡ b → has_taken (phase_after row.phase e) ≡ true → cond (cond b (nat_le decoys_from (value_of e.decision)) (was_decoyed journal e.session)) (Some (length setup.accounts)) (number_by setup (cond b (challenge_name e.ask) (challenged_user journal e.session))) ≡ Some (cond b number row.account)
   account true is has = (f.taking is).1
-  account false is has = r.account (had_account row.phase e is (λ h. (f.accepting h).0) f.exporting has)
+  account false is has = r.account (had_taken row.phase e is (λ h. (f.accepting h).0) f.exporting has)
 
   no_taking : is_logged_in row.phase ≡ true → takes e ≡ false
   no_taking logged = go (takes e) refl where
@@ -299,7 +298,7 @@ row_own setup row journal e number grant r f = record {
       ∙ r.user before ∙ sym (same_user (no_taking before))
 
   no_decoy : row.phase ≡ Challenged → row.account < length setup.accounts → was_decoyed journal e.session ≡ false
-  no_decoy phase below = go (was_decoyed journal e.session) refl (r.account (ap has_account phase)) where
+  no_decoy phase below = go (was_decoyed journal e.session) refl (r.account (ap has_taken phase)) where
     go : (b : Bool) → was_decoyed journal e.session ≡ b → cond b (Some (length setup.accounts)) (number_by setup (challenged_user journal e.session)) ≡ Some row.account → was_decoyed journal e.session ≡ false
     go true is h = let same : length setup.accounts ≡ row.account = cc in absurd (omega (arith, same, below))
     go false is h = is
@@ -310,19 +309,19 @@ row_own setup row journal e number grant r f = record {
       let before = was_logged_in row.phase e is f.exporting logged in
       same_decoy (no_taking before) ∙ r.real before
 
-  no_opening : is_early row.phase ≡ true → opens_file e ≡ false
-  no_opening early = go (opens_file e) refl where
+  no_opening : is_before_user row.phase ≡ true → opens_file e ≡ false
+  no_opening before = go (opens_file e) refl where
     go : (b : Bool) → opens_file e ≡ b → opens_file e ≡ false
-    go true is = absurd (false≢true (sym (ap is_early (f.opening is).0) ∙ early))
+    go true is = absurd (false≢true (sym (ap is_before_user (f.opening is).0) ∙ before))
     go false is = is
 
-  none : is_early (phase_after row.phase e) ≡ true → handles_after (live_handles_of journal e.session) e ≡ []
-  none early =
-      let before = was_early row.phase e early in
-      ap (λ live. handles_after live e) (r.early before) ∙ ap (λ b. cond b (e ∷ []) []) (no_opening before)
+  none : is_before_user (phase_after row.phase e) ≡ true → handles_after (live_handles_of journal e.session) e ≡ []
+  none after =
+      let before = was_before_user row.phase e after in
+      ap (λ live. handles_after live e) (r.unopened before) ∙ ap (λ b. cond b (e ∷ []) []) (no_opening before)
 
   empty : takes e ≡ true → live_handles_of journal e.session ≡ []
-  empty is = r.early (ap is_early (pre is))
+  empty is = r.unopened (ap is_before_user (pre is))
 
   none_after : takes e ≡ true → handles_after (live_handles_of journal e.session) e ≡ []
   none_after is = ap (λ live. handles_after live e) (empty is) ∙ ap (λ b. cond b (e ∷ []) []) (taking_is e is).opens_none
@@ -353,7 +352,7 @@ row_other setup row journal e session other r = record {
   account = λ has. challenged ∙ r.account has;
   user = λ logged. verified_user-other journal e session other ∙ r.user logged ∙ sym (challenged_user-other journal e session other);
   real = λ logged. was_decoyed-other journal e session other ∙ r.real logged;
-  early = λ early. live_handles_of-other journal e session other ∙ r.early early;
+  unopened = λ before. live_handles_of-other journal e session other ∙ r.unopened before;
   handles = r.handles ∙ ap (map (file_by (grants_at setup row.account))) (sym (live_handles_of-other journal e session other));
   granted = ap (list_all (is_granted (grants_at setup row.account))) (live_handles_of-other journal e session other) ∙ r.granted;
 } where
@@ -377,7 +376,7 @@ row_new setup journal e numbered opened next =
       account = λ has. absurd (false≢true has);
       user = λ logged. absurd (false≢true logged);
       real = λ logged. absurd (false≢true logged);
-      early = λ early. fresh.handles;
+      unopened = λ before. fresh.handles;
       handles = ap (map (file_by (grants_at setup 0))) (sym fresh.handles);
       granted = ap (list_all (is_granted (grants_at setup 0))) fresh.handles;
     }

@@ -1,12 +1,12 @@
 -- What a row that stands for a journal decides is the policy's verdict.
-use Rattle.std.proofs.Common.{◌≡◌, ◌≢◌, ℕ, Bool, true, false, ◌&&◌, ◌||◌, ◌==◌, not, cond, eqb, List, [], ◌∷◌, length, map, nat_le, slice_get, Option, Some, None, is_none, unwrap_or, refl, sym, ap, subst, ◌∙◌, arith}
+use Rattle.std.proofs.Common.{◌≡◌, ◌≢◌, ℕ, Bool, true, false, ◌&&◌, ◌||◌, ◌==◌, not, cond, eqb, List, [], ◌∷◌, length, map, nat_le, Option, Some, None, is_none, unwrap_or, refl, sym, ap, ◌∙◌, arith}
 use Rattle.std.specs.List.{find}
 use Rattle.std.proofs.lemmas.Bool.Decides.{nat_tests}
 use Rattle.std.proofs.lemmas.List.{length-map}
 use Rattle.request_catalogue.specs.declared.kind.Kind.{Kind}
 use Rattle.request_catalogue.specs.declared.texts.Label.{Label}
 use Rattle.request_catalogue.specs.declared.texts.Name.{Name}
-use Rattle.request_catalogue.specs.Rules.{asks_spent, handles_spent, mode_lacking, no_handle, not_in_phase, once_only}
+use Rattle.request_catalogue.specs.Rules.{asks_spent, handles_spent, no_handle, not_in_phase, once_only}
 use Rattle.policy_model.specs.declared.account.Grant.{Grant}
 use Rattle.policy_model.specs.declared.event.Ask.{Ask}
 use Rattle.policy_model.specs.declared.event.Ask.TheVariants as asks
@@ -15,21 +15,21 @@ use Rattle.policy_model.specs.declared.event.Decision.TheVariants.{Permit, Deny}
 use Rattle.policy_model.specs.declared.event.Event.{Event}
 use Rattle.policy_model.specs.declared.phase.Phase.{Phase}
 use Rattle.policy_model.specs.declared.phase.Phase.TheVariants.{Pre, Challenged, Verified, User, Over}
-use Rattle.policy_model.specs.declared.phase.Row.{Row}
-use Rattle.policy_model.specs.Asks.{accepts, came_by_frame, exports, handle_of, is_login_step, kind_of, mode_of, permits_kind, request_number}
+use Rattle.policy_model.specs.Asks.{accepts, came_by_frame, exports, handle_of, is_login_step, request_number}
 use Rattle.policy_model.specs.Handles.{free_handle_of, handle_numbers, handle_opening, live_handles_of}
 use Rattle.policy_model.specs.Journal.{ask_count, has_event, last_event}
-use Rattle.policy_model.specs.Logins.{account_of, challenged_user, verified_user, was_decoyed}
+use Rattle.policy_model.specs.Logins.{challenged_user, verified_user}
 use Rattle.policy_model.specs.Phases.{is_over, is_taking, phase_of, table_row}
 use Rattle.policy_model.specs.Settings.{Settings, account_number, same_label}
-use Rattle.policy_model.specs.Verdict.{account_named, allows, close_verdict, grant_verdict, grants_of, handle_verdict, kind_verdict, number_named, open_verdict, own_verdict, request_verdict, row_verdict, table_verdict, use_verdict}
+use Rattle.policy_model.specs.Verdict.{account_named, close_verdict, grant_verdict, grants_of, handle_verdict, kind_verdict, number_named, open_verdict, own_verdict, request_verdict, row_verdict, use_verdict}
+use Rattle.session_laws.specs.Judged.{is_over_phase}
 use Rattle.session_laws.proofs.Numbers.{numbered_by_number}
 use Rattle.session_table.specs.declared.handles.LiveHandle.{LiveHandle}
 use Rattle.session_table.specs.declared.rows.SessionRow.{SessionRow}
 use Rattle.session_table.specs.Files.{close_decision, file_at, free_of, is_free, open_decision, use_by, use_decision}
 use Rattle.session_table.specs.Marks.{has_mark}
-use Rattle.session_table.specs.Judging.{IsCloseVerdict, IsOpenVerdict, IsRefusal, IsUseVerdict, is_over_phase, kind_refusal, own_refusal, refusal_of}
-use Rattle.session_table.specs.Standing.{RowStands, account_challenged, file_by, grants_at, has_account, is_logged_in, number_by}
+use Rattle.session_table.specs.Judging.{IsCloseVerdict, IsOpenVerdict, IsRefusal, IsUseVerdict, kind_refusal, own_refusal, refusal_of}
+use Rattle.session_table.specs.Standing.{RowStands, file_by, grants_at, has_taken, is_logged_in, number_by}
 use Rattle.session_table.proofs.FitLemmas.{free_is}
 
 -- 1. Whose account it is
@@ -41,13 +41,13 @@ record IsUser (setup : Settings) (journal : List Event) (session number : ℕ) :
   number_is : account_number setup user ≡ Some number
   grants : grants_of (account_named setup (verified_user journal session)) ≡ grants_at setup number
 
-has_logged_in : (p : Phase) → is_logged_in p ≡ true → has_account p ≡ true
-has_logged_in Verified h = refl
-has_logged_in User h = refl
-has_logged_in _ h = absurd cc
+logged_in_taken : (p : Phase) → is_logged_in p ≡ true → has_taken p ≡ true
+logged_in_taken Verified h = refl
+logged_in_taken User h = refl
+logged_in_taken _ h = absurd cc
 
 user_is : (setup : Settings) (row : SessionRow) (journal : List Event) (session : ℕ) → RowStands setup row journal session → is_logged_in row.phase ≡ true → IsUser setup journal session row.account
-user_is setup row journal session r logged = go (challenged_user journal session) refl (sym (ap (λ b. cond b (Some (length setup.accounts)) (number_by setup (challenged_user journal session))) (r.real logged)) ∙ r.account (has_logged_in row.phase logged)) where
+user_is setup row journal session r logged = go (challenged_user journal session) refl (sym (ap (λ b. cond b (Some (length setup.accounts)) (number_by setup (challenged_user journal session))) (r.real logged)) ∙ r.account (logged_in_taken row.phase logged)) where
   go : (o : Option Name) → challenged_user journal session ≡ o → number_by setup (challenged_user journal session) ≡ Some row.account → IsUser setup journal session row.account
   go None is h = let none : number_by setup None ≡ Some row.account = sym (ap (number_by setup) is) ∙ h in absurd cc
   go (Some user) is h =

@@ -1,4 +1,4 @@
--- The files that a session has open, as a list.
+-- Inner: the files that a session has open, as a list.
 use Rattle.std.specs.Prelude.{ℕ, ◌≡◌, ◌++◌, ◌≤◌, ◌==◌, ◌||◌, Bool, true, List, [], ◌∷◌, filter, length, not, Option, Some, None, is_none, nat_le, unwrap_or, if◌then◌else◌}
 use Rattle.std.specs.List.{find}
 use Rattle.request_catalogue.specs.declared.texts.Label.{Label}
@@ -7,7 +7,7 @@ use Rattle.policy_model.specs.declared.account.Grant.{Grant}
 use Rattle.policy_model.specs.declared.event.Ask.{Ask}
 use Rattle.policy_model.specs.declared.event.Ask.TheVariants as asks
 use Rattle.policy_model.specs.declared.event.Decision.{Decision}
-use Rattle.policy_model.specs.declared.event.Decision.TheVariants.{Permit, Deny, Lost}
+use Rattle.policy_model.specs.declared.event.Decision.TheVariants.{Permit, Deny}
 use Rattle.policy_model.specs.declared.event.Event.{Event}
 use Rattle.policy_model.specs.Asks.{handle_of, is_permit, mode_of, opens_file, value_of}
 use Rattle.policy_model.specs.Handles.{handle_numbers}

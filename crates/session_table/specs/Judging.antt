@@ -1,5 +1,5 @@
--- The rules that come before those of a request's own kind, and what a row decides for each journal that it stands for.
-use Rattle.std.specs.Prelude.{ℕ, ◌≡◌, ◌≢◌, ◌==◌, ◌&&◌, not, Bool, true, false, List, Option, Some, None, unwrap_or, if◌then◌else◌}
+-- Inner: the rules that come before those of a request's own kind, and what a row decides for each journal that it stands for.
+use Rattle.std.specs.Prelude.{ℕ, ◌≡◌, ◌≢◌, ◌==◌, ◌&&◌, not, true, List, Option, Some, None, unwrap_or, if◌then◌else◌}
 use Rattle.request_catalogue.specs.declared.kind.Kind.{Kind}
 use Rattle.request_catalogue.specs.declared.texts.Label.{Label}
 use Rattle.request_catalogue.specs.Rules.{asks_spent, not_in_phase, once_only}
@@ -9,21 +9,15 @@ use Rattle.policy_model.specs.declared.event.Ask.TheVariants as asks
 use Rattle.policy_model.specs.declared.event.Decision.{Decision}
 use Rattle.policy_model.specs.declared.event.Decision.TheVariants.{Deny}
 use Rattle.policy_model.specs.declared.event.Event.{Event}
-use Rattle.policy_model.specs.declared.phase.Phase.{Phase}
-use Rattle.policy_model.specs.declared.phase.Phase.TheVariants.{Over}
-use Rattle.policy_model.specs.declared.phase.Row.{Row}
 use Rattle.policy_model.specs.Asks.{came_by_frame, kind_of, request_number}
 use Rattle.policy_model.specs.Phases.{table_row}
 use Rattle.policy_model.specs.Settings.{Settings}
-use Rattle.policy_model.specs.Verdict.{close_verdict, handle_verdict, kind_verdict, number_named, open_verdict, request_verdict}
+use Rattle.policy_model.specs.Verdict.{close_verdict, handle_verdict, kind_verdict, open_verdict, request_verdict}
+use Rattle.session_laws.specs.Judged.{is_over_phase}
 use Rattle.session_table.specs.declared.handles.LiveHandle.{LiveHandle}
 use Rattle.session_table.specs.declared.rows.SessionRow.{SessionRow}
 use Rattle.session_table.specs.Marks.{has_mark}
 use Rattle.session_table.specs.Standing.{RowStands, grants_at, is_logged_in}
-
-abbrev pub is_over_phase : Phase → Bool
-is_over_phase Over = true
-is_over_phase _ = false
 
 -- rule 6 where the phase doesn't permit the kind, rule 7 where one was permitted that may be only once
 abbrev pub kind_refusal : SessionRow → Ask → Kind → Option Decision

@@ -1,4 +1,4 @@
--- What a journal says of a session, and a row that knows it.
+-- Inner: what a journal says of a session, and a row that knows it.
 use Rattle.std.specs.Prelude.{ℕ, ◌≡◌, ◌<◌, ◌+◌, Bool, true, false, List, [], ◌∷◌, ◌++◌, Option, Some, None, is_some, length, map, nat_le, position, slice_get, unwrap_or, if◌then◌else◌}
 use Rattle.std.specs.List.{list_all}
 use Rattle.request_catalogue.specs.declared.kind.Kind.{Kind}
@@ -9,8 +9,8 @@ use Rattle.policy_model.specs.declared.event.Ask.{Ask}
 use Rattle.policy_model.specs.declared.event.Ask.TheVariants as asks
 use Rattle.policy_model.specs.declared.event.Event.{Event}
 use Rattle.policy_model.specs.declared.phase.Phase.{Phase}
-use Rattle.policy_model.specs.declared.phase.Phase.TheVariants.{Pre, Challenged, Verified, User, Over}
-use Rattle.policy_model.specs.Asks.{accepts, challenge_name, decoys_from, exports, handle_of, is_denied_reply, mode_of, opens, opens_file, permits_kind, takes, value_of}
+use Rattle.policy_model.specs.declared.phase.Phase.TheVariants.{Pre, Challenged, Verified, User}
+use Rattle.policy_model.specs.Asks.{accepts, challenge_name, decoys_from, exports, is_denied_reply, opens, opens_file, permits_kind, takes, value_of}
 use Rattle.policy_model.specs.Handles.{live_handles_of}
 use Rattle.policy_model.specs.Journal.{ask_count, count_of, has_event, openings_of}
 use Rattle.policy_model.specs.Logins.{challenged_user, verified_user, was_decoyed}
@@ -37,22 +37,22 @@ abbrev pub account_challenged : Settings → List Event → ℕ → Option ℕ
 account_challenged setup journal session = if was_decoyed journal session then Some (length setup.accounts) else number_by setup (challenged_user journal session)
 
 -- the phases from a challenge on, those from the login on, and those before the user's own child
-abbrev pub has_account : Phase → Bool
-has_account Challenged = true
-has_account Verified = true
-has_account User = true
-has_account _ = false
+abbrev pub has_taken : Phase → Bool
+has_taken Challenged = true
+has_taken Verified = true
+has_taken User = true
+has_taken _ = false
 
 abbrev pub is_logged_in : Phase → Bool
 is_logged_in Verified = true
 is_logged_in User = true
 is_logged_in _ = false
 
-abbrev pub is_early : Phase → Bool
-is_early Pre = true
-is_early Challenged = true
-is_early Verified = true
-is_early _ = false
+abbrev pub is_before_user : Phase → Bool
+is_before_user Pre = true
+is_before_user Challenged = true
+is_before_user Verified = true
+is_before_user _ = false
 
 -- the file that an OPEN names
 abbrev pub label_named : Ask → Option Label
@@ -84,10 +84,10 @@ pub record RowStands (setup : Settings) (row : SessionRow) (journal : List Event
   pub bits : (kind : Kind) → has_mark kind row.bits ≡ has_event journal s (permits_kind kind)
   pub asked : row.asked ≡ ask_count journal s
   pub tries : row.tries ≡ count_of journal s is_denied_reply
-  pub account : has_account row.phase ≡ true → account_challenged setup journal s ≡ Some row.account
+  pub account : has_taken row.phase ≡ true → account_challenged setup journal s ≡ Some row.account
   pub user : is_logged_in row.phase ≡ true → verified_user journal s ≡ challenged_user journal s
   pub real : is_logged_in row.phase ≡ true → was_decoyed journal s ≡ false
-  pub early : is_early row.phase ≡ true → live_handles_of journal s ≡ []
+  pub unopened : is_before_user row.phase ≡ true → live_handles_of journal s ≡ []
   pub handles : row.handles ≡ map (file_by (grants_at setup row.account)) (live_handles_of journal s)
   pub granted : list_all (is_granted (grants_at setup row.account)) (live_handles_of journal s) ≡ true
 
@@ -108,6 +108,6 @@ pub record NamesFit (setup : Settings) (row : SessionRow) (e : Event) (number gr
 pub record StandsNew (session : ℕ) (row : SessionRow) : Type 0 where
   pub by_journal : (setup : Settings) (journal : List Event) (e : Event) → AreNumbered journal (openings_of journal) → opens e ≡ true → e.session ≡ session → session ≡ openings_of journal + 1 → RowStands setup row (journal ++ e ∷ []) session
 
--- what a row becomes stands for a journal and one event more, of the session or of another
+-- what a row becomes stands for a journal and one event more of the session
 pub record StandsAfter (old : SessionRow) (e : Event) (number grant : ℕ) (new : SessionRow) : Type 0 where
   pub by_journal : (setup : Settings) (journal : List Event) → RowStands setup old journal e.session → FitsRow setup old e number grant → RowStands setup new (journal ++ e ∷ []) e.session

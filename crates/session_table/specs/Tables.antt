@@ -1,5 +1,5 @@
--- The rows of all workers, and a table that knows what a journal says of each worker's session.
-use Rattle.std.specs.Prelude.{ℕ, ◌≡◌, ◌≢◌, ◌<◌, ◌+◌, ◌-◌, ◌^◌, ◌&&◌, Bool, true, false, List, [], ◌∷◌, ◌++◌, Option, Some, None, length, replicate, slice_index_or, slice_set}
+-- Inner: the rows of all workers, and a table that knows what a journal says of each worker's session.
+use Rattle.std.specs.Prelude.{ℕ, ◌≡◌, ◌≢◌, ◌<◌, ◌+◌, ◌-◌, ◌^◌, ◌&&◌, true, false, List, [], ◌∷◌, ◌++◌, Option, Some, None, length, replicate, slice_index_or, slice_set}
 use Rattle.policy_model.specs.declared.event.Event.{Event}
 use Rattle.policy_model.specs.Asks.{is_end, is_lost, is_permit, opens}
 use Rattle.policy_model.specs.Journal.{open_session_of, openings_of}

@@ -1,11 +1,12 @@
 //! The files that a session has open, in eight places.
 
-ghost use Rattle.std.specs.Prelude.{◌≡◌, ◌≤◌, ◌++◌, ◌∷◌, [], true, length};
+ghost use Rattle.std.specs.Prelude.{◌≡◌, ◌≤◌, ◌++◌, ◌∷◌, [], Some, true, length};
 ghost use Rattle.std.specs.List.{find};
 ghost use Rattle.std.specs.Option.{option_copied};
 ghost use Rattle.policy_model.specs.Settings.{same_label};
 ghost use Rattle.policy_model.specs.Verdict.{allows, grant_verdict};
 ghost use Rattle.session_table.specs.Files.{FitsFiles, IsNewHandle, close_decision, file_at, files_after, free_of, is_free, look_of, open_decision, use_decision, without};
+ghost use Rattle.session_table.specs.Standing.{grant_number};
 ghost use Rattle.session_table.specs.Judging.{IsCloseVerdict, IsOpenVerdict, IsUseVerdict};
 
 use arrayvec::ArrayVec;
@@ -61,6 +62,13 @@ fn grant_of<'a>(grants: &'a [Grant], name: &Label) -> Option<&'a Grant>
     ensures { option_copied result ≡ find (λ g. same_label g.name name.now) grants.entry.now }
 {
     grants.iter().find(|g| g.name == *name)
+}
+
+/// The number of the grant of a file's name, counted from 0.
+pub fn find_grant(grants: &Grants, name: &Label) -> Option<usize>
+    ensures { result ≡ grant_number grants.now (Some name.now) }
+{
+    grants.as_slice().iter().position(|g| g.name == *name)
 }
 
 /// Rules 20 and 21 of an OPEN, else a permit with the handle.

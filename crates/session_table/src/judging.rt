@@ -2,7 +2,8 @@
 
 ghost use Rattle.std.specs.Prelude.{◌≡◌};
 ghost use Rattle.policy_model.specs.declared.event.Decision.TheVariants.{Deny};
-ghost use Rattle.session_table.specs.Judging.{IsRefusal, is_over_phase, kind_refusal, refusal_of};
+ghost use Rattle.session_laws.specs.Judged.{is_over_phase};
+ghost use Rattle.session_table.specs.Judging.{IsRefusal, kind_refusal, refusal_of};
 
 use crate::rows::SessionRow;
 use policy_model::{Ask, Decision, Phase, row};

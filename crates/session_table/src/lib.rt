@@ -11,7 +11,7 @@ mod rows;
 mod table;
 
 pub use bits::Bits;
-pub use handles::{Handles, LiveHandle};
+pub use handles::{Handles, LiveHandle, find_grant};
 pub use rows::SessionRow;
 pub use table::Table;
 

@@ -176,6 +176,8 @@ const EIGHT_FILES: &str = "
 #[test]
 fn files(rt: HostRuntime) -> Result<(), Fail> {
     let grants = grants(rt.alloc(), "f1 f2 f3 f4 f5 f6 f7 f8 f9")?;
+    assert_eq!(rt; find_grant(&grants, &label("f9")?), Some(8));
+    assert_eq!(rt; find_grant(&grants, &label("g")?), None);
     assert!(rt; files_hold(&mut Handles::new(), &grants, ONE_FILE_TWICE)?);
     assert!(rt; files_hold(&mut Handles::new(), &grants, EIGHT_FILES)?);
     Ok(())

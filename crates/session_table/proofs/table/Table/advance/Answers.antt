@@ -1,4 +1,4 @@
-use Rattle.std.proofs.Common.{ap, subst, sym, ◌∙◌, ◌≡◌, List, Option}
+use Rattle.std.proofs.Common.{ap, subst, sym, ◌∙◌, List, Option}
 use Rattle.session_table.specs.declared.rows.SessionRow.{SessionRow}
 use Rattle.session_table.specs.Tables.{StandsKept, TableParts, table_after}
 use Rattle.session_table.proofs.TableLemmas.{stands_kept}

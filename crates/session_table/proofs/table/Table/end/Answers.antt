@@ -1,4 +1,4 @@
-use Rattle.std.proofs.Common.{subst, sym, ◌<◌, length}
+use Rattle.std.proofs.Common.{subst, sym}
 use Rattle.session_table.specs.Tables.{StandsEnded, table_ended}
 use Rattle.session_table.proofs.TableLemmas.{stands_ended}
 use Rattle.session_table.proofs.table.Table.end.Goals as goal
