@@ -16,7 +16,7 @@ use Rattle.session_laws.specs.Numbered.{HoldsOnly, IsNumbered}
 use Rattle.session_laws.proofs.Numbers.{numbered_by_number}
 use Rattle.session_laws.proofs.Permits.{same_some}
 use Rattle.session_table.specs.declared.rows.SessionRow.{SessionRow}
-use Rattle.session_table.specs.Standing.{RowStands, has_account, number_by}
+use Rattle.session_table.specs.Standing.{RowStands, has_taken, number_by}
 
 pub as_many : (l : LedgerParts) (journal : List Event) → StandsFor l journal → length l.accounts ≡ length l.setup.accounts
 as_many l journal st = ap length st.accounts ∙ length-map l.setup.accounts (state_by journal)
@@ -28,7 +28,7 @@ pub record IsUser (setup : Settings) (journal : List Event) (session number : �
   pub challenged : challenged_user journal session ≡ Some user
   pub numbered : IsNumbered setup user number account
 
-pub user_is : (setup : Settings) (row : SessionRow) (journal : List Event) (session : ℕ) → RowStands setup row journal session → has_account row.phase ≡ true → was_decoyed journal session ≡ false → IsUser setup journal session row.account
+pub user_is : (setup : Settings) (row : SessionRow) (journal : List Event) (session : ℕ) → RowStands setup row journal session → has_taken row.phase ≡ true → was_decoyed journal session ≡ false → IsUser setup journal session row.account
 user_is setup row journal session r has real = go (challenged_user journal session) refl (sym (ap (λ b. cond b (Some (length setup.accounts)) (number_by setup (challenged_user journal session))) real) ∙ r.account has) where
   go : (o : Option Name) → challenged_user journal session ≡ o → number_by setup (challenged_user journal session) ≡ Some row.account → IsUser setup journal session row.account
   go None is h = let none : number_by setup None ≡ Some row.account = sym (ap (number_by setup) is) ∙ h in absurd cc
@@ -38,7 +38,7 @@ user_is setup row journal session r has real = go (challenged_user journal sessi
       record { user = user; account = n.0; challenged = is; numbered = n.1 }
 
 -- a decoy's account is the number of accounts
-pub decoy_number_is : (setup : Settings) (row : SessionRow) (journal : List Event) (session : ℕ) → RowStands setup row journal session → has_account row.phase ≡ true → was_decoyed journal session ≡ true → row.account ≡ length setup.accounts
+pub decoy_number_is : (setup : Settings) (row : SessionRow) (journal : List Event) (session : ℕ) → RowStands setup row journal session → has_taken row.phase ≡ true → was_decoyed journal session ≡ true → row.account ≡ length setup.accounts
 decoy_number_is setup row journal session r has decoyed =
     same_some row.account (length setup.accounts) (sym (r.account has) ∙ ap (λ b. cond b (Some (length setup.accounts)) (number_by setup (challenged_user journal session))) decoyed)
 

@@ -32,9 +32,10 @@ use Rattle.session_core.specs.Standing.{Stands}
 use Rattle.session_core.proofs.AccountLemmas.{account_none, account_there, as_many, decoy_number_is, user_is}
 use Rattle.session_table.specs.declared.rows.SessionRow.{SessionRow}
 use Rattle.session_table.specs.Files.{open_decision}
-use Rattle.session_table.specs.Judging.{is_over_phase, kind_refusal, own_refusal, refusal_of}
+use Rattle.session_laws.specs.Judged.{is_over_phase}
+use Rattle.session_table.specs.Judging.{kind_refusal, own_refusal, refusal_of}
 use Rattle.session_table.specs.Marks.{has_mark}
-use Rattle.session_table.specs.Standing.{RowStands, grants_at, has_account, is_logged_in}
+use Rattle.session_table.specs.Standing.{RowStands, grants_at, has_taken, is_logged_in}
 use Rattle.session_table.specs.Tables.{WorkerStands}
 use Rattle.session_table.proofs.VerdictLemmas.{close_decides, export_decides, open_decides, refusal_decides, use_decides}
 use Rattle.policy_model.specs.Verdict.{grants_of}
@@ -51,8 +52,8 @@ challenge_decides l row journal session user now st r =
 reply_decides : (l : LedgerParts) (row : SessionRow) (journal : List Event) (session : ℕ) (words hex : Option ℕ) → StandsFor l journal → RowStands l.setup row journal session → row.phase ≡ Challenged → reply_by l row words hex ≡ reply_verdict l.setup journal session words hex
 unfolding reply_verdict
 reply_decides l row journal session words hex st r phase = go (was_decoyed journal session) refl where
-  has : has_account row.phase ≡ true
-  has = ap has_account phase
+  has : has_taken row.phase ≡ true
+  has = ap has_taken phase
 
   many : length l.accounts ≡ length l.setup.accounts
   many = as_many l journal st
@@ -69,7 +70,7 @@ reply_decides l row journal session words hex st r phase = go (was_decoyed journ
       ∙ sym (ap (login_verdict l.setup journal session (readings words hex)) u.challenged)
       ∙ sym (ap (λ b. cond b (decoy_verdict (readings words hex)) (login_verdict l.setup journal session (readings words hex) (challenged_user journal session))) real)
 
-has_logged_in : (p : Phase) → is_logged_in p ≡ true → has_account p ≡ true
+has_logged_in : (p : Phase) → is_logged_in p ≡ true → has_taken p ≡ true
 has_logged_in Verified h = refl
 has_logged_in User h = refl
 has_logged_in _ h = absurd cc

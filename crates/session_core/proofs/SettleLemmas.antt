@@ -1,7 +1,7 @@
 -- What the event that follows makes of the accounts.
 use Rattle.std.proofs.Common.{◌≡◌, ◌≢◌, ℕ, ◌+◌, ◌-◌, ◌<◌, Bool, true, false, not, ◌&&◌, ◌||◌, cond, eqb, nat_le, nat_lt, List, [], ◌∷◌, ◌++◌, length, map, Option, Some, None, refl, sym, ap, subst, ◌∙◌, arith}
 use Rattle.std.specs.Prelude.{is_some, unwrap_or}
-use Rattle.std.proofs.lemmas.Bool.{and_from, and_parts, false≢true}
+use Rattle.std.proofs.lemmas.Bool.{and_from, and_parts, false_from_ne_true, false≢true}
 use Rattle.std.proofs.lemmas.Bool.Decides.{nat_tests}
 use Rattle.request_catalogue.specs.declared.texts.Name.{Name}
 use Rattle.otp_hash.specs.Hashing.{hash_of}
@@ -16,7 +16,7 @@ use Rattle.policy_model.specs.declared.event.Decision.{Decision}
 use Rattle.policy_model.specs.declared.event.Event.{Event}
 use Rattle.policy_model.specs.declared.phase.Phase.{Phase}
 use Rattle.policy_model.specs.declared.phase.Phase.TheVariants.{Pre, Challenged, Verified, User, Over}
-use Rattle.policy_model.specs.Asks.{accepts, challenge_name, decoys_from, ends_session, gives_up, is_login_step, is_permit, moment_of, opens, reserves, takes, takes_user, value_of}
+use Rattle.policy_model.specs.Asks.{accepts, came_by_frame, challenge_name, decoys_from, ends_session, gives_up, is_login_step, is_permit, is_reply, moment_of, opens, reserves, takes, takes_user, value_of}
 use Rattle.policy_model.specs.Journal.{open_session_of}
 use Rattle.policy_model.specs.Legal.{IsLegal, IsNext}
 use Rattle.policy_model.specs.Logins.{account_of, current_password, current_sequence, holder_of, last_taking_of, replies_of, session_taking, was_decoyed}
@@ -29,11 +29,12 @@ use Rattle.session_core.proofs.AccountLemmas.{IsUser, as_many, decoy_number_is, 
 use Rattle.session_laws.specs.Tied.{AcceptsNext, LeavesUser, ReservesLive, leaves}
 use Rattle.session_laws.proofs.Numbers.{decoyed_holds, holds_only, unchallenged_holds}
 use Rattle.session_laws.proofs.Opened.{opening}
+use Rattle.session_laws.proofs.Openings.{phase_of-zero}
 use Rattle.session_laws.proofs.Permits.{same_name-same, same_some}
-use Rattle.session_laws.proofs.Permitted.{IsTaking, accepted_in_challenged, accepted_no_decoy, taking}
+use Rattle.session_laws.proofs.Permitted.{IsTaking, accepted_in_challenged, accepted_no_decoy, permitted_live, taking}
 use Rattle.session_laws.proofs.Settling.{accepts_next, decoy_reserves_none, leaves_user, reserves_live, reserves_none}
 use Rattle.session_table.specs.declared.rows.SessionRow.{SessionRow}
-use Rattle.session_table.specs.Standing.{RowStands, has_account, number_by}
+use Rattle.session_table.specs.Standing.{RowStands, account_taken, has_taken, number_by}
 
 -- 1. An event that leaves every user as it is
 
@@ -105,7 +106,7 @@ taking_stands l journal e range legal next st taken = go (nat_le decoys_from (va
 accepting_user : (setup : Settings) (row : SessionRow) (journal : List Event) (e : Event) → RowStands setup row journal e.session → IsNext setup journal e → accepts e ≡ true → IsUser setup journal e.session row.account
 accepting_user setup row journal e r next accepted =
     let phase : row.phase ≡ Challenged = r.phase ∙ accepted_in_challenged setup journal e next accepted in
-    user_is setup row journal e.session r (ap has_account phase) (accepted_no_decoy setup journal e next accepted)
+    user_is setup row journal e.session r (ap has_taken phase) (accepted_no_decoy setup journal e next accepted)
 
 accepting_stands : (l : LedgerParts) (row : SessionRow) (journal : List Event) (e : Event) → IsInRange l.setup → IsLegal l.setup journal → IsNext l.setup journal e → StandsFor l journal → RowStands l.setup row journal e.session → accepts e ≡ true → StandsFor (ledger_accepting l row.account e) (journal ++ e ∷ [])
 accepting_stands l row journal e range legal next st r accepted =
@@ -152,7 +153,7 @@ none_held l row journal session user legal st r h = go (is_challenged row.phase)
   decoyed : row.phase ≡ Challenged → nat_lt row.account (length l.accounts) ≡ false → (b : Bool) → was_decoyed journal session ≡ b → is_holder session (holder_of journal user) ≡ false
   decoyed phase above true is = (decoyed_holds l.setup journal session legal is).none user
   decoyed phase above false is =
-      let u = user_is l.setup row journal session r (ap has_account phase) is in
+      let u = user_is l.setup row journal session r (ap has_taken phase) is in
       let below : nat_lt row.account (length l.accounts) ≡ true = grind (arith, nat_tests, u.numbered.below, as_many l journal st) in
       absurd (false≢true (sym above ∙ below))
 
@@ -173,19 +174,19 @@ leaving_stands l row journal e range legal next st r untaken unaccepted = go (le
       let both = and_parts (is_challenged row.phase) (nat_lt row.account (length l.accounts)) may in
       let phase = challenged_is row.phase both.0 in
       let below : row.account < length l.accounts = grind (arith, nat_tests, both.1) in
-      let u = user_is l.setup row journal e.session r (ap has_account phase) (real phase below (was_decoyed journal e.session) refl) in
+      let u = user_is l.setup row journal e.session r (ap has_taken phase) (real phase below (was_decoyed journal e.session) refl) in
       subst (λ (x : Bool). StandsFor (cond x (ledger_releasing l row.account e.session) l) (journal ++ e ∷ [])) (sym (ap (λ x. x && may_hold l row) left ∙ may))
       ((stands_left l row.account e.session below).by_journal journal e st unaccepted left refl
       (holds_at_most l journal e.session row.account st (holds_only l.setup journal e.session row.account u.user range legal u.challenged u.numbered.number_is))) where
         real : row.phase ≡ Challenged → row.account < length l.accounts → (b : Bool) → was_decoyed journal e.session ≡ b → was_decoyed journal e.session ≡ false
         real phase below false is = is
         real phase below true is =
-            let number = decoy_number_is l.setup row journal e.session r (ap has_account phase) is in
+            let number = decoy_number_is l.setup row journal e.session r (ap has_taken phase) is in
             absurd (omega (arith, number, below, as_many l journal st))
 
 -- 5. The accounts after an event of a session, and of a worker without one
 
-session_stands : (l : LedgerParts) (row : SessionRow) (journal : List Event) (e : Event) → IsInRange l.setup → IsLegal l.setup journal → IsNext l.setup journal e → StandsFor l journal → RowStands l.setup row journal e.session → StandsFor (ledger_by l row e) (journal ++ e ∷ [])
+pub session_stands : (l : LedgerParts) (row : SessionRow) (journal : List Event) (e : Event) → IsInRange l.setup → IsLegal l.setup journal → IsNext l.setup journal e → StandsFor l journal → RowStands l.setup row journal e.session → StandsFor (ledger_by l row e) (journal ++ e ∷ [])
 session_stands l row journal e range legal next st r = go (takes e) refl (accepts e) refl where
   go : (a : Bool) → takes e ≡ a → (b : Bool) → accepts e ≡ b → StandsFor (cond (takes e) (ledger_taking l (number_for l e) e) (cond (accepts e) (ledger_accepting l row.account e) (ledger_leaving l row e))) (journal ++ e ∷ [])
   go true taken b accepted = subst (λ (x : Bool). StandsFor (cond x (ledger_taking l (number_for l e) e) (cond (accepts e) (ledger_accepting l row.account e) (ledger_leaving l row e))) (journal ++ e ∷ [])) (sym taken) (taking_stands l journal e range legal next st taken)
@@ -206,3 +207,52 @@ opened_stands l journal e legal next st opened =
       no_leaving true o s true h k is = absurd cc
       no_leaving true o s false h k is = absurd cc
       no_leaving false o s t h k is = k
+
+-- a worker without a session takes nobody, has no reply accepted, and holds nobody
+record IsIdle (journal : List Event) (e : Event) : Type 0 where
+  untaken : takes e ≡ false
+  unaccepted : accepts e ≡ false
+  unheld : (user : Name) → is_holder e.session (holder_of journal user) ≡ false
+
+reply_by_frame : (e : Event) → accepts e ≡ true → (came_by_frame e.ask ≡ true) × (is_permit e.decision ≡ true)
+reply_by_frame e h = go e.ask e.decision h where
+  go : (ask : Ask) (d : Decision) → (is_reply ask && is_permit d) ≡ true → (came_by_frame ask ≡ true) × (is_permit d ≡ true)
+  go (asks.Reply words hex) d h = (refl, h)
+  go _ d h = absurd cc
+
+idle : (setup : Settings) (journal : List Event) (e : Event) → IsLegal setup journal → IsNext setup journal e → e.session ≡ 0 → IsIdle journal e
+idle setup journal e legal next zero = record {
+  untaken = false_from_ne_true (takes e) (λ h. (let t = taking e h in none (permitted_live setup journal e next t.by_frame t.permitted).some));
+  unaccepted = false_from_ne_true (accepts e) (λ h. (let r = reply_by_frame e h in none (permitted_live setup journal e next r.0 r.1).some));
+  unheld = (unchallenged_holds setup journal e.session legal over).none;
+} where
+  none : eqb e.session 0 ≡ false → ⊥
+  none h = let is : eqb e.session 0 ≡ true = grind (arith, nat_tests, zero) in false≢true (sym h ∙ is)
+
+  over : phase_of journal e.session ≢ Challenged
+  over h = let wrong : Over ≡ Challenged = sym (phase_of-zero setup journal legal) ∙ ap (phase_of journal) (sym zero) ∙ h in absurd cc
+
+pub idle_stands : (l : LedgerParts) (journal : List Event) (e : Event) → IsLegal l.setup journal → IsNext l.setup journal e → StandsFor l journal → e.session ≡ 0 → StandsFor l (journal ++ e ∷ [])
+idle_stands l journal e legal next st zero =
+    let i = idle l.setup journal e legal next zero in
+    all_stay l journal e st (λ user. leaves_user l.setup journal e user legal next (reserves_none user e i.untaken) i.unaccepted (λ h. i.unheld user))
+
+-- the account that an event's CHALLENGE is for
+pub number_taken : (l : LedgerParts) (journal : List Event) (e : Event) → IsNext l.setup journal e → StandsFor l journal → takes e ≡ true → account_taken l.setup e ≡ Some (number_for l e)
+number_taken l journal e next st taken = go (nat_le decoys_from (value_of e.decision)) refl where
+  many : length l.accounts ≡ length l.setup.accounts
+  many = as_many l journal st
+
+  go : (b : Bool) → nat_le decoys_from (value_of e.decision) ≡ b → account_taken l.setup e ≡ Some (number_for l e)
+  go true decoy =
+      ap (λ b. cond b (Some (length l.setup.accounts)) (number_by l.setup (challenge_name e.ask))) decoy
+      ∙ ap Some (sym many)
+      ∙ sym (ap (λ b. Some (cond b (length l.accounts) (unwrap_or (number_by l.setup (challenge_name e.ask)) (length l.accounts)))) decoy)
+  go false real =
+      let t = taking_of e taken in
+      let reserved : reserves t.0 e ≡ true = and_from (takes_user t.0 e) (nat_lt (value_of e.decision) decoys_from) t.1.taken (below_from (value_of e.decision) real) in
+      let live = reserves_live l.setup journal e t.0 next reserved in
+      let number : number_by l.setup (challenge_name e.ask) ≡ Some live.number = ap (number_by l.setup) t.1.name ∙ live.numbered.number_is in
+      ap (λ b. cond b (Some (length l.setup.accounts)) (number_by l.setup (challenge_name e.ask))) real
+      ∙ number
+      ∙ sym (ap (λ b. Some (cond b (length l.accounts) (unwrap_or (number_by l.setup (challenge_name e.ask)) (length l.accounts)))) real ∙ ap (λ o. Some (unwrap_or o (length l.accounts))) number)

@@ -2,3 +2,4 @@ pub mod Parts
 pub mod Deciding
 pub mod Settling
 pub mod Standing
+pub mod Replayed

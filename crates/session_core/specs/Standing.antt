@@ -13,10 +13,9 @@ use Rattle.policy_model.specs.Runs.{IsOfWorker}
 use Rattle.policy_model.specs.Settings.{IsInRange}
 use Rattle.session_core.specs.Parts.{CoreParts, row_of, setup_of}
 use Rattle.session_core.specs.Settling.{is_challenged}
-use Rattle.session_laws.specs.Early.{is_early}
+use Rattle.session_laws.specs.Rooms.{login_count}
 use Rattle.session_table.specs.declared.rows.SessionRow.{SessionRow}
 use Rattle.session_table.specs.Tables.{FitsWorker, TableParts, TableStands, row_at}
-use Rattle.std.specs.Prelude.{count_by}
 
 -- a core stands for a journal: it is legal, without a lost decision and of the setup's workers; the rows and the accounts know of each session and each account what it says, and the counts are those of its openings and its events
 pub record Stands (core : CoreParts) (journal : List Event) : Type 0 where
@@ -34,7 +33,7 @@ phase_at (Some row) = row.phase
 
 -- how many sessions may still accept a password
 abbrev pub early_rows : TableParts → ℕ
-early_rows table = count_by (λ o. is_early (phase_at o)) table.rows
+early_rows table = login_count phase_at table.rows
 
 -- a setup in its ranges, and room for a password of each session that may still accept one
 pub record IsCore (core : CoreParts) : Type 0 where

@@ -5,7 +5,9 @@
 
 mod deciding;
 mod reading;
+mod replaying;
 mod settling;
 mod whole;
 
+pub use replaying::replay;
 pub use whole::Core;

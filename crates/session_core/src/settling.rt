@@ -1,8 +1,7 @@
 //! What an event makes of the accounts and the rows.
 
-ghost use Rattle.std.specs.Prelude.{◌≡◌, ◌≤◌, ◌<◌, ◌-◌, ◌^◌, length, position, Some, true, unwrap_or};
+ghost use Rattle.std.specs.Prelude.{◌≡◌, ◌≤◌, ◌<◌, ◌-◌, ◌^◌, length, Some, true, unwrap_or};
 ghost use Rattle.policy_model.specs.Asks.{accepts, value_of};
-ghost use Rattle.policy_model.specs.Settings.{same_label};
 ghost use Rattle.session_core.specs.Settling.{grant_for, grant_in, ledger_accepting, ledger_after, ledger_by, ledger_leaving, ledger_taking, may_hold, number_for, session_at, table_next};
 ghost use Rattle.session_core.specs.Standing.{FitsAccounts, FitsRows, IsSpendable};
 ghost use Rattle.session_laws.specs.Judged.{event_session};
@@ -11,9 +10,9 @@ ghost use Rattle.session_table.specs.Tables.{row_at};
 
 use crate::reading::{accepts, closes, is_challenged, leaves, moment, opens, takes, value};
 use otp_ledger::Ledger;
-use policy_model::{Ask, Decision, Event, Grant, Setup};
+use policy_model::{Ask, Decision, Event, Grants, Setup};
 use request_catalogue::Label;
-use session_table::{SessionRow, Table};
+use session_table::{SessionRow, Table, find_grant};
 
 /// The value of a decoy's challenge is this or more.
 const DECOYS_FROM: u64 = 10_000;
@@ -54,25 +53,24 @@ fn number_for(ledger: &Ledger, event: &Event) -> u32
     }
 }
 
-/// The place of the grant of a file's name, 0 where there is none.
-fn place_of(grants: &[Grant], name: &Label) -> usize
-    ensures value { result ≡ unwrap_or (position (λ g. same_label g.name name.now) grants.now) 0 }
-    ensures bound { result ≤ length grants.now }
+/// The number of the grant of a file's name, 0 where there is none.
+fn number_of(grants: &Grants, name: &Label) -> u32
+    requires { length grants.now ≤ 64 }
+    ensures { result ≡ unwrap_or (grant_number grants.now (Some name.now)) 0 }
 {
-    match grants.iter().position(|g| g.name == *name) {
+    match find_grant(grants, name) {
         None => 0,
-        Some(place) => place,
+        Some(number) => number as u32,
     }
 }
 
-/// The number of the grant of a file's name, 0 where there is none.
+/// The number of the account's grant of a file's name, 0 where there is none.
 fn grant_of(setup: &Setup, account: u32, name: &Label) -> u32
     ensures { result ≡ unwrap_or (grant_number (grants_at setup.now account) (Some name.now)) 0 }
 {
-    let parts = setup.parts();
-    match parts.accounts.as_slice().get(account as usize) {
+    match setup.parts().accounts.as_slice().get(account as usize) {
         None => 0,
-        Some(account) => place_of(account.grants.as_slice(), name) as u32,
+        Some(account) => number_of(&account.grants, name),
     }
 }
 

@@ -134,7 +134,7 @@ impl Core {
         ensures event { (journal : List Event) → Stands self.old journal → result ≡ next_event self.old.ledger.setup journal step.now.worker step.now.ask }
         ensures stands { (journal : List Event) → Stands self.old journal → Stands self.new (journal ++ result ∷ []) }
     {
-        let decision = self.decide(step.worker, &step.ask);
+        let decision = self.judge(step.worker, &step.ask);
         self.settle(step.worker, &step.ask, decision)
     }
 }

@@ -1,4 +1,3 @@
-use Rattle.session_core.proofs.SettleLemmas.{opened_stands}
 use Rattle.std.proofs.Common.{◌∙◌, ap, sym, rules}
 use Rattle.std.specs.Option.{option_copied}
 use Rattle.session_core.proofs.settling.settle_accounts.Goals as goal
