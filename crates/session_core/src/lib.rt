@@ -11,3 +11,6 @@ mod whole;
 
 pub use replaying::replay;
 pub use whole::Core;
+
+#[cfg(test)]
+mod tests;
