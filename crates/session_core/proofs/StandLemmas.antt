@@ -343,15 +343,13 @@ event_following core seen journal worker ask decision e same st lt few decided i
     let there : Stands seen journal = subst (λ (x : CoreParts). Stands x journal) same st in
     subst (λ (x : CoreParts). IsFollowing x journal e) (sym same) (following seen journal worker ask e there lt few (is ∙ core_event_is seen journal worker ask decision there lt decided))
 
-pub opening_room : (core seen : CoreParts) (worker : ℕ) (ask : Ask) (decision : Decision) (e : Event) → core ≡ seen → e ≡ core_event seen worker ask decision → (is_begin ask ≡ true → is_permit decision ≡ true → seen.table.begun < seen.ledger.cap) → opens e ≡ true → core.table.begun < core.ledger.cap
-opening_room core seen worker ask decision e same is room opened =
-    let both = and_parts (is_begin ask) (is_permit decision) (sym (ap opens is) ∙ opened) in
-    subst (λ (x : CoreParts). x.table.begun < x.ledger.cap) (sym same) (room both.0 both.1)
+pub opening_room : (core seen : CoreParts) (worker : ℕ) (ask : Ask) (decision : Decision) (e : Event) → core ≡ seen → e ≡ core_event seen worker ask decision → ((is_begin ask && is_permit decision) ≡ true → seen.table.begun < seen.ledger.cap) → opens e ≡ true → core.table.begun < core.ledger.cap
+opening_room core seen worker ask decision e same is room opened = subst (λ (x : CoreParts). x.table.begun < x.ledger.cap) (sym same) (room (sym (ap opens is) ∙ opened))
 
 -- an opening is permitted where the worker has no row
-pub begins_idle : (core : CoreParts) (worker : ℕ) (ask : Ask) (decision : Decision) → decision ≡ core_decision core worker ask → is_begin ask ≡ true → is_permit decision ≡ true → is_none (row_of core worker) ≡ true
-begins_idle core worker ask decision decided begin permit = go (row_of core worker) ask begin (ap is_permit (sym decided) ∙ permit) where
-  go : (o : Option SessionRow) (a : Ask) → is_begin a ≡ true → is_permit (worker_decision core.ledger core.table.begun o a) ≡ true → is_none o ≡ true
-  go None a begin permit = refl
-  go (Some row) asks.Begin begin permit = absurd cc
-  go (Some row) _ begin permit = absurd cc
+pub begins_idle : (core : CoreParts) (worker : ℕ) (ask : Ask) (decision : Decision) → decision ≡ core_decision core worker ask → (is_begin ask && is_permit decision) ≡ true → (is_begin ask && is_none (row_of core worker)) ≡ true
+begins_idle core worker ask decision decided h = go (row_of core worker) ask (ap (λ d. is_begin ask && is_permit d) (sym decided) ∙ h) where
+  go : (o : Option SessionRow) (a : Ask) → (is_begin a && is_permit (worker_decision core.ledger core.table.begun o a)) ≡ true → (is_begin a && is_none o) ≡ true
+  go None asks.Begin h = refl
+  go (Some row) asks.Begin h = absurd cc
+  go o _ h = absurd cc

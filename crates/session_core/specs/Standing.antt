@@ -1,4 +1,4 @@
--- What a core stands for: the journal of all events, of which it knows what the policy asks.
+-- Inner: what a core stands for: the journal of all events, of which it knows what the policy asks.
 use Rattle.std.specs.Prelude.{ℕ, ◌≡◌, ◌≤◌, ◌<◌, ◌+◌, ◌-◌, ◌^◌, ◌&&◌, Bool, true, false, not, List, length, Option, Some, None, is_none, is_some}
 use Rattle.std.specs.List.{AllByRecursion}
 use Rattle.otp_ledger.specs.Accounts.{IsNextPassword, LedgerParts, state_at}
@@ -46,6 +46,16 @@ pub record HasJournal (core : CoreParts) : Type 0 where
   pub core_is : IsCore core
   pub journal : List Event
   pub stands : Stands core journal
+
+-- there is room for one event more, and for one session more where it opens one
+pub record HasRoom (core : CoreParts) (opening : Bool) : Type 0 where
+  pub few : core.settled < 2 ^ 32 - 1
+  pub openings : opening ≡ true → core.table.begun < core.ledger.cap
+
+-- the setup stays, and how many sessions may be opened
+pub record KeepsSetup (old new : CoreParts) : Type 0 where
+  pub setup_is : new.ledger.setup ≡ old.ledger.setup
+  pub cap_is : new.ledger.cap ≡ old.ledger.cap
 
 -- a password that is accepted may be spent
 pub record IsSpendable (l : LedgerParts) (account password : ℕ) : Type 0 where

@@ -532,14 +532,24 @@ fn likely_ask(last: &Event, n: u32, now: u64, passwords: &[u64; 6]) -> Result<As
     }
 }
 
-/// So many events that the plain judge gives, of four workers.
+/// The last event of a worker.
+fn last_of(journal: &[Event], worker: u32) -> Event {
+    let mut last = END;
+    for event in journal {
+        if event.worker == worker {
+            last = *event;
+        }
+    }
+    last
+}
+
+/// Events that the plain judge gives, of four workers.
 fn judged(alloc: Global, setup: &Setup, passwords: &[u64; 6]) -> Result<Vec<Event>, Fail> {
     let mut journal: Vec<Event> = Vec::new(alloc);
     let mut seed: u32 = 1;
-    let mut lasts = [END; 4];
     for place in 0..400 {
         let worker = draw(&mut seed) % 4;
-        let last = lasts[worker as usize];
+        let last = last_of(journal.as_slice(), worker);
         let now = place * 1000;
         let ask = if draw(&mut seed) % 4 == 0 {
             random_ask(draw(&mut seed), now, passwords)?
@@ -550,9 +560,7 @@ fn judged(alloc: Global, setup: &Setup, passwords: &[u64; 6]) -> Result<Vec<Even
             return Err(Fail::from("few events"));
         }
         let given = judge(setup, journal.as_slice(), worker, &ask);
-        let event = event_after(journal.as_slice(), worker, &ask, &given);
-        lasts[worker as usize] = event;
-        journal.push(event)?;
+        journal.push(event_after(journal.as_slice(), worker, &ask, &given))?;
     }
     Ok(journal)
 }

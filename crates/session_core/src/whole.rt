@@ -1,6 +1,6 @@
 //! The core.
 
-ghost use Rattle.std.specs.Prelude.{◌≡◌, ◌<◌, ◌-◌, ◌^◌, ◌+◌, ◌++◌, ◌∷◌, [], List, true, IfOk, is_none};
+ghost use Rattle.std.specs.Prelude.{◌≡◌, ◌<◌, ◌-◌, ◌^◌, ◌+◌, ◌++◌, ◌∷◌, ◌&&◌, [], List, IfOk, is_none};
 ghost use Rattle.policy_model.specs.declared.event.Event.{Event};
 ghost use Rattle.policy_model.specs.Asks.{is_begin, is_permit};
 ghost use Rattle.policy_model.specs.Journal.{open_session_of};
@@ -9,7 +9,7 @@ ghost use Rattle.policy_model.specs.Verdict.{verdict_of};
 ghost use Rattle.session_core.specs.Deciding.{core_decision};
 ghost use Rattle.session_core.specs.Parts.{row_of};
 ghost use Rattle.session_core.specs.Settling.{core_event};
-ghost use Rattle.session_core.specs.Standing.{Stands};
+ghost use Rattle.session_core.specs.Standing.{HasRoom, KeepsSetup, Stands};
 
 use crate::deciding::judge;
 use crate::settling::{session_for, session_of, settle};
@@ -111,10 +111,8 @@ impl Core {
     pub fn settle(&mut self, worker: u32, ask: &Ask, decision: Decision) -> Event
         requires worker { worker < self.old.ledger.setup.workers }
         requires decided { (journal : List Event) → Stands self.old journal → decision ≡ verdict_of self.old.ledger.setup journal worker ask.now }
-        requires room { is_begin ask.now ≡ true → is_permit decision ≡ true → self.old.table.begun < self.old.ledger.cap }
-        requires few { self.old.settled < 2 ^ 32 - 1 }
-        ensures setup { self.new.ledger.setup ≡ self.old.ledger.setup }
-        ensures cap { self.new.ledger.cap ≡ self.old.ledger.cap }
+        requires room { HasRoom self.old (is_begin ask.now && is_permit decision) }
+        ensures kept { KeepsSetup self.old self.new }
         ensures event { (journal : List Event) → Stands self.old journal → result ≡ next_event self.old.ledger.setup journal worker ask.now }
         ensures stands { (journal : List Event) → Stands self.old journal → Stands self.new (journal ++ result ∷ []) }
     {
@@ -127,10 +125,8 @@ impl Core {
     /// Decides and settles an ask.
     pub fn step(&mut self, step: &Step) -> Event
         requires worker { step.now.worker < self.old.ledger.setup.workers }
-        requires room { is_begin step.now.ask ≡ true → is_none (row_of self.old step.now.worker) ≡ true → self.old.table.begun < self.old.ledger.cap }
-        requires few { self.old.settled < 2 ^ 32 - 1 }
-        ensures setup { self.new.ledger.setup ≡ self.old.ledger.setup }
-        ensures cap { self.new.ledger.cap ≡ self.old.ledger.cap }
+        requires room { HasRoom self.old (is_begin step.now.ask && is_none (row_of self.old step.now.worker)) }
+        ensures kept { KeepsSetup self.old self.new }
         ensures event { (journal : List Event) → Stands self.old journal → result ≡ next_event self.old.ledger.setup journal step.now.worker step.now.ask }
         ensures stands { (journal : List Event) → Stands self.old journal → Stands self.new (journal ++ result ∷ []) }
     {

@@ -9,9 +9,12 @@ use Rattle.session_core.proofs.ReplayLemmas.{begun_few, consequences}
 use Rattle.session_core.proofs.replaying.replay.Goals as goal
 
 pub step-event-requires-clause-room : goal.step-event-requires-clause-room
-step-event-requires-clause-room c begin idle =
+step-event-requires-clause-room c =
     let inv = c.loop-step.invariant in
-    omega (arith, begun_few c.loop-step.core c.loop-step.events.items inv.stands, inv.settled, inv.cap, c.loop-step-test.true)
+    record {
+      few = omega (arith, inv.settled, c.requires.few, c.loop-step-test.true);
+      openings = λ h. omega (arith, begun_few c.loop-step.core c.loop-step.events.items inv.stands, inv.settled, inv.cap, c.loop-step-test.true);
+    }
 
 pub loop-step-preserved : goal.loop-step-preserved
 loop-step-preserved c =
@@ -20,8 +23,8 @@ loop-step-preserved c =
     let event = c.step-event.ensures.event events inv.stands in
     let stands : Stands c.step-event.new.self (events ++ c.step-event.result ∷ []) = c.step-event.ensures.stands events inv.stands in
     record {
-      setup = c.step-event.ensures.setup ∙ inv.setup;
-      cap = c.step-event.ensures.cap ∙ inv.cap;
+      setup = c.step-event.ensures.kept.setup_is ∙ inv.setup;
+      cap = c.step-event.ensures.kept.cap_is ∙ inv.cap;
       settled = stands.settled ∙ length-append events (c.step-event.result ∷ []) ∙ ap (λ n. n + 1) (sym inv.stands.settled ∙ inv.settled);
       stands = rw c.in_ok-push.ensures.items stands;
       asks =

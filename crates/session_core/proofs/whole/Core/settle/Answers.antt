@@ -17,7 +17,7 @@ settle-requires-clause-accounts c =
     let core : CoreParts = record { ledger = c.self.inside.ledger; table = c.self.inside.table; settled = c.self.inside.settled } in
     let old : Stands c.args.self.now journal = subst (λ (x : CoreParts). Stands x journal) c.self.view_is c.self.invariant.stands in
     fits_accounts core journal c.event_of-event.result c.self.invariant.core_is
-    (event_following core c.args.self.now journal c.args.worker c.args.ask.now c.args.decision c.event_of-event.result c.self.view_is c.self.invariant.stands c.requires.worker c.requires.few (c.requires.decided journal old) c.event_of-event.ensures)
+    (event_following core c.args.self.now journal c.args.worker c.args.ask.now c.args.decision c.event_of-event.result c.self.view_is c.self.invariant.stands c.requires.worker c.requires.room.few (c.requires.decided journal old) c.event_of-event.ensures)
 
 pub settle-requires-clause-rows : goal.settle-requires-clause-rows
 settle-requires-clause-rows c =
@@ -25,7 +25,7 @@ settle-requires-clause-rows c =
     let core : CoreParts = record { ledger = c.self.inside.ledger; table = c.self.inside.table; settled = c.self.inside.settled } in
     let old : Stands c.args.self.now journal = subst (λ (x : CoreParts). Stands x journal) c.self.view_is c.self.invariant.stands in
     fits_rows core journal c.event_of-event.result
-    (event_following core c.args.self.now journal c.args.worker c.args.ask.now c.args.decision c.event_of-event.result c.self.view_is c.self.invariant.stands c.requires.worker c.requires.few (c.requires.decided journal old) c.event_of-event.ensures)
+    (event_following core c.args.self.now journal c.args.worker c.args.ask.now c.args.decision c.event_of-event.result c.self.view_is c.self.invariant.stands c.requires.worker c.requires.room.few (c.requires.decided journal old) c.event_of-event.ensures)
 
 pub invariant_of-self : goal.invariant_of-self
 invariant_of-self c =
@@ -34,20 +34,17 @@ invariant_of-self c =
     let old : Stands c.args.self.now journal = subst (λ (x : CoreParts). Stands x journal) c.self.view_is c.self.invariant.stands in
     subst HasJournal (sym (core_after_is core c.event_of-event.result c.settle.new.ledger c.settle.new.table c.settle.ensures.accounts c.settle.ensures.rows))
     (journal_push core journal c.event_of-event.result c.self.invariant.core_is
-    (event_following core c.args.self.now journal c.args.worker c.args.ask.now c.args.decision c.event_of-event.result c.self.view_is c.self.invariant.stands c.requires.worker c.requires.few (c.requires.decided journal old) c.event_of-event.ensures)
-    (opening_room core c.args.self.now c.args.worker c.args.ask.now c.args.decision c.event_of-event.result c.self.view_is c.event_of-event.ensures c.requires.room))
+    (event_following core c.args.self.now journal c.args.worker c.args.ask.now c.args.decision c.event_of-event.result c.self.view_is c.self.invariant.stands c.requires.worker c.requires.room.few (c.requires.decided journal old) c.event_of-event.ensures)
+    (opening_room core c.args.self.now c.args.worker c.args.ask.now c.args.decision c.event_of-event.result c.self.view_is c.event_of-event.ensures c.requires.room.openings))
 
-pub returns-clause-setup : goal.returns-clause-setup
-returns-clause-setup c =
-    ap (λ (l : LedgerParts). l.setup) c.settle.ensures.accounts
-    ∙ same_setup c.self.inside.ledger (row_of (record { ledger = c.self.inside.ledger; table = c.self.inside.table; settled = c.self.inside.settled }) c.event_of-event.result.worker) c.event_of-event.result
-    ∙ ap (λ (x : CoreParts). x.ledger.setup) c.self.view_is
-
-pub returns-clause-cap : goal.returns-clause-cap
-returns-clause-cap c =
-    ap (λ (l : LedgerParts). l.cap) c.settle.ensures.accounts
-    ∙ same_cap c.self.inside.ledger (row_of (record { ledger = c.self.inside.ledger; table = c.self.inside.table; settled = c.self.inside.settled }) c.event_of-event.result.worker) c.event_of-event.result
-    ∙ ap (λ (x : CoreParts). x.ledger.cap) c.self.view_is
+pub returns-clause-kept : goal.returns-clause-kept
+returns-clause-kept c =
+    let core : CoreParts = record { ledger = c.self.inside.ledger; table = c.self.inside.table; settled = c.self.inside.settled } in
+    let e = c.event_of-event.result in
+    record {
+      setup_is = ap (λ (l : LedgerParts). l.setup) c.settle.ensures.accounts ∙ same_setup core.ledger (row_of core e.worker) e ∙ ap (λ (x : CoreParts). x.ledger.setup) c.self.view_is;
+      cap_is = ap (λ (l : LedgerParts). l.cap) c.settle.ensures.accounts ∙ same_cap core.ledger (row_of core e.worker) e ∙ ap (λ (x : CoreParts). x.ledger.cap) c.self.view_is;
+    }
 
 pub returns-clause-event : goal.returns-clause-event
 returns-clause-event c journal st = c.event_of-event.ensures ∙ core_event_is c.args.self.now journal c.args.worker c.args.ask.now c.args.decision st c.requires.worker (c.requires.decided journal st)
@@ -57,4 +54,4 @@ returns-clause-stands c journal st =
     let core : CoreParts = record { ledger = c.self.inside.ledger; table = c.self.inside.table; settled = c.self.inside.settled } in
     subst (λ (x : CoreParts). Stands x (journal ++ c.event_of-event.result ∷ [])) (sym (core_after_is core c.event_of-event.result c.settle.new.ledger c.settle.new.table c.settle.ensures.accounts c.settle.ensures.rows))
     (stands_push core journal c.event_of-event.result c.self.invariant.core_is
-    (event_following core c.args.self.now journal c.args.worker c.args.ask.now c.args.decision c.event_of-event.result c.self.view_is (subst (λ (x : CoreParts). Stands x journal) (sym c.self.view_is) st) c.requires.worker c.requires.few (c.requires.decided journal st) c.event_of-event.ensures))
+    (event_following core c.args.self.now journal c.args.worker c.args.ask.now c.args.decision c.event_of-event.result c.self.view_is (subst (λ (x : CoreParts). Stands x journal) (sym c.self.view_is) st) c.requires.worker c.requires.room.few (c.requires.decided journal st) c.event_of-event.ensures))
