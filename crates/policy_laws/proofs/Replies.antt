@@ -1,30 +1,25 @@
 -- What holds of accepted passwords after each event of a legal journal.
-use Rattle.std.proofs.Common.{◌≡◌, ℕ, zero, suc, ◌≤◌, ◌<◌, Bool, true, false, not, ◌&&◌, ◌||◌, ◌==◌, cond, eqb, nat_eq, List, [], ◌∷◌, ◌++◌, length, get_or, take, Option, Some, None, refl, sym, ap, subst, ◌∙◌, arith}
+use Rattle.std.proofs.Common.{◌≡◌, ℕ, Bool, true, false, not, ◌&&◌, ◌||◌, ◌==◌, eqb, nat_eq, List, [], ◌∷◌, ◌++◌, Option, Some, None, refl, sym, ap, subst, ◌∙◌, arith}
 use Rattle.std.proofs.lemmas.Bool.{and_parts, or_parts}
 use Rattle.std.specs.List.{list_any}
 use Rattle.std.specs.Option.{option_to_list}
-use Rattle.std.proofs.Math.Seq.{take-suc}
 use Rattle.std.proofs.lemmas.Bool.Decides.{nat_tests}
-use Rattle.std.proofs.lemmas.List.{append-nil, take_all}
+use Rattle.std.proofs.lemmas.List.{append-nil}
 use Rattle.std.proofs.lemmas.List.Folds.{list_any-append}
 use Rattle.request_catalogue.specs.declared.kind.Kind.{Kind}
 use Rattle.request_catalogue.specs.declared.texts.Name.{Name}
 use Rattle.policy_model.specs.declared.account.Account.{Account}
-use Rattle.policy_model.specs.declared.event.Ask.TheVariants as asks
-use Rattle.policy_model.specs.declared.event.Decision.TheVariants.{Lost}
 use Rattle.policy_model.specs.declared.event.Event.{Event}
 use Rattle.policy_model.specs.declared.phase.Phase.{Phase}
 use Rattle.policy_model.specs.declared.phase.Row.{Row}
-use Rattle.policy_model.specs.Asks.{accepts, value_of}
 use Rattle.policy_laws.specs.Consequences.{NoPasswordTwice}
 use Rattle.policy_model.specs.Legal.{IsLegalBy, IsNextBy}
-use Rattle.policy_model.specs.Logins.{account_of, accepted_of, challenged_user, is_user, replies_of, reply_for, was_accepted}
-use Rattle.policy_model.specs.Settings.{Settings, are_distinct, same_name}
+use Rattle.policy_model.specs.Logins.{account_of, accepted_of, replies_of, reply_for, was_accepted}
+use Rattle.policy_model.specs.Settings.{Settings, are_distinct}
 use Rattle.policy_model.specs.Verdict.{is_next_password}
-use Rattle.policy_model.proofs.Legal.{IsLegal-none, IsLegal-push}
 use Rattle.policy_model.proofs.LoginLemmas.{replies_of-none, replies_of-push}
 use Rattle.session_laws.proofs.ByEvents.{by_events}
-use Rattle.session_laws.proofs.Permits.{Accepted, accepted_reply, find_passes, found_name, new_reply, same_from_same_name, same_some}
+use Rattle.session_laws.proofs.Permits.{Accepted, found_name, new_reply, same_some}
 
 -- its account is the user's
 pub accepted_next : (setup : Settings) (journal : List Event) (session : ℕ) (user : Name) (password : ℕ) (account : Account) → account_of setup user ≡ Some account → Accepted setup journal session user password → is_next_password journal account password ≡ true

@@ -24,14 +24,15 @@ use Rattle.policy_model.specs.Settings.{Settings}
 use Rattle.policy_laws.specs.Strangers.{StrangersAreToldAlike, Told, is_challenged, stranger_kind, stranger_verdict, told_end, told_in, told_permit}
 use Rattle.policy_model.specs.Verdict.{decoy_verdict, handle_verdict, is_holder, is_next_password, kind_verdict, login_verdict, matching_verdict, own_verdict, readings, readings_verdict, reply_verdict, request_verdict, row_verdict, use_verdict}
 use Rattle.policy_laws.proofs.Apart.{has_event-push, is_ending, not_ended}
-use Rattle.policy_laws.proofs.Exports.{export_phase, verified_accepts}
 use Rattle.policy_model.proofs.Lists.{list_any-filter}
 use Rattle.policy_model.proofs.Runs.{next_decision, next_session, no_begin}
 use Rattle.policy_laws.proofs.Sequences.{IsLegal-take}
 use Rattle.policy_laws.proofs.Told.{count_told, had_banner, has_ended, was_challenged}
 use Rattle.policy_model.proofs.Verdicts.{session_of-begin, session_of-other, verdict_of-request}
 use Rattle.session_laws.proofs.ByEvents.{by_events}
-use Rattle.session_laws.proofs.Permits.{permitted_export, request_permit}
+use Rattle.session_laws.proofs.Permits.{request_permit}
+use Rattle.session_laws.proofs.Permitted.{exported_in_verified}
+use Rattle.session_laws.proofs.PhaseLemmas.{phase_tests}
 
 -- a REPLY that is denied is shown as refused by rule 16
 abbrev Refuses : Decision → Type 0
@@ -134,7 +135,7 @@ uses setup journal legal = by_events setup (λ j. (session : ℕ) → Uses j ses
     exported h =
         let both = and_parts (eqb e.session session) (exports e) h in
         ap (λ s. has_event j s accepts) (sym (eqb-true e.session session both.0))
-        ∙ verified_accepts j e.session (export_phase (phase_of j e.session) (permitted_export setup j e next both.1).0)
+        ∙ (phase_tests j e.session Verified (exported_in_verified setup j e next both.1)).1.1
 
     opened : is_own session opens_file e ≡ true → has_event j session exports ≡ true
     opened h =

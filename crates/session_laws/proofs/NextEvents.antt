@@ -1,5 +1,7 @@
 -- The event that the policy gives to an ask follows the journal, and isn't lost.
-use Rattle.std.proofs.Common.{◌≡◌, ℕ, false, ◌||◌, cond, List, [], ◌∷◌, ◌++◌, sym, ap, ◌∙◌}
+use Rattle.std.proofs.Common.{◌≡◌, ℕ, false, ◌||◌, cond, List, [], ◌∷◌, ◌++◌, sym, ap, ◌∙◌, ◌<◌}
+use Rattle.policy_model.specs.Runs.{IsOfWorker}
+use Rattle.std.specs.List.{AllByRecursion}
 use Rattle.std.proofs.lemmas.Bool.{false≢true}
 use Rattle.request_catalogue.specs.declared.kind.Kind.{Kind}
 use Rattle.policy_model.specs.declared.event.Ask.{Ask}
@@ -31,3 +33,8 @@ legal_goes_on table setup journal worker ask legal kept = IsLegal-push setup jou
 
 pub kept_goes_on : (table : Phase → Kind → Row) (setup : Settings) (journal : List Event) (worker : ℕ) (ask : Ask) → has_lost journal ≡ false → has_lost (journal ++ next_event_by table setup journal worker ask ∷ []) ≡ false
 kept_goes_on table setup journal worker ask kept = has_lost-push journal (next_event_by table setup journal worker ask) ∙ ap (λ b. b || is_lost (verdict_by table setup journal worker ask)) kept ∙ never_lost table setup journal worker ask
+
+-- and so does one whose events are all of workers that the setup has
+pub workers_go_on : (setup : Settings) (journal : List Event) (e : Event) → AllByRecursion (IsOfWorker setup) journal → e.worker < setup.workers → AllByRecursion (IsOfWorker setup) (journal ++ e ∷ [])
+workers_go_on setup [] e all below = (record { below = below }, tt)
+workers_go_on setup (x ∷ xs) e all below = (all.0, workers_go_on setup xs e all.1 below)

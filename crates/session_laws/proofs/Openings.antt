@@ -1,5 +1,6 @@
 -- The numbers of sessions, and the open sessions of the workers.
-use Rattle.std.proofs.Common.{◌≡◌, ◌≢◌, ℕ, ◌+◌, ◌≤◌, Bool, true, false, not, ◌&&◌, ◌||◌, ◌==◌, cond, eqb, List, [], ◌∷◌, ◌++◌, refl, sym, ap, subst, ◌∙◌, arith, eq-eqb, inl, inr, ◌⊎◌}
+use Rattle.std.proofs.Common.{◌≡◌, ◌≢◌, ℕ, ◌+◌, ◌≤◌, Bool, true, false, not, ◌&&◌, ◌||◌, ◌==◌, cond, eqb, List, [], ◌∷◌, ◌++◌, refl, sym, ap, subst, ◌∙◌, arith, eq-eqb, inl, inr, ◌⊎◌, length}
+use Rattle.std.proofs.lemmas.List.Sums.{count_by-le-length}
 use Rattle.std.proofs.Math.Bool.{or-false}
 use Rattle.std.specs.List.{list_any}
 use Rattle.std.proofs.lemmas.Bool.{cases_eq}
@@ -74,6 +75,10 @@ openings-opened journal e opened = openings_of-push journal e ∙ ap (λ b. open
 
 pub openings-kept : (journal : List Event) (e : Event) → opens e ≡ false → openings_of (journal ++ e ∷ []) ≡ openings_of journal
 openings-kept journal e closed = openings_of-push journal e ∙ ap (λ b. openings_of journal + cond b 1 0) closed ∙ omega arith
+
+-- no more sessions are opened than there are events
+pub openings_few : (journal : List Event) → openings_of journal ≤ length journal
+openings_few journal = count_by-le-length opens journal
 
 -- 3. The worker's open session
 

@@ -1,12 +1,12 @@
 -- What one more event makes of a session's events: of one that isn't its own nothing, its own is put behind them, and of a session with a number that wasn't given yet there is none.
-use Rattle.std.proofs.Common.{◌≡◌, ◌≢◌, ℕ, ◌+◌, ◌<◌, Bool, true, false, not, ◌&&◌, ◌||◌, ◌==◌, cond, eqb, List, [], ◌∷◌, ◌++◌, Some, None, filter, count_by, refl, sym, ap, ◌∙◌, arith, eq-eqb, inl, inr, ◌⊎◌}
+use Rattle.std.proofs.Common.{◌≡◌, ◌≢◌, ℕ, ◌+◌, ◌<◌, Bool, true, false, not, ◌&&◌, ◌||◌, ◌==◌, cond, eqb, List, [], ◌∷◌, ◌++◌, Some, None, filter, count_by, refl, sym, ap, ◌∙◌, arith, eq-eqb, inl, inr, ◌⊎◌, length, ◌≤◌}
 use Rattle.std.proofs.Math.Bool.{or-false}
 use Rattle.std.specs.List.{fold, last_or, list_any}
 use Rattle.std.proofs.lemmas.Bool.{cases_eq, eqb-true}
 use Rattle.std.proofs.lemmas.Bool.Decides.{nat_tests}
 use Rattle.std.proofs.lemmas.List.{append-nil}
 use Rattle.std.proofs.lemmas.List.Folds.{list_any-append}
-use Rattle.std.proofs.lemmas.List.Sums.{fold_push}
+use Rattle.std.proofs.lemmas.List.Sums.{count_by-le-length, fold_push, length-filter}
 use Rattle.policy_model.specs.declared.event.Event.{Event}
 use Rattle.policy_model.specs.Asks.{came_by_frame, ends_session, opens}
 use Rattle.policy_model.specs.Journal.{ask_count, count_of, events_of, has_event, is_own, last_event}
@@ -150,3 +150,14 @@ pub is_over-opened : (journal : List Event) (e : Event) → events_of journal e.
 is_over-opened journal e none opened on =
     ap (λ es. not (list_any opens es) || list_any ends_session es) (events_of-own journal e e.session refl ∙ ap (λ es. es ++ e ∷ []) none)
     ∙ rw (opened, on) refl
+
+-- 7. No more is counted of a session than there are events
+
+pub count_of_few : (journal : List Event) (session : ℕ) (p : Event → Bool) → count_of journal session p ≤ length journal
+count_of_few journal session p = count_by-le-length (is_own session p) journal
+
+pub ask_count_few : (journal : List Event) (session : ℕ) → ask_count journal session ≤ length journal
+ask_count_few journal session =
+    let asks = count_by-le-length (λ e. came_by_frame e.ask) (events_of journal session) in
+    let own = count_by-le-length (λ e. e.session == session) journal in
+    omega (arith, asks, own, length-filter (λ e. e.session == session) journal)

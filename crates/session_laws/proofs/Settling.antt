@@ -1,5 +1,5 @@
 -- What the event that follows makes of the users: whom it takes, whose password it spends, and whom it leaves as they are.
-use Rattle.std.proofs.Common.{◌≡◌, ℕ, ◌-◌, ◌<◌, ◌≤◌, Bool, true, false, not, ◌&&◌, cond, eqb, ◌==◌, List, [], ◌∷◌, ◌++◌, length, Option, Some, None, refl, sym, ap, subst, ◌∙◌, arith}
+use Rattle.std.proofs.Common.{◌≢◌, ◌≡◌, ℕ, ◌-◌, ◌<◌, ◌≤◌, Bool, true, false, not, ◌&&◌, cond, eqb, ◌==◌, List, [], ◌∷◌, ◌++◌, length, Option, Some, None, refl, sym, ap, subst, ◌∙◌, arith}
 use Rattle.std.specs.Prelude.{nat_le, nat_lt}
 use Rattle.std.specs.List.{find, list_all}
 use Rattle.std.specs.Option.{option_to_list}
@@ -20,7 +20,7 @@ use Rattle.session_laws.specs.Tied.{AcceptsNext, IsTied, LeavesUser, ReservesLiv
 use Rattle.session_laws.proofs.Holders.{holder_of-other, legal_tied}
 use Rattle.session_laws.proofs.Numbers.{holds_is, numbered_by_name}
 use Rattle.session_laws.proofs.Openings.{legal_numbered}
-use Rattle.session_laws.proofs.Permits.{accepted_reply, live_challenge, taken_challenge}
+use Rattle.session_laws.proofs.Permits.{accepted_reply, live_challenge, same_from_same_name, taken_challenge}
 use Rattle.session_laws.proofs.Permitted.{accepted_no_decoy, permitted_live, reserves_from, takes_from, taking}
 
 -- 1. A CHALLENGE that isn't a decoy
@@ -116,12 +116,32 @@ after_none (Some session) e h = go (leaves e) refl (eqb e.session session) refl 
   go true is true same = absurd (false≢true (sym (h is) ∙ turned ∙ same))
   go true is false same = rw same refl
 
--- one that doesn't reserve the user, accepts no reply, and isn't of the holder's session where it leaves
-pub leaves_user : (setup : Settings) (journal : List Event) (e : Event) (user : Name) → IsLegal setup journal → IsNext setup journal e → reserves user e ≡ false → accepts e ≡ false → (leaves e ≡ true → is_holder e.session (holder_of journal user) ≡ false) → LeavesUser journal e user
-leaves_user setup journal e user legal next kept silent apart =
-    let none : reply_for user (record { before = journal; event = e }) ≡ None = ap (λ b. cond (b && is_user user (challenged_user journal e.session)) (Some (value_of e.decision)) None) silent in
-    record {
-      replies = replies_of-push user journal e ∙ ap (λ o. replies_of journal user ++ option_to_list o) none ∙ append-nil (replies_of journal user);
-      taking = last_taking_of-push user journal e ∙ ap (λ b. cond b (Some e) (last_taking_of journal user)) kept;
-      holder = holder_of-other journal e user (legal_numbered setup journal legal) (next_session setup journal e next) kept ∙ after_none (holder_of journal user) e apart;
-    }
+-- one that doesn't reserve the user, is no permitted REPLY for it, and isn't of the holder's session where it leaves
+pub leaves_user : (setup : Settings) (journal : List Event) (e : Event) (user : Name) → IsLegal setup journal → IsNext setup journal e → reserves user e ≡ false → reply_for user (record { before = journal; event = e }) ≡ None → (leaves e ≡ true → is_holder e.session (holder_of journal user) ≡ false) → LeavesUser journal e user
+leaves_user setup journal e user legal next kept none apart = record {
+  replies = replies_of-push user journal e ∙ ap (λ o. replies_of journal user ++ option_to_list o) none ∙ append-nil (replies_of journal user);
+  taking = last_taking_of-push user journal e ∙ ap (λ b. cond b (Some e) (last_taking_of journal user)) kept;
+  holder = holder_of-other journal e user (legal_numbered setup journal legal) (next_session setup journal e next) kept ∙ after_none (holder_of journal user) e apart;
+}
+
+-- what isn't accepted is no permitted REPLY for anybody
+pub unaccepted : (journal : List Event) (e : Event) (user : Name) → accepts e ≡ false → reply_for user (record { before = journal; event = e }) ≡ None
+unaccepted journal e user silent = ap (λ b. cond (b && is_user user (challenged_user journal e.session)) (Some (value_of e.decision)) None) silent
+
+is_the_user : (user : Name) (o : Option Name) → is_user user o ≡ true → o ≡ Some user
+is_the_user user None h = absurd cc
+is_the_user user (Some name) h = ap (λ (n : Name). Some n) (same_from_same_name name user h)
+
+unreplied : (journal : List Event) (e : Event) (user : Name) → challenged_user journal e.session ≢ Some user → reply_for user (record { before = journal; event = e }) ≡ None
+unreplied journal e user other = go (accepts e && is_user user (challenged_user journal e.session)) refl where
+  go : (b : Bool) → (accepts e && is_user user (challenged_user journal e.session)) ≡ b → cond b (Some (value_of e.decision)) None ≡ None
+  go false is = refl
+  go true is = absurd (other (is_the_user user (challenged_user journal e.session) (and_parts (accepts e) (is_user user (challenged_user journal e.session)) is).1))
+
+-- so it leaves every user but the one that it reserves and the one that its session is challenged for
+pub leaves_others : (setup : Settings) (journal : List Event) (e : Event) (user : Name) → IsLegal setup journal → IsNext setup journal e → reserves user e ≡ false → challenged_user journal e.session ≢ Some user → LeavesUser journal e user
+leaves_others setup journal e user legal next kept other =
+    leaves_user setup journal e user legal next kept (unreplied journal e user other)
+    (λ left. false_from_ne_true (is_holder e.session (holder_of journal user)) (λ holds.
+    let t : IsTied setup journal user e.session = (legal_tied setup journal legal).holders user e.session (holds_is e.session (holder_of journal user) holds) in
+    other t.challenged))

@@ -59,7 +59,8 @@ pub fn sessions_have_users()
 
 /// A permitted CHALLENGE that isn't a decoy is for a user that can log in, and one for such a user
 /// isn't a decoy; a permitted REPLY is of the session that holds the user, with the user's next
-/// password; and a user whom an event neither reserves nor accepts nor leaves stays as it was.
+/// password; and every user but the one that is reserved and the one that the session is challenged
+/// for stays as it was.
 pub fn events_change_one_user()
     ensures { (setup : Settings) (journal : List Event) (e : Event) → FollowsLegal setup journal e → ChangesOneUser setup journal e }
 {}
