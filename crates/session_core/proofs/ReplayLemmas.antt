@@ -1,7 +1,7 @@
 -- What follows of the journal that steps give.
 use Rattle.std.proofs.Common.{◌≡◌, ℕ, ◌+◌, ◌<◌, ◌≤◌, List, [], ◌∷◌, ◌++◌, length, arith}
 use Rattle.std.proofs.lemmas.List.{length-append}
-use Rattle.std.proofs.lemmas.List.Sums.{count_by-le-length}
+use Rattle.session_laws.proofs.Openings.{openings_few}
 use Rattle.policy_model.specs.declared.event.Event.{Event}
 use Rattle.policy_model.specs.Asks.{opens}
 use Rattle.policy_model.specs.Legal.{IsLegal}
@@ -25,4 +25,4 @@ consequences setup journal legal = record {
 
 -- no more sessions were opened than events were settled
 pub begun_few : (core : CoreParts) (journal : List Event) → Stands core journal → core.table.begun ≤ core.settled
-begun_few core journal st = omega (arith, st.settled, st.rows.begun, count_by-le-length opens journal)
+begun_few core journal st = omega (arith, st.settled, st.rows.begun, openings_few journal)

@@ -32,7 +32,7 @@ use Rattle.session_laws.proofs.Opened.{opening}
 use Rattle.session_laws.proofs.Openings.{phase_of-zero}
 use Rattle.session_laws.proofs.Permits.{same_name-same, same_some}
 use Rattle.session_laws.proofs.Permitted.{IsTaking, accepted_in_challenged, accepted_no_decoy, permitted_live, taking}
-use Rattle.session_laws.proofs.Settling.{accepts_next, decoy_reserves_none, leaves_user, reserves_live, reserves_none}
+use Rattle.session_laws.proofs.Settling.{accepts_next, decoy_reserves_none, leaves_user, reserves_live, reserves_none, unaccepted as no_reply}
 use Rattle.session_table.specs.declared.rows.SessionRow.{SessionRow}
 use Rattle.session_table.specs.Standing.{RowStands, account_taken, has_taken, number_by}
 
@@ -79,7 +79,7 @@ taking_stands l journal e range legal next st taken = go (nat_le decoys_from (va
   quiet = taking_leaves_none e taken
 
   stays : nat_le decoys_from (value_of e.decision) ≡ true → (user : Name) → LeavesUser journal e user
-  stays decoy user = leaves_user l.setup journal e user legal next (decoy_reserves_none user e decoy) quiet.1 (λ h. absurd (false≢true (sym quiet.0 ∙ h)))
+  stays decoy user = leaves_user l.setup journal e user legal next (decoy_reserves_none user e decoy) (no_reply journal e user quiet.1) (λ h. absurd (false≢true (sym quiet.0 ∙ h)))
 
   go : (b : Bool) → nat_le decoys_from (value_of e.decision) ≡ b → StandsFor (ledger_taking l (number_for l e) e) (journal ++ e ∷ [])
   go true decoy =
@@ -165,7 +165,7 @@ none_held l row journal session user legal st r h = go (is_challenged row.phase)
 leaving_stands : (l : LedgerParts) (row : SessionRow) (journal : List Event) (e : Event) → IsInRange l.setup → IsLegal l.setup journal → IsNext l.setup journal e → StandsFor l journal → RowStands l.setup row journal e.session → takes e ≡ false → accepts e ≡ false → StandsFor (ledger_leaving l row e) (journal ++ e ∷ [])
 leaving_stands l row journal e range legal next st r untaken unaccepted = go (leaves e) refl (may_hold l row) refl where
   stays : (leaves e ≡ true → may_hold l row ≡ false) → StandsFor l (journal ++ e ∷ [])
-  stays none = all_stay l journal e st (λ user. leaves_user l.setup journal e user legal next (reserves_none user e untaken) unaccepted (λ h. none_held l row journal e.session user legal st r (none h)))
+  stays none = all_stay l journal e st (λ user. leaves_user l.setup journal e user legal next (reserves_none user e untaken) (no_reply journal e user unaccepted) (λ h. none_held l row journal e.session user legal st r (none h)))
 
   go : (a : Bool) → leaves e ≡ a → (b : Bool) → may_hold l row ≡ b → StandsFor (cond (leaves e && may_hold l row) (ledger_releasing l row.account e.session) l) (journal ++ e ∷ [])
   go false left b may = subst (λ (x : Bool). StandsFor (cond (x && may_hold l row) (ledger_releasing l row.account e.session) l) (journal ++ e ∷ [])) (sym left) (stays (λ h. absurd (false≢true (sym left ∙ h))))
@@ -202,7 +202,7 @@ pub opened_stands : (l : LedgerParts) (journal : List Event) (e : Event) → IsL
 opened_stands l journal e legal next st opened =
     let o = opening e opened in
     let left : leaves e ≡ false = no_leaving (gives_up e) (ends_session e) (is_login_step e) (takes e) o.no_step o.goes_on refl in
-    all_stay l journal e st (λ user. leaves_user l.setup journal e user legal next (reserves_none user e o.takes_none) o.accepts_none (λ h. absurd (false≢true (sym left ∙ h)))) where
+    all_stay l journal e st (λ user. leaves_user l.setup journal e user legal next (reserves_none user e o.takes_none) (no_reply journal e user o.accepts_none) (λ h. absurd (false≢true (sym left ∙ h)))) where
       no_leaving : (g o s t : Bool) → s ≡ false → o ≡ false → s ≡ (t || g) → (g || o) ≡ false
       no_leaving true o s true h k is = absurd cc
       no_leaving true o s false h k is = absurd cc
@@ -235,7 +235,7 @@ idle setup journal e legal next zero = record {
 pub idle_stands : (l : LedgerParts) (journal : List Event) (e : Event) → IsLegal l.setup journal → IsNext l.setup journal e → StandsFor l journal → e.session ≡ 0 → StandsFor l (journal ++ e ∷ [])
 idle_stands l journal e legal next st zero =
     let i = idle l.setup journal e legal next zero in
-    all_stay l journal e st (λ user. leaves_user l.setup journal e user legal next (reserves_none user e i.untaken) i.unaccepted (λ h. i.unheld user))
+    all_stay l journal e st (λ user. leaves_user l.setup journal e user legal next (reserves_none user e i.untaken) (no_reply journal e user i.unaccepted) (λ h. i.unheld user))
 
 -- the account that an event's CHALLENGE is for
 pub number_taken : (l : LedgerParts) (journal : List Event) (e : Event) → IsNext l.setup journal e → StandsFor l journal → takes e ≡ true → account_taken l.setup e ≡ Some (number_for l e)

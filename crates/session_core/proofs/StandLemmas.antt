@@ -4,7 +4,6 @@ use Rattle.std.specs.Prelude.{is_none, is_some}
 use Rattle.std.specs.List.{AllByRecursion}
 use Rattle.std.proofs.lemmas.Bool.{and_parts, cases_eq, false≢true}
 use Rattle.std.proofs.lemmas.List.{length-append}
-use Rattle.std.proofs.lemmas.List.Sums.{count_by-le-length}
 use Rattle.otp_ledger.specs.Accounts.{LedgerParts, ledger_holding, ledger_releasing, new_ledger}
 use Rattle.otp_ledger.specs.Standing.{StandsFor}
 use Rattle.otp_ledger.proofs.StandingLemmas.{new_stands}
@@ -33,9 +32,9 @@ use Rattle.session_core.proofs.SettleLemmas.{idle_stands, number_taken, opened_s
 use Rattle.session_laws.specs.Rooms.{login_room, may_log_in}
 use Rattle.session_laws.specs.Tied.{leaves}
 use Rattle.session_laws.proofs.Judging.{event_is}
-use Rattle.session_laws.proofs.NextEvents.{next_event_follows, next_event_kept}
+use Rattle.session_laws.proofs.NextEvents.{next_event_follows, next_event_kept, workers_go_on}
 use Rattle.session_laws.proofs.Opened.{opening}
-use Rattle.session_laws.proofs.Openings.{session_own}
+use Rattle.session_laws.proofs.Openings.{openings_few, session_own}
 use Rattle.session_laws.proofs.Permitted.{accepted_in_challenged, taking}
 use Rattle.session_laws.proofs.Rooms.{accepted_late, log_in_falls, room_for_one, room_push}
 use Rattle.session_laws.specs.Phased.{phase_after}
@@ -138,7 +137,7 @@ pub fits_rows : (core : CoreParts) (journal : List Event) (e : Event) → IsFoll
 fits_rows core journal e f = record {
   worker = omega (arith, f.below, f.stands.rows.workers);
   idle = λ opened. ap is_none (opens_without core journal e f opened);
-  few = λ opened. omega (arith, f.few, f.stands.settled, f.stands.rows.begun, count_by-le-length opens journal);
+  few = λ opened. omega (arith, f.few, f.stands.settled, f.stands.rows.begun, openings_few journal);
   there = λ ended. has_row core.ledger.setup (row_at core.table e.worker) journal (open_session_of journal e.worker) (f.stands.rows.rows e.worker f.below) (ends_open core.ledger.setup journal e f.next f.kept ended);
   fits = λ closed. fits_worker core.ledger.setup core.table journal e f.stands.rows f.next f.kept closed f.below (omega (arith, f.few, f.stands.settled));
 }
@@ -217,14 +216,11 @@ stands_push core journal e c f =
     record {
       legal = subst (λ (s : Settings). IsLegal s (journal ++ e ∷ [])) same (IsLegal-push core.ledger.setup journal e f.stands.legal f.next);
       kept = has_lost-push journal e ∙ rw (f.stands.kept, f.kept) refl;
-      workers = subst (λ (s : Settings). AllByRecursion (IsOfWorker s) (journal ++ e ∷ [])) same (workers_push journal f.stands.workers);
+      workers = subst (λ (s : Settings). AllByRecursion (IsOfWorker s) (journal ++ e ∷ [])) same (workers_go_on core.ledger.setup journal e f.stands.workers f.below);
       settled = ap (λ n. n + 1) f.stands.settled ∙ sym (length-append journal (e ∷ []));
       rows = subst (λ (s : Settings). TableStands s (core_after core e).table (journal ++ e ∷ [])) same (rows_stand core journal e f);
       accounts = accounts_stand core journal e c f;
-    } where
-      workers_push : (j : List Event) → AllByRecursion (IsOfWorker core.ledger.setup) j → AllByRecursion (IsOfWorker core.ledger.setup) (j ++ e ∷ [])
-      workers_push [] all = (record { below = f.below }, tt)
-      workers_push (x ∷ j) all = (all.0, workers_push j all.1)
+    }
 
 -- 6. Room for the passwords that are still to come
 
