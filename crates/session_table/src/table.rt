@@ -66,6 +66,13 @@ impl Table {
         self.begun
     }
 
+    /// How many sessions were opened.
+    pub fn begun(&self) -> u32
+        ensures { result ≡ self.now.begun }
+    {
+        self.begun
+    }
+
     /// The row of the worker's session, if it has one.
     pub fn row(&self, worker: u32) -> Option<&SessionRow>
         requires { worker < length self.now.rows }

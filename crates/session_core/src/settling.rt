@@ -1,0 +1,183 @@
+//! What an event makes of the accounts and the rows.
+
+ghost use Rattle.std.specs.Prelude.{◌≡◌, ◌≤◌, ◌<◌, ◌-◌, ◌^◌, length, Some, true, unwrap_or};
+ghost use Rattle.policy_model.specs.Asks.{accepts, value_of};
+ghost use Rattle.session_core.specs.Settling.{grant_for, grant_in, ledger_accepting, ledger_after, ledger_by, ledger_leaving, ledger_taking, may_hold, number_for, session_at, table_next};
+ghost use Rattle.session_core.specs.Standing.{FitsAccounts, FitsRows, IsSpendable};
+ghost use Rattle.session_laws.specs.Judged.{event_session};
+ghost use Rattle.session_table.specs.Standing.{grant_number, grants_at};
+ghost use Rattle.session_table.specs.Tables.{row_at};
+
+use crate::reading::{accepts, closes, is_challenged, leaves, moment, opens, takes, value};
+use otp_ledger::Ledger;
+use policy_model::{Ask, Decision, Event, Grants, Setup};
+use request_catalogue::Label;
+use session_table::{SessionRow, Table, find_grant};
+
+/// The value of a decoy's challenge is this or more.
+const DECOYS_FROM: u64 = 10_000;
+
+/// The session that a worker has, 0 where it has none.
+pub(crate) fn session_of(table: &Table, worker: u32) -> u32
+    requires { worker < length table.now.rows }
+    ensures { result ≡ session_at (row_at table.now worker) }
+{
+    match table.row(worker) {
+        None => 0,
+        Some(row) => row.session,
+    }
+}
+
+/// The session of an event, where so many sessions were opened and the worker has this one.
+pub(crate) fn session_for(begun: u32, session: u32, ask: &Ask, decision: &Decision) -> u32
+    requires { begun < 2 ^ 32 - 1 }
+    ensures { result ≡ event_session session begun ask.now decision.now }
+{
+    match (ask, decision) {
+        (Ask::Begin, Decision::Permit { .. }) => begun + 1,
+        _ => session,
+    }
+}
+
+/// The number of the account that a CHALLENGE is for, and that of accounts for a decoy and for any other
+/// ask.
+fn number_for(ledger: &Ledger, event: &Event) -> u32
+    ensures { result ≡ number_for ledger.now event.now }
+{
+    let none = ledger.len() as u32;
+    match event.ask {
+        Ask::Challenge { user, .. } if value(event) < DECOYS_FROM => {
+            ledger.find(&user).unwrap_or(none)
+        }
+        _ => none,
+    }
+}
+
+/// The number of the grant of a file's name, 0 where there is none.
+fn number_of(grants: &Grants, name: &Label) -> u32
+    requires { length grants.now ≤ 64 }
+    ensures { result ≡ unwrap_or (grant_number grants.now (Some name.now)) 0 }
+{
+    match find_grant(grants, name) {
+        None => 0,
+        Some(number) => number as u32,
+    }
+}
+
+/// The number of the account's grant of a file's name, 0 where there is none.
+fn grant_of(setup: &Setup, account: u32, name: &Label) -> u32
+    ensures { result ≡ unwrap_or (grant_number (grants_at setup.now account) (Some name.now)) 0 }
+{
+    match setup.parts().accounts.as_slice().get(account as usize) {
+        None => 0,
+        Some(account) => number_of(&account.grants, name),
+    }
+}
+
+/// The grant that an OPEN is for.
+fn grant_in(setup: &Setup, row: &SessionRow, event: &Event) -> u32
+    ensures { result ≡ grant_in setup.now row.now event.now }
+{
+    match &event.ask {
+        Ask::OpenFile { name, .. } => grant_of(setup, row.account, name),
+        _ => 0,
+    }
+}
+
+/// The grant that an OPEN of the event's worker is for.
+fn grant_for(setup: &Setup, table: &Table, event: &Event) -> u32
+    requires { event.now.worker < length table.now.rows }
+    ensures { result ≡ grant_for setup.now (row_at table.now event.now.worker) event.now }
+{
+    match table.row(event.worker) {
+        None => 0,
+        Some(row) => grant_in(setup, row, event),
+    }
+}
+
+/// Whether a session may hold the user of its account.
+fn may_hold(ledger: &Ledger, row: &SessionRow) -> bool
+    ensures { result ≡ may_hold ledger.now row.now }
+{
+    is_challenged(row.phase) && (row.account as usize) < ledger.len()
+}
+
+/// A permitted CHALLENGE for the account of this number takes its user.
+fn take(ledger: &mut Ledger, number: u32, event: &Event)
+    ensures { ledger.new ≡ ledger_taking ledger.old number event.now }
+{
+    if (number as usize) < ledger.len() {
+        ledger.hold(number, event.session, moment(event));
+    }
+}
+
+/// A permitted REPLY spends the password, and the session holds the user no more.
+fn accept(ledger: &mut Ledger, account: u32, event: &Event)
+    requires { IsSpendable ledger.old account (value_of event.now.decision) }
+    ensures { ledger.new ≡ ledger_accepting ledger.old account event.now }
+{
+    ledger.spend(account, value(event));
+    ledger.release(account, event.session);
+}
+
+/// A session that gives up what it holds, or ends, holds the user no more.
+fn leave(ledger: &mut Ledger, row: &SessionRow, event: &Event)
+    ensures { ledger.new ≡ ledger_leaving ledger.old row.now event.now }
+{
+    if leaves(event) && may_hold(ledger, row) {
+        ledger.release(row.account, event.session);
+    }
+}
+
+/// What an event of a session makes of the accounts.
+fn settle_session(ledger: &mut Ledger, row: &SessionRow, event: &Event)
+    requires spends { accepts event.now ≡ true → IsSpendable ledger.old row.now.account (value_of event.now.decision) }
+    ensures { ledger.new ≡ ledger_by ledger.old row.now event.now }
+{
+    if takes(event) {
+        let number = number_for(ledger, event);
+        take(ledger, number, event);
+    } else if accepts(event) {
+        accept(ledger, row.account, event);
+    } else {
+        leave(ledger, row, event);
+    }
+}
+
+/// What an event makes of the accounts.
+fn settle_accounts(ledger: &mut Ledger, table: &Table, event: &Event)
+    requires { FitsAccounts ledger.old table.now event.now }
+    ensures { ledger.new ≡ ledger_after ledger.old (row_at table.now event.now.worker) event.now }
+{
+    if let Some(row) = table.row(event.worker) {
+        settle_session(ledger, row, event);
+    }
+}
+
+/// What an event makes of the rows, where its CHALLENGE is for the account of this number and its OPEN
+/// for this grant.
+fn settle_rows(table: &mut Table, event: &Event, number: u32, grant: u32)
+    requires { FitsRows table.old event.now }
+    ensures { table.new ≡ table_next table.old event.now number grant }
+{
+    if opens(event) {
+        table.begin(event.worker);
+    } else if closes(event) {
+        table.end(event.worker);
+    } else {
+        table.advance(event.worker, event, number, grant);
+    }
+}
+
+/// What an event makes of the accounts and the rows.
+pub(crate) fn settle(ledger: &mut Ledger, table: &mut Table, event: &Event)
+    requires accounts { FitsAccounts ledger.old table.old event.now }
+    requires rows { FitsRows table.old event.now }
+    ensures accounts { ledger.new ≡ ledger_after ledger.old (row_at table.old event.now.worker) event.now }
+    ensures rows { table.new ≡ table_next table.old event.now (number_for ledger.old event.now) (grant_for ledger.old.setup (row_at table.old event.now.worker) event.now) }
+{
+    let number = number_for(ledger, event);
+    let grant = grant_for(ledger.setup(), table, event);
+    settle_accounts(ledger, table, event);
+    settle_rows(table, event, number, grant);
+}

@@ -1,0 +1,136 @@
+//! The core.
+
+ghost use Rattle.std.specs.Prelude.{◌≡◌, ◌<◌, ◌-◌, ◌^◌, ◌+◌, ◌++◌, ◌∷◌, ◌&&◌, [], List, IfOk, is_none};
+ghost use Rattle.policy_model.specs.declared.event.Event.{Event};
+ghost use Rattle.policy_model.specs.Asks.{is_begin, is_permit};
+ghost use Rattle.policy_model.specs.Journal.{open_session_of};
+ghost use Rattle.policy_model.specs.Legal.{next_event};
+ghost use Rattle.policy_model.specs.Verdict.{verdict_of};
+ghost use Rattle.session_core.specs.Deciding.{core_decision};
+ghost use Rattle.session_core.specs.Parts.{row_of};
+ghost use Rattle.session_core.specs.Settling.{core_event};
+ghost use Rattle.session_core.specs.Standing.{HasRoom, KeepsSetup, Stands};
+
+use crate::deciding::judge;
+use crate::settling::{session_for, session_of, settle};
+use otp_ledger::Ledger;
+use policy_model::{Ask, Decision, Event, Setup, Step};
+use session_table::Table;
+use std::alloc::{AllocError, Global};
+use std::marker::Model;
+
+/// What the policy knows between events: the accounts, the sessions that are open, and how many events
+/// were settled.
+#[derive(Debug, Drop)]
+pub struct Core {
+    ledger: Ledger,
+    table: Table,
+    settled: u32,
+}
+
+impl Model for Core {
+    ghost use Rattle.session_core.specs.Parts.{CoreParts};
+
+    ghost Value = { CoreParts };
+
+    ghost view = { λ c. record { ledger = c.ledger; table = c.table; settled = c.settled } };
+
+    ghost use Rattle.session_core.specs.Standing.{HasJournal};
+
+    ghost invariant = { λ c. HasJournal (record { ledger = c.ledger; table = c.table; settled = c.settled }) };
+}
+
+impl Core {
+    /// The core before the first event; at most `cap` sessions may be opened. It takes no memory later.
+    ///
+    /// # Errors
+    ///
+    /// There isn't the memory.
+    pub fn new(alloc: Global, setup: &Setup, cap: u32) -> Result<Core, AllocError>
+        ensures stands { IfOk result (λ core. Stands core []) }
+        ensures setup { IfOk result (λ core. core.ledger.setup ≡ setup.now) }
+        ensures cap { IfOk result (λ core. core.ledger.cap ≡ cap) }
+    {
+        let ledger = Ledger::new(alloc, setup, cap)?;
+        let table = Table::new(alloc, setup.workers())?;
+        Ok(Core {
+            ledger,
+            table,
+            settled: 0,
+        })
+    }
+
+    /// What the accounts and the rows decide.
+    fn judge(&self, worker: u32, ask: &Ask) -> Decision
+        requires { worker < self.now.ledger.setup.workers }
+        ensures { result ≡ core_decision self.now worker ask.now }
+    {
+        judge(&self.ledger, &self.table, worker, ask)
+    }
+
+    /// The event of an ask with its decision.
+    fn event_of(&self, worker: u32, ask: &Ask, decision: Decision) -> Event
+        requires worker { worker < self.now.ledger.setup.workers }
+        requires few { self.now.settled < 2 ^ 32 - 1 }
+        ensures { result ≡ core_event self.now worker ask.now decision }
+    {
+        let session = session_of(&self.table, worker);
+        Event {
+            worker,
+            session: session_for(self.table.begun(), session, ask, &decision),
+            ask: *ask,
+            decision,
+        }
+    }
+
+    /// The worker's open session, or 0.
+    pub fn session(&self, worker: u32) -> u32
+        requires worker { worker < self.now.ledger.setup.workers }
+        ensures session { (journal : List Event) → Stands self.now journal → result ≡ open_session_of journal worker }
+    {
+        session_of(&self.table, worker)
+    }
+
+    /// What the policy knows of the accounts.
+    pub fn ledger(&self) -> &Ledger
+        ensures { result.now ≡ self.now.ledger }
+    {
+        &self.ledger
+    }
+
+    /// The verdict on an ask of a worker, over the events settled so far. It is never `Lost`.
+    pub fn decide(&self, worker: u32, ask: &Ask) -> Decision
+        requires worker { worker < self.now.ledger.setup.workers }
+        ensures verdict { (journal : List Event) → Stands self.now journal → result ≡ verdict_of self.now.ledger.setup journal worker ask.now }
+    {
+        self.judge(worker, ask)
+    }
+
+    /// The event of an ask with what `decide` answers, which is settled: the next decision stands behind
+    /// it. A permitted opening has to be within the sessions that may be opened.
+    pub fn settle(&mut self, worker: u32, ask: &Ask, decision: Decision) -> Event
+        requires worker { worker < self.old.ledger.setup.workers }
+        requires decided { (journal : List Event) → Stands self.old journal → decision ≡ verdict_of self.old.ledger.setup journal worker ask.now }
+        requires room { HasRoom self.old (is_begin ask.now && is_permit decision) }
+        ensures kept { KeepsSetup self.old self.new }
+        ensures event { (journal : List Event) → Stands self.old journal → result ≡ next_event self.old.ledger.setup journal worker ask.now }
+        ensures stands { (journal : List Event) → Stands self.old journal → Stands self.new (journal ++ result ∷ []) }
+    {
+        let event = self.event_of(worker, ask, decision);
+        settle(&mut self.ledger, &mut self.table, &event);
+        self.settled += 1;
+        event
+    }
+
+    /// Decides and settles an ask.
+    pub fn step(&mut self, step: &Step) -> Event
+        requires worker { step.now.worker < self.old.ledger.setup.workers }
+        requires room { HasRoom self.old (is_begin step.now.ask && is_none (row_of self.old step.now.worker)) }
+        ensures kept { KeepsSetup self.old self.new }
+        ensures event { (journal : List Event) → Stands self.old journal → result ≡ next_event self.old.ledger.setup journal step.now.worker step.now.ask }
+        ensures stands { (journal : List Event) → Stands self.old journal → Stands self.new (journal ++ result ∷ []) }
+    {
+        let decision = self.judge(step.worker, &step.ask);
+        self.settle(step.worker, &step.ask, decision)
+    }
+}
