@@ -1,5 +1,5 @@
 -- Accounts and the rows of sessions that are challenged for them.
-use Rattle.std.proofs.Common.{◌≡◌, ℕ, ◌<◌, ◌≤◌, Bool, true, false, cond, List, length, nat_le, nat_lt, Option, Some, None, slice_get, refl, sym, ap, subst, ◌∙◌, arith}
+use Rattle.std.proofs.Common.{◌≡◌, ℕ, ◌<◌, true, false, cond, List, length, nat_lt, Option, Some, None, slice_get, refl, sym, ap, ◌∙◌, arith}
 use Rattle.std.proofs.lemmas.Bool.Decides.{nat_tests}
 use Rattle.std.proofs.lemmas.List.{length-map}
 use Rattle.request_catalogue.specs.declared.texts.Name.{Name}
@@ -8,7 +8,7 @@ use Rattle.otp_ledger.specs.Standing.{HoldsAtMost, StandsFor, state_by}
 use Rattle.otp_ledger.proofs.StandingLemmas.{some_there, stands_at}
 use Rattle.policy_model.specs.declared.account.Account.{Account}
 use Rattle.policy_model.specs.declared.event.Event.{Event}
-use Rattle.policy_model.specs.Logins.{challenged_user, holder_of, was_decoyed}
+use Rattle.policy_model.specs.Logins.{challenged_user, was_decoyed}
 use Rattle.policy_model.specs.Settings.{Settings, account_number}
 use Rattle.policy_model.specs.Verdict.{is_holder}
 use Rattle.session_core.specs.Deciding.{account_at}

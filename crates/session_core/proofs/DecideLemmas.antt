@@ -1,8 +1,7 @@
 -- What a core that stands for a journal decides is the policy's verdict.
-use Rattle.std.proofs.Common.{◌≡◌, ◌≢◌, ℕ, ◌+◌, ◌<◌, Bool, true, false, not, ◌&&◌, ◌||◌, cond, eqb, List, length, nat_eq, nat_le, Option, Some, None, slice_get, refl, sym, ap, subst, ◌∙◌, arith}
+use Rattle.std.proofs.Common.{◌≡◌, ◌≢◌, ℕ, ◌+◌, ◌<◌, Bool, true, false, not, ◌&&◌, cond, eqb, List, length, nat_eq, nat_le, Option, Some, None, refl, sym, ap, ◌∙◌, arith}
 use Rattle.std.specs.Prelude.{unwrap_or}
 use Rattle.std.specs.List.{list_any}
-use Rattle.std.proofs.lemmas.Bool.Decides.{nat_tests}
 use Rattle.request_catalogue.specs.declared.kind.Kind.{Kind}
 use Rattle.request_catalogue.specs.declared.kind.Kind.TheVariants as kinds
 use Rattle.request_catalogue.specs.declared.texts.Label.{Label}
@@ -22,12 +21,12 @@ use Rattle.policy_model.specs.declared.phase.Phase.TheVariants.{Pre, Challenged,
 use Rattle.policy_model.specs.Asks.{came_by_frame, is_denied_reply, request_number}
 use Rattle.policy_model.specs.Journal.{count_of, open_session_of, openings_of}
 use Rattle.policy_model.specs.Logins.{account_of, challenged_user, verified_user, was_decoyed}
-use Rattle.policy_model.specs.Phases.{is_over, table_row}
+use Rattle.policy_model.specs.Phases.{table_row}
 use Rattle.policy_model.specs.Settings.{Settings}
 use Rattle.policy_model.specs.Verdict.{account_named, account_verdict, challenge_verdict, decoy_verdict, info_verdict, kind_verdict, login_verdict, open_verdict, readings, reply_verdict, request_verdict, sequence_of, user_verdict, verdict_of}
 use Rattle.policy_model.proofs.Verdicts.{denied_begin, denied_end, verdict_of-begin, verdict_of-end, verdict_of-request}
 use Rattle.session_core.specs.Deciding.{account_at, challenge_by, core_decision, info_by, kind_by, open_by, open_for_account, reply_by, reply_for_account, sequence_at, worker_decision}
-use Rattle.session_core.specs.Parts.{CoreParts, row_of, setup_of}
+use Rattle.session_core.specs.Parts.{CoreParts, row_of}
 use Rattle.session_core.specs.Standing.{Stands}
 use Rattle.session_core.proofs.AccountLemmas.{account_none, account_there, as_many, decoy_number_is, user_is}
 use Rattle.session_table.specs.declared.rows.SessionRow.{SessionRow}
@@ -35,7 +34,7 @@ use Rattle.session_table.specs.Files.{open_decision}
 use Rattle.session_laws.specs.Judged.{is_over_phase}
 use Rattle.session_table.specs.Judging.{kind_refusal, own_refusal, refusal_of}
 use Rattle.session_table.specs.Marks.{has_mark}
-use Rattle.session_table.specs.Standing.{RowStands, grants_at, has_taken, is_logged_in}
+use Rattle.session_table.specs.Standing.{RowStands, has_taken, is_logged_in}
 use Rattle.session_table.specs.Tables.{WorkerStands}
 use Rattle.session_table.proofs.VerdictLemmas.{close_decides, export_decides, open_decides, refusal_decides, use_decides}
 use Rattle.policy_model.specs.Verdict.{grants_of}

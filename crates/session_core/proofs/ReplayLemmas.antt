@@ -1,9 +1,7 @@
 -- What follows of the journal that steps give.
-use Rattle.std.proofs.Common.{◌≡◌, ℕ, ◌+◌, ◌<◌, ◌≤◌, List, [], ◌∷◌, ◌++◌, length, arith}
-use Rattle.std.proofs.lemmas.List.{length-append}
+use Rattle.std.proofs.Common.{◌≤◌, List, arith}
 use Rattle.session_laws.proofs.Openings.{openings_few}
 use Rattle.policy_model.specs.declared.event.Event.{Event}
-use Rattle.policy_model.specs.Asks.{opens}
 use Rattle.policy_model.specs.Legal.{IsLegal}
 use Rattle.policy_model.specs.Settings.{Settings}
 use Rattle.policy_laws.proofs.Exports.{verified_before_export}

@@ -1,5 +1,5 @@
 -- What the event that follows makes of the accounts.
-use Rattle.std.proofs.Common.{◌≡◌, ◌≢◌, ℕ, ◌+◌, ◌-◌, ◌<◌, Bool, true, false, not, ◌&&◌, ◌||◌, cond, eqb, nat_le, nat_lt, List, [], ◌∷◌, ◌++◌, length, map, Option, Some, None, refl, sym, ap, subst, ◌∙◌, arith}
+use Rattle.std.proofs.Common.{◌≡◌, ◌≢◌, ℕ, ◌-◌, ◌<◌, Bool, true, false, not, ◌&&◌, ◌||◌, cond, eqb, nat_le, nat_lt, List, [], ◌∷◌, ◌++◌, length, map, Option, Some, refl, sym, ap, subst, ◌∙◌, arith}
 use Rattle.std.specs.Prelude.{is_some, unwrap_or}
 use Rattle.std.proofs.lemmas.Bool.{and_from, and_parts, false_from_ne_true, false≢true}
 use Rattle.std.proofs.lemmas.Bool.Decides.{nat_tests}
@@ -15,23 +15,22 @@ use Rattle.policy_model.specs.declared.event.Ask.TheVariants as asks
 use Rattle.policy_model.specs.declared.event.Decision.{Decision}
 use Rattle.policy_model.specs.declared.event.Event.{Event}
 use Rattle.policy_model.specs.declared.phase.Phase.{Phase}
-use Rattle.policy_model.specs.declared.phase.Phase.TheVariants.{Pre, Challenged, Verified, User, Over}
+use Rattle.policy_model.specs.declared.phase.Phase.TheVariants.{Challenged, Over}
 use Rattle.policy_model.specs.Asks.{accepts, came_by_frame, challenge_name, decoys_from, ends_session, gives_up, is_login_step, is_permit, is_reply, moment_of, opens, reserves, takes, takes_user, value_of}
-use Rattle.policy_model.specs.Journal.{open_session_of}
 use Rattle.policy_model.specs.Legal.{IsLegal, IsNext}
-use Rattle.policy_model.specs.Logins.{account_of, current_password, current_sequence, holder_of, last_taking_of, replies_of, session_taking, was_decoyed}
+use Rattle.policy_model.specs.Logins.{account_of, holder_of, last_taking_of, replies_of, session_taking, was_decoyed}
 use Rattle.policy_model.specs.Phases.{phase_of}
-use Rattle.policy_model.specs.Settings.{IsInRange, Settings, account_number, same_name}
+use Rattle.policy_model.specs.Settings.{IsInRange, Settings}
 use Rattle.policy_model.specs.Verdict.{is_holder, taking_moment}
-use Rattle.session_core.specs.Settling.{is_challenged, ledger_accepting, ledger_after, ledger_by, ledger_leaving, ledger_taking, may_hold, number_for}
+use Rattle.session_core.specs.Settling.{is_challenged, ledger_accepting, ledger_by, ledger_leaving, ledger_taking, may_hold, number_for}
 use Rattle.session_core.specs.Standing.{IsSpendable}
 use Rattle.session_core.proofs.AccountLemmas.{IsUser, as_many, decoy_number_is, holds_at_most, user_is}
-use Rattle.session_laws.specs.Tied.{AcceptsNext, LeavesUser, ReservesLive, leaves}
+use Rattle.session_laws.specs.Tied.{LeavesUser, leaves}
 use Rattle.session_laws.proofs.Numbers.{decoyed_holds, holds_only, unchallenged_holds}
 use Rattle.session_laws.proofs.Opened.{opening}
 use Rattle.session_laws.proofs.Openings.{phase_of-zero}
 use Rattle.session_laws.proofs.Permits.{same_name-same, same_some}
-use Rattle.session_laws.proofs.Permitted.{IsTaking, accepted_in_challenged, accepted_no_decoy, permitted_live, taking}
+use Rattle.session_laws.proofs.Permitted.{accepted_in_challenged, accepted_no_decoy, permitted_live, taking}
 use Rattle.session_laws.proofs.Settling.{accepts_next, decoy_reserves_none, leaves_user, reserves_live, reserves_none, unaccepted as no_reply}
 use Rattle.session_table.specs.declared.rows.SessionRow.{SessionRow}
 use Rattle.session_table.specs.Standing.{RowStands, account_taken, has_taken, number_by}

@@ -1,5 +1,5 @@
 -- A core goes on by the event that follows.
-use Rattle.std.proofs.Common.{◌≡◌, ◌≢◌, ℕ, zero, suc, ◌+◌, ◌-◌, ◌^◌, ◌<◌, ◌≤◌, Bool, true, false, ◌&&◌, cond, nat_lt, List, [], ◌∷◌, ◌++◌, length, get_or, set, replicate, Option, Some, None, refl, sym, ap, subst, ◌∙◌, arith, inl, inr, ◌⊎◌}
+use Rattle.std.proofs.Common.{◌≡◌, ◌≢◌, ℕ, zero, suc, ◌+◌, ◌-◌, ◌^◌, ◌<◌, ◌≤◌, Bool, true, false, ◌&&◌, cond, nat_lt, List, [], ◌∷◌, ◌++◌, length, Option, Some, None, refl, sym, ap, subst, ◌∙◌, arith, inl, inr, ◌⊎◌}
 use Rattle.std.specs.Prelude.{is_none, is_some}
 use Rattle.std.specs.List.{AllByRecursion}
 use Rattle.std.proofs.lemmas.Bool.{and_parts, cases_eq, false≢true}
@@ -12,9 +12,9 @@ use Rattle.policy_model.specs.declared.event.Ask.TheVariants as asks
 use Rattle.policy_model.specs.declared.event.Decision.{Decision}
 use Rattle.policy_model.specs.declared.event.Event.{Event}
 use Rattle.policy_model.specs.declared.phase.Phase.{Phase}
-use Rattle.policy_model.specs.declared.phase.Phase.TheVariants.{Pre, Challenged, Over}
+use Rattle.policy_model.specs.declared.phase.Phase.TheVariants.{Challenged}
 use Rattle.policy_model.specs.Asks.{accepts, is_begin, is_end, is_lost, is_permit, is_reply, moment_of, opens, takes}
-use Rattle.policy_model.specs.Journal.{has_lost, open_session_of, openings_of}
+use Rattle.policy_model.specs.Journal.{open_session_of}
 use Rattle.policy_model.specs.Legal.{IsLegal, IsNext, next_event}
 use Rattle.policy_model.specs.Phases.{table_row}
 use Rattle.policy_model.specs.Runs.{IsOfWorker}
@@ -25,7 +25,7 @@ use Rattle.policy_model.proofs.Runs.{has_lost-push, next_decision, next_session}
 use Rattle.policy_model.proofs.Verdicts.{denied_begin, denied_end}
 use Rattle.session_core.specs.Deciding.{core_decision, worker_decision}
 use Rattle.session_core.specs.Parts.{CoreParts, row_of}
-use Rattle.session_core.specs.Settling.{core_after, core_event, grant_for, ledger_accepting, ledger_after, ledger_by, ledger_leaving, ledger_taking, may_hold, number_for, session_at, table_next}
+use Rattle.session_core.specs.Settling.{core_after, core_event, grant_for, ledger_accepting, ledger_after, may_hold, number_for, session_at, table_next}
 use Rattle.session_core.specs.Standing.{FitsAccounts, FitsRows, HasJournal, IsCore, Stands, early_rows, phase_at}
 use Rattle.session_core.proofs.GrantLemmas.{grant_found}
 use Rattle.session_core.proofs.SettleLemmas.{idle_stands, number_taken, opened_stands, session_stands, spendable}
@@ -35,13 +35,13 @@ use Rattle.session_laws.proofs.Judging.{event_is}
 use Rattle.session_laws.proofs.NextEvents.{next_event_follows, next_event_kept, workers_go_on}
 use Rattle.session_laws.proofs.Opened.{opening}
 use Rattle.session_laws.proofs.Openings.{openings_few, session_own}
-use Rattle.session_laws.proofs.Permitted.{accepted_in_challenged, taking}
+use Rattle.session_laws.proofs.Permitted.{accepted_in_challenged}
 use Rattle.session_laws.proofs.Rooms.{accepted_late, log_in_falls, room_for_one, room_push}
 use Rattle.session_laws.specs.Phased.{phase_after}
 use Rattle.session_table.specs.declared.rows.SessionRow.{SessionRow}
 use Rattle.session_table.specs.Rows.{new_row}
-use Rattle.session_table.specs.Standing.{NamesFit, RowStands}
-use Rattle.session_table.specs.Tables.{FitsWorker, Follows, NamesFound, TableParts, TableStands, WorkerStands, new_table, row_at, table_after, table_begun, table_ended, worker_after}
+use Rattle.session_table.specs.Standing.{RowStands}
+use Rattle.session_table.specs.Tables.{Follows, NamesFound, TableParts, TableStands, WorkerStands, new_table, row_at, table_after, table_begun, table_ended, worker_after}
 use Rattle.session_table.proofs.FitLemmas.{fits_worker}
 use Rattle.session_table.proofs.TableLemmas.{stands_begun, stands_ended, stands_kept, table_new}
 

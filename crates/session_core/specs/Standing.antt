@@ -1,18 +1,17 @@
 -- Inner: what a core stands for: the journal of all events, of which it knows what the policy asks.
-use Rattle.std.specs.Prelude.{ℕ, ◌≡◌, ◌≤◌, ◌<◌, ◌+◌, ◌-◌, ◌^◌, ◌&&◌, Bool, true, false, not, List, length, Option, Some, None, is_none, is_some}
+use Rattle.std.specs.Prelude.{ℕ, ◌≡◌, ◌≤◌, ◌<◌, ◌+◌, ◌-◌, ◌^◌, ◌&&◌, Bool, true, false, List, length, Option, Some, None, is_none, is_some}
 use Rattle.std.specs.List.{AllByRecursion}
 use Rattle.otp_ledger.specs.Accounts.{IsNextPassword, LedgerParts, state_at}
 use Rattle.otp_ledger.specs.Standing.{StandsFor}
 use Rattle.policy_model.specs.declared.event.Event.{Event}
 use Rattle.policy_model.specs.declared.phase.Phase.{Phase}
 use Rattle.policy_model.specs.declared.phase.Phase.TheVariants.{Over}
-use Rattle.policy_model.specs.Asks.{accepts, is_end, is_permit, opens, takes, value_of}
+use Rattle.policy_model.specs.Asks.{accepts, is_end, is_permit, opens, value_of}
 use Rattle.policy_model.specs.Journal.{has_lost}
 use Rattle.policy_model.specs.Legal.{IsLegal}
 use Rattle.policy_model.specs.Runs.{IsOfWorker}
 use Rattle.policy_model.specs.Settings.{IsInRange}
-use Rattle.session_core.specs.Parts.{CoreParts, row_of, setup_of}
-use Rattle.session_core.specs.Settling.{is_challenged}
+use Rattle.session_core.specs.Parts.{CoreParts, setup_of}
 use Rattle.session_laws.specs.Rooms.{login_count}
 use Rattle.session_table.specs.declared.rows.SessionRow.{SessionRow}
 use Rattle.session_table.specs.Tables.{FitsWorker, TableParts, TableStands, row_at}

@@ -1,8 +1,7 @@
-use Rattle.std.proofs.Common.{◌≡◌, ◌∙◌, ◌+◌, ◌<◌, ◌++◌, ◌∷◌, [], List, length, map, take, sym, ap, subst, arith}
+use Rattle.std.proofs.Common.{◌∙◌, ◌+◌, ◌++◌, ◌∷◌, [], map, take, sym, ap, subst, arith}
 use Rattle.std.proofs.lemmas.List.{length-append, map-append, take_more}
 use Rattle.policy_model.specs.Legal.{IsLegal}
 use Rattle.policy_model.specs.Settings.{Settings}
-use Rattle.policy_model.specs.declared.event.Event.{Event}
 use Rattle.session_core.specs.Replayed.{asked_of, stepped_of}
 use Rattle.session_core.specs.Standing.{Stands}
 use Rattle.session_core.proofs.ReplayLemmas.{begun_few, consequences}

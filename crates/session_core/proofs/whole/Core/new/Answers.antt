@@ -1,6 +1,5 @@
 use Rattle.std.proofs.Common.{◌≡◌, ◌∙◌, ap, sym, subst}
 use Rattle.otp_ledger.specs.Accounts.{LedgerParts, new_ledger}
-use Rattle.session_core.specs.Parts.{CoreParts}
 use Rattle.session_core.specs.Standing.{HasJournal}
 use Rattle.session_table.specs.Tables.{TableParts, new_table}
 use Rattle.session_core.proofs.StandLemmas.{journal_none}

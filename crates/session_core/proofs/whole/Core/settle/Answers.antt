@@ -1,13 +1,7 @@
-use Rattle.std.proofs.Common.{◌≡◌, ◌∙◌, ◌<◌, ◌+◌, ◌++◌, ◌∷◌, ◌&&◌, Bool, ℕ, [], List, true, sym, ap, subst}
-use Rattle.std.proofs.lemmas.Bool.{and_parts}
+use Rattle.std.proofs.Common.{◌∙◌, ◌++◌, ◌∷◌, [], sym, ap, subst}
 use Rattle.otp_ledger.specs.Accounts.{LedgerParts}
-use Rattle.policy_model.specs.declared.event.Event.{Event}
-use Rattle.policy_model.specs.Asks.{is_begin, is_permit, opens}
-use Rattle.policy_model.specs.Legal.{next_event}
-use Rattle.policy_model.specs.Verdict.{verdict_of}
 use Rattle.session_core.specs.Parts.{CoreParts, row_of}
-use Rattle.session_core.specs.Settling.{core_after, core_event}
-use Rattle.session_core.specs.Standing.{FitsAccounts, FitsRows, HasJournal, Stands}
+use Rattle.session_core.specs.Standing.{HasJournal, Stands}
 use Rattle.session_core.proofs.StandLemmas.{core_event_is, core_after_is, event_following, fits_accounts, fits_rows, journal_push, opening_room, same_cap, same_setup, stands_push}
 use Rattle.session_core.proofs.whole.Core.settle.Goals as goal
 
