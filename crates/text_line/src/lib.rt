@@ -1,11 +1,14 @@
 //! A short text that is written one part behind the other: words, numbers in decimal digits, bytes
-//! in hexadecimal ones. The log's lines and the stored functions are written by it.
+//! in hexadecimal ones. The log's lines and the stored functions are written by it. And the number that
+//! a word spells.
 #![tactic(auto)]
 
 ghost use Rattle.std.specs.Prelude.{◌≡◌, ◌≤◌, ◌+◌, ◌*◌, ◌++◌, length};
 ghost use Rattle.std.specs.Fmt.{decimal};
+ghost use Rattle.std.specs.Str.{bytes_eq};
 ghost use Rattle.hex.specs.Hex.{encode_lower};
 ghost use Rattle.arrayvec.specs.ArrayVec.{array_vec_len};
+ghost use Rattle.text_line.specs.Reading.{decimal_of};
 ghost use Rattle.text_line.specs.Writing.{Writes, WritesUpTo};
 
 use arrayvec::ArrayVec;
@@ -65,6 +68,26 @@ pub fn put_hex(line: &mut Line, bytes: &[u8])
     let len = 2 * bytes.len();
     let _fits = hex::encode_to_slice(bytes, &mut digits[..len]);
     put(line, &digits[..len]);
+}
+
+/// The number of 64 bits that a text spells in decimal digits without a leading zero.
+#[tactic(auto, unfolding(crate::specs::Reading::decimal_of))]
+pub fn long_of(text: &str) -> Option<u64>
+    ensures { result ≡ decimal_of text.now }
+{
+    let Ok(number) = text.parse::<u64>() else {
+        return None;
+    };
+    is_decimal(number, text).then_some(number)
+}
+
+/// Whether the text is what a number is written as.
+fn is_decimal(number: u64, text: &str) -> bool
+    ensures { result ≡ bytes_eq text.now (decimal number) }
+{
+    let mut line = Line::new();
+    put_long(&mut line, number);
+    text.as_bytes() == line.as_slice()
 }
 
 #[cfg(test)]
