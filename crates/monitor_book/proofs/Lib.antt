@@ -1,0 +1,4 @@
+pub mod LogLemmas
+pub mod EventLemmas
+pub mod HistoryLemmas
+pub mod ApplyLemmas

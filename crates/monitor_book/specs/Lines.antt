@@ -1,0 +1,25 @@
+-- Believed: what the log holds of a journal.
+use Rattle.std.specs.Prelude.{◌≡◌, ℕ, ◌+◌, List, [], ◌++◌, length, take, find, Option, Some, None}
+use Rattle.outside.specs.Told.{Goes}
+use Rattle.policy_model.specs.declared.event.Event.{Event}
+use Rattle.policy_model.specs.Asks.{is_lost}
+use Rattle.policy_model.specs.Journal.{kept_events}
+use Rattle.policy_model.specs.Legal.{next_event}
+use Rattle.policy_model.specs.Settings.{Settings}
+use Rattle.decision_log.specs.Log.{line_of, log_text}
+
+-- the line that the first lost event would have had
+abbrev pub lost_line_of : Settings → List Event → Option Event → List ℕ
+lost_line_of setup kept None = []
+lost_line_of setup kept (Some e) = line_of (length kept + 1) (next_event setup kept e.worker e.ask)
+
+abbrev pub lost_line : Settings → List Event → List ℕ
+lost_line setup journal = lost_line_of setup (kept_events journal) (find (λ e. is_lost e.decision) journal)
+
+-- behind what the log held stand the lines of the events that were kept, and then a front of the line that was lost, if one was
+pub record HoldsLines (setup : Settings) (journal : List Event) (before after : List ℕ) : Type 0 where
+  pub lines : (n : ℕ) × (after ≡ before ++ log_text journal ++ take n (lost_line setup journal))
+
+-- the same where the log tells what it holds
+abbrev pub LogMatches : Settings → List Event → Option (List ℕ) → Option (List ℕ) → Type 0
+LogMatches setup journal before after = Goes (HoldsLines setup journal) before after

@@ -1,0 +1,149 @@
+//! The book.
+
+ghost use Rattle.std.specs.Prelude.{◌≡◌, ◌≤◌, [], IfErr, IfOk, false, length};
+ghost use Rattle.monitor_book.specs.Kept.{IsBook, book_parts};
+ghost use Rattle.policy_model.specs.Settings.{events_max};
+ghost use Rattle.session_core.specs.Parts.{setup_of};
+ghost use Rattle.session_core.specs.Replayed.{HasConsequences};
+ghost use Rattle.session_core.specs.Standing.{Stands};
+
+use crate::entering::{event_of, settle};
+use crate::opened::Opened;
+use decision_log::line;
+use outside::Sink;
+use policy_model::{Ask, Event};
+use session_core::Core;
+use std::alloc::{AllocError, Global};
+use std::marker::Model;
+use std::snapshot::Snapshot;
+use turn_cell::Object;
+
+/// The bytes that a line has at most.
+const LINE_MAX: usize = 256;
+
+/// All events of a run, the core that decides, and the log that has a line of each event.
+#[derive(Drop)]
+pub struct Book<K: Sink> {
+    core: Core,
+    journal: Vec<Event>,
+    lost: bool,
+    log: K,
+    opened: Snapshot<K>,
+}
+
+impl<K: Sink> Model for Book<K> {
+    ghost use Rattle.std.specs.Prelude.{◌≤◌, vec_capacity};
+    ghost use Rattle.monitor_book.specs.Kept.{BookParts, IsBook, book_parts};
+    ghost use Rattle.policy_model.specs.Settings.{events_max};
+    ghost use Rattle.session_core.specs.Parts.{setup_of};
+
+    ghost Value = { BookParts };
+
+    ghost view = { λ b. book_parts b.core b.journal.items b.lost (K.held b.opened.value) (K.held b.log) (K.faults b.opened.value) (K.faults b.log) };
+
+    ghost invariant = { λ b. IsBook (book_parts b.core b.journal.items b.lost (K.held b.opened.value) (K.held b.log) (K.faults b.opened.value) (K.faults b.log))
+        × (events_max (setup_of b.core) ≤ vec_capacity b.journal) };
+}
+
+impl<K: Sink> Book<K> {
+    /// An empty book over a core in which nothing was settled and which may open a session for each event
+    /// of its setup's workers. Memory for each of these events is taken here, and none later.
+    ///
+    /// # Errors
+    ///
+    /// There isn't the memory: core and log come back as they were.
+    pub fn new(alloc: Global, core: Core, log: K) -> Result<Book<K>, (Core, K, AllocError)>
+        requires fresh { Stands core [] }
+        requires sessions { events_max (setup_of core) ≤ core.ledger.cap }
+        ensures new { IfOk result (λ book. book ≡ book_parts core [] false (K.held log) (K.held log) (K.faults log) (K.faults log)) }
+        ensures back { IfErr result (λ back. (back.0 ≡ core) × (back.1 ≡ log)) }
+    {
+        match Vec::with_capacity(alloc, core.ledger().setup().events_max()) {
+            Ok(journal) => {
+                let opened = Snapshot::of(&log);
+                Ok(Book {
+                    core,
+                    journal,
+                    lost: false,
+                    log,
+                    opened,
+                })
+            }
+            Err(fault) => Err((core, log, fault)),
+        }
+    }
+
+    /// The core, all events and the log, with what a book keeps of them.
+    pub fn parts(self) -> (Core, Vec<Event>, K)
+        ensures core { result.0 ≡ self.core }
+        ensures journal { result.1.items ≡ self.journal }
+        ensures log { (K.held result.2 ≡ self.held) × (K.faults result.2 ≡ self.faults) }
+        ensures kept { IsBook self }
+        ensures few { length self.journal ≤ 1048576 }
+        ensures consequences { HasConsequences (setup_of self.core) self.journal }
+    {
+        let Book {
+            core,
+            journal,
+            log,
+            ..
+        } = self;
+        (core, journal, log)
+    }
+}
+
+impl<K: Sink> Object for Book<K> {
+    type Call = Ask;
+
+    type Reply = Event;
+
+    type Terms = Opened;
+
+    ghost use Rattle.std.specs.Prelude.{◌≡◌, true};
+    ghost use Rattle.monitor_book.specs.Kept.{worker_of};
+    ghost use Rattle.policy_model.specs.Asks.{is_proper};
+    ghost use Rattle.policy_model.specs.Runs.{IsRun};
+    ghost use Rattle.policy_model.specs.Settings.{quota_of};
+
+    ghost terms = { λ b. record { setup = b.core.ledger.setup; held = b.held_first; faults = b.faults_first } };
+
+    ghost history = { λ b. b.journal };
+
+    ghost passes = { λ b. b.core.ledger.setup.workers };
+
+    ghost quota = { λ b. quota_of b.core.ledger.setup };
+
+    ghost owner = { worker_of };
+
+    ghost call_of = { λ e. e.ask };
+
+    ghost proper = { λ ask. is_proper ask ≡ true };
+
+    ghost legal = { λ t journal. IsRun t.setup journal };
+
+    /// Decides an ask, writes the event's line to the log, and only then settles it. Where the line could
+    /// not be written the decision is `Lost`, and so is each later one.
+    fn apply(&mut self, who: u32, call: Ask) -> Event {
+        let decision = self.core.decide(who, &call);
+        let event = event_of(&self.core, who, &call, &decision);
+        let mut text = [0; LINE_MAX];
+        let len = line(self.journal.len() as u32 + 1, &event, &mut text);
+        let lost = self.lost || self.log.append(&text[..len]).is_err();
+        let event = settle(&mut self.core, lost, who, &call, decision);
+        self.lost = lost;
+        self.journal.push_reserved(event);
+        event
+    }
+
+    fn passes(&self) -> u32 {
+        self.core.ledger().setup().workers()
+    }
+
+    fn quota(&self) -> u64 {
+        let setup = self.core.ledger().setup();
+        u64::from(setup.connections()) * (u64::from(setup.requests()) + 3)
+    }
+}
+
+#[cfg(test)]
+mod tests;
