@@ -1,0 +1,13 @@
+pub mod Replies
+pub mod SameEvents
+pub mod Fronts
+pub mod LineEnds
+pub mod Shown
+pub mod ShownVerdicts
+pub mod Alike
+pub mod Journals
+pub mod Witness
+pub mod LogLaws
+pub mod Recent
+pub mod Writable
+pub mod OneAnswer

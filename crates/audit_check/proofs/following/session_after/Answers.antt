@@ -1,0 +1,9 @@
+use Rattle.std.proofs.Common.{◌∙◌, sym}
+use Rattle.policy_model.proofs.Verdicts.{session_of-other}
+use Rattle.audit_check.proofs.following.session_after.Goals as goal
+
+pub returns-else-is_begin : goal.returns-else-is_begin
+returns-else-is_begin c =
+    c.open_session.ensures
+    ∙ c.recent.ensures.session
+    ∙ sym (session_of-other c.args.events.now c.args.event.now.worker c.args.event.now.ask c.args.event.now.decision (sym c.is_begin.ensures ∙ c.if-is_begin.false))

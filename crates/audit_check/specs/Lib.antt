@@ -1,0 +1,5 @@
+pub mod Events
+pub mod Legal
+pub mod Said
+pub mod Following
+pub mod Consequences

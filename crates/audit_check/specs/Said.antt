@@ -1,0 +1,84 @@
+-- Believed: what an audit answers of a text.
+use Rattle.std.specs.Prelude.{ℕ, ◌≡◌, ◌≢◌, ◌≤◌, ◌<◌, ◌+◌, ◌⊎◌, ◌==◌, List, [], ◌∷◌, ◌++◌, length, take, Ok, Err}
+use Rattle.std.specs.List.{position_or_len}
+use Rattle.policy_model.specs.declared.event.Event.{Event}
+use Rattle.policy_model.specs.Settings.{Settings}
+use Rattle.policy_laws.specs.Strangers.{without_readings}
+use Rattle.decision_log.specs.declared.logged.LineFault.{LineFault}
+use Rattle.decision_log.specs.Log.{lines_after}
+use Rattle.decision_log.specs.Reading.{line_read}
+use Rattle.decision_log.specs.Values.{IsLine, LineValue, line_value}
+use Rattle.audit_check.specs.declared.answer.Audit.{Audit}
+use Rattle.audit_check.specs.declared.answer.Audit.TheVariants as audits
+use Rattle.audit_check.specs.declared.answer.AuditWhy.{AuditWhy}
+use Rattle.audit_check.specs.declared.answer.AuditWhy.TheVariants as whys
+use Rattle.audit_check.specs.Legal.{IsLegalLog}
+
+-- the events that a run makes at most
+abbrev pub events_max : ℕ
+events_max = 1048576
+
+-- the first line of a text: with its newline, and all of the text where it has none
+abbrev pub first_line : List ℕ → List ℕ
+first_line text = take (position_or_len (λ c. c == 10) text + 1) text
+
+-- a line reads as this event with this number; of a reply it shows no readings
+pub record Says (number : ℕ) (line : List ℕ) (e : Event) : Type 0 where
+  pub read : line_read line ≡ Ok (line_value number e)
+  pub shown : without_readings e.ask ≡ e.ask
+
+-- what each line says of an event is in the ranges of a line, and of a reply no readings; so many events stand before these
+abbrev pub AreSaid : ℕ → List Event → Type 0
+AreSaid count [] = Unit {0}
+AreSaid count (e ∷ events) = IsLine (line_value (count + 1) e) × (without_readings e.ask ≡ e.ask) × AreSaid (count + 1) events
+
+-- a text is the lines of these events, numbered from 1, and they are a legal log
+pub record IsLogOf (setup : Settings) (text : List ℕ) (events : List Event) : Type 0 where
+  pub spelled : text ≡ lines_after 0 events
+  pub legal : IsLegalLog setup events
+  pub few : length events ≤ events_max
+  pub said : AreSaid 0 events
+
+-- a text is a legal log of so many events
+pub record IsLegalText (setup : Settings) (text : List ℕ) (count : ℕ) : Type 0 where
+  pub events : List Event
+  pub log : IsLogOf setup text events
+  pub counted : count ≡ length events
+
+-- a line that reads with another number than its place
+pub record IsMiscounted (line : List ℕ) (place : ℕ) : Type 0 where
+  pub value : LineValue
+  pub read : line_read line ≡ Ok value
+  pub other : value.number ≢ place
+
+pub record IsUnreadable (line : List ℕ) : Type 0 where
+  pub fault : LineFault
+  pub read : line_read line ≡ Err fault
+
+-- a line that reads with its place as its number, whose event makes no legal log of those before it
+pub record IsIllegal (setup : Settings) (events : List Event) (line : List ℕ) (place : ℕ) : Type 0 where
+  pub event : Event
+  pub says : Says place line event
+  pub illegal : IsLegalLog setup (events ++ event ∷ []) → ⊥
+
+-- the first that applies of a line behind these events: more lines than a run makes events; no line that reads; another number than its place; an event that makes no legal log
+abbrev pub IsFault : Settings → List Event → List ℕ → AuditWhy → Type 0
+IsFault setup events line whys.Text = (length events < events_max) × IsUnreadable line
+IsFault setup events line whys.Count = (events_max ≤ length events) ⊎ IsMiscounted line (length events + 1)
+IsFault setup events line whys.Event = (length events < events_max) × IsIllegal setup events line (length events + 1)
+
+-- the lines before this one are a legal log, and in it is the first fault
+pub record IsFirstFault (setup : Settings) (text : List ℕ) (place : ℕ) (why : AuditWhy) : Type 0 where
+  pub events : List Event
+  pub front : List ℕ
+  pub rest : List ℕ
+  pub cut : text ≡ front ++ rest
+  pub log : IsLogOf setup front events
+  pub placed : place ≡ length events + 1
+  pub more : 1 ≤ length rest
+  pub fault : IsFault setup events (first_line rest) why
+
+-- what an audit says of a text
+abbrev pub IsAnswer : Settings → List ℕ → Audit → Type 0
+IsAnswer setup text (audits.Yes count) = IsLegalText setup text count
+IsAnswer setup text (audits.No place why) = IsFirstFault setup text place why

@@ -1,0 +1,16 @@
+//! Whether the text of a log is one that a monitor with this setup could have written. Believe
+//! `specs/Legal.antt` and `specs/Said.antt`; the mode `audit` stands above.
+#![tactic(auto)]
+
+mod answer;
+mod auditing;
+mod following;
+mod laws;
+mod said;
+
+pub use answer::{Audit, AuditWhy};
+pub use auditing::audit;
+pub use laws::legal_logs_have_consequences;
+
+#[cfg(test)]
+mod tests;
