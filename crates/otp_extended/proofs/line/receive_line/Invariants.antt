@@ -1,0 +1,11 @@
+use Rattle.std.proofs.Common.{◌≡◌, ◌-◌, ◌≤◌, [], length, take}
+use Rattle.outside.specs.Link.{Exchanged}
+use Rattle.outside.specs.Told.{Goes}
+use Rattle.otp_extended.proofs.line.receive_line.Given as goal
+
+abbrev pub invariant-loop-filled : goal.invariant-loop-filled
+invariant-loop-filled g l =
+    (l.filled ≤ 4096) × Goes (Exchanged (take l.filled l.buf) []) (g.E.Stream.link l.initial.ends) (g.E.Stream.link l.ends) × (g.E.Stream.faults l.initial.ends ≤ g.E.Stream.faults l.ends) × (length l.buf ≡ 4096)
+
+abbrev pub decreases-loop-filled : goal.decreases-loop-filled
+decreases-loop-filled g l = 4096 - l.filled

@@ -1,0 +1,64 @@
+//! The words and the line of the mode `renew`.
+
+ghost use Rattle.std.specs.Prelude.{◌≡◌, ◌∷◌, ◌++◌, [], IfOk, codes, map, option_map};
+ghost use Rattle.std.specs.Fmt.{decimal};
+ghost use Rattle.std.specs.String.{string_bytes};
+ghost use Rattle.request_catalogue.specs.TextBytes.{name_bytes};
+ghost use Rattle.otp_extended.specs.Commands.{command_of, command_parts, renew_command, renewed_line};
+
+use request_catalogue::Name;
+use std::alloc::{AllocError, Global};
+
+/// A command `renew SETUP NAME`.
+#[derive(Clone, Copy)]
+pub struct RenewCommand<'a> {
+    /// The name of the setup's file.
+    pub setup: &'a str,
+    /// The user whose account is renewed.
+    pub user: Name,
+}
+
+/// Reads the words of a command line: the mode's word, and those behind it. `None` exactly where they
+/// are not `renew SETUP NAME`, where `NAME` is a user's name.
+pub fn read_renew_command<'a>(mode: &str, further: &[&'a str]) -> Option<RenewCommand<'a>>
+    ensures { option_map command_parts result
+        ≡ renew_command (mode.now ∷ map (λ word. word.now) further.now) }
+{
+    match further {
+        [setup, user] if mode == "renew" => command_of(setup, user),
+        _ => None,
+    }
+}
+
+/// The command of these words.
+fn command_of<'a>(setup: &'a str, user: &str) -> Option<RenewCommand<'a>>
+    ensures { option_map command_parts result ≡ command_of setup.now user.now }
+{
+    match Name::of(user.as_bytes()) {
+        None => None,
+        Some(user) => Some(RenewCommand { setup, user }),
+    }
+}
+
+/// The line that tells of a renewal, as `renewed alice 99` and a newline.
+///
+/// # Errors
+///
+/// There isn't the memory.
+pub fn renewed_line(alloc: Global, user: &Name, sequence: u16) -> Result<Vec<u8>, AllocError>
+    ensures { IfOk result (λ line. line.items ≡ renewed_line (name_bytes user.now) sequence) }
+{
+    let mut line = Vec::from_slice(alloc, b"renewed ")?;
+    line.extend_from_slice(user.as_slice())?;
+    line.extend_from_slice(b" ")?;
+    line.extend_from_slice(digits_of(alloc, sequence)?.as_bytes())?;
+    line.extend_from_slice(b"\n")?;
+    Ok(line)
+}
+
+/// The decimal digits of a number.
+fn digits_of(alloc: Global, number: u16) -> Result<String, AllocError>
+    ensures { IfOk result (λ text. string_bytes text ≡ decimal number) }
+{
+    number.to_string(alloc)
+}

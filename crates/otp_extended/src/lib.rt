@@ -1,0 +1,21 @@
+//! Responses of RFC 2243, and the renewal of a user's chain of passwords offline. Believe
+//! `specs/Responses.antt`, `specs/Renewals.antt`, `specs/Outcome.antt` and the files that these name.
+#![tactic(auto)]
+
+mod command;
+mod cutting;
+mod line;
+mod params;
+mod renewal;
+mod response;
+mod run;
+mod setup;
+
+pub use command::{RenewCommand, read_renew_command, renewed_line};
+pub use renewal::{RenewFault, Renewed, renew};
+pub use response::{Response, ResponseFault, read_response};
+pub use run::{Renewal, RenewalFault, receive_renewal};
+pub use setup::renewed;
+
+#[cfg(test)]
+mod tests;
