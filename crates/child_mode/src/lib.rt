@@ -1,0 +1,13 @@
+//! The modes of the two child programs: `child-pre SESSION` and `child-user SESSION UID NAME`. Each runs
+//! its child over the program's own ends. Believe what the words ask for (`specs/Words`) and what came of
+//! a run (`specs/Outcome`), with `child_protocol` on what a child says.
+#![tactic(auto)]
+
+mod command;
+mod run;
+
+pub use command::{ChildCommand, read_child_command};
+pub use run::{ChildRun, run_child_mode};
+
+#[cfg(test)]
+mod tests;
