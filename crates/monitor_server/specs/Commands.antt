@@ -4,6 +4,8 @@ use Rattle.command_line.specs.Words.{plain_words}
 use Rattle.otp_mode.specs.Command.{command_parts}
 use Rattle.otp_mode.specs.Words.{OtpParts, otp_command}
 use Rattle.check_mode.specs.Words.{check_command}
+use Rattle.child_mode.specs.Commands.{parts_of}
+use Rattle.child_mode.specs.Words.{ChildParts, child_command}
 use Rattle.monitor_server.specs.declared.command.Command.{Command}
 use Rattle.monitor_server.specs.declared.command.Command.TheVariants as commands
 use Rattle.monitor_server.specs.declared.command.Unread.{Unread}
@@ -21,21 +23,27 @@ asks_otp words = option_and_then otp_command (plain_words words)
 abbrev pub asks_check : List (List ℕ) → Option (List ℕ)
 asks_check words = option_and_then check_command (plain_words words)
 
--- the words of a command: `serve`, or those of the modes `otp` and `check`
+-- the child that the words ask to run, and its session, where none begins with a hyphen
+abbrev pub asks_child : List (List ℕ) → Option ChildParts
+asks_child words = option_and_then child_command (plain_words words)
+
+-- the words of a command: `serve`, or those of the modes `otp` and `check` and of the children's
 abbrev pub IsCommand : List (List ℕ) → Type 0
-IsCommand words = (words ≡ serve_words) ⊎ ((parts : OtpParts) × (asks_otp words ≡ Some parts)) ⊎ ((setup : List ℕ) × (asks_check words ≡ Some setup))
+IsCommand words = (words ≡ serve_words) ⊎ ((parts : OtpParts) × (asks_otp words ≡ Some parts)) ⊎ ((setup : List ℕ) × (asks_check words ≡ Some setup)) ⊎ ((parts : ChildParts) × (asks_child words ≡ Some parts))
 
 -- what a mode's word and the words behind it are read as
 abbrev pub IsMeant : List (List ℕ) → Option Command → Type 0
 IsMeant words (Some commands.Serve) = words ≡ serve_words
 IsMeant words (Some (commands.Password command)) = otp_command words ≡ Some (command_parts command)
 IsMeant words (Some (commands.Check setup)) = check_command words ≡ Some setup.now
-IsMeant words None = (words ≢ serve_words) × (otp_command words ≡ None) × (check_command words ≡ None)
+IsMeant words (Some (commands.Child command)) = child_command words ≡ Some (parts_of command)
+IsMeant words None = (words ≢ serve_words) × (otp_command words ≡ None) × (check_command words ≡ None) × (child_command words ≡ None)
 
 -- what the words of a command line are read as; want of memory comes only where none begins with a hyphen
 abbrev pub IsReading : List (List ℕ) → Result Command Unread → Type 0
 IsReading words (Ok commands.Serve) = words ≡ serve_words
 IsReading words (Ok (commands.Password command)) = asks_otp words ≡ Some (command_parts command)
 IsReading words (Ok (commands.Check setup)) = asks_check words ≡ Some setup.now
+IsReading words (Ok (commands.Child command)) = asks_child words ≡ Some (parts_of command)
 IsReading words (Err unread.NoCommand) = IsCommand words → ⊥
 IsReading words (Err unread.OutOfMemory) = plain_words words ≢ None

@@ -13,10 +13,13 @@ use Rattle.check_mode.specs.declared.fault.CheckFault.{CheckFault}
 use Rattle.check_mode.specs.declared.finding.Finding.{Finding}
 use Rattle.check_mode.specs.declared.finding.Finding.TheVariants as findings
 use Rattle.check_mode.specs.Outcome as checks
+use Rattle.child_mode.specs.declared.run.ChildRun.{ChildRun}
+use Rattle.child_mode.specs.Outcome as children
+use Rattle.child_mode.specs.Words.{ChildParts}
 use Rattle.monitor_server.specs.declared.report.Detail.{Detail}
 use Rattle.monitor_server.specs.declared.report.Detail.TheVariants.{Missing, Nothing, SetupBad, WordsBad}
 use Rattle.monitor_server.specs.declared.report.FileKind.TheVariants.{Setup, Words}
-use Rattle.monitor_server.specs.Commands.{asks_check, asks_otp, serve_words}
+use Rattle.monitor_server.specs.Commands.{asks_check, asks_child, asks_otp, serve_words}
 use Rattle.monitor_server.specs.Headline.{IsUnused}
 
 -- where a fault of the mode `otp` lies
@@ -64,12 +67,22 @@ pub record CheckRan (setup : List ℕ) (status : ℕ) (detail : Detail) (content
 pub record CheckMode (words : List (List ℕ)) (status : ℕ) (detail : Detail) (contents : Option Contents) (before after : Option Link) (ReadFailed EndsFailed : Type 0) : Type 0 where
   pub ran : (setup : List ℕ) → asks_check words ≡ Some setup → (status ≡ 9) ⊎ CheckRan setup status detail contents before after ReadFailed EndsFailed
 
--- what a mode doesn't use it leaves as it was: all but `otp` and `check` the files and the ends, all but `serve` the site, the log
+-- the mode of a child came to an outcome that the ends account for, and that is told by the status
+pub record ChildRan (parts : ChildParts) (status : ℕ) (before after : Option Link) (EndsFailed : Type 0) : Type 0 where
+  pub outcome : ChildRun
+  pub status_is : status ≡ children.run_status outcome
+  pub cause : children.IsOutcome parts before after EndsFailed outcome
+
+-- where the words are those of a child's mode, it ran, unless memory was wanted
+pub record ChildMode (words : List (List ℕ)) (status : ℕ) (before after : Option Link) (EndsFailed : Type 0) : Type 0 where
+  pub ran : (parts : ChildParts) → asks_child words ≡ Some parts → (status ≡ 9) ⊎ ChildRan parts status before after EndsFailed
+
+-- what a mode doesn't use it leaves as it was: all but `otp` and `check` the files, all but these and the children's the ends, all but `serve` the site, the log
 -- and the posts; `otp` leaves the files where the words name no list; with 3 and 9 nothing was received or sent, and with 4 and 5
 -- only by `check`; the detail tells of 4 and 5 alone
 pub record LeavesRest {F S E K P : Type 0} (words : List (List ℕ)) (status : ℕ) (detail : Detail) (files_old files_new : F) (site_old site_new : S) (ends_old ends_new : E) (log_old log_new : K) (journal : List Event) (posts : List P) : Type 0 where
   pub files : asks_otp words ≡ None → asks_check words ≡ None → files_new ≡ files_old
-  pub ends : asks_otp words ≡ None → asks_check words ≡ None → ends_new ≡ ends_old
+  pub ends : asks_otp words ≡ None → asks_check words ≡ None → asks_child words ≡ None → ends_new ≡ ends_old
   pub site : words ≢ serve_words → site_new ≡ site_old
   pub unserved : words ≢ serve_words → IsUnused log_old log_new journal posts
   pub unbegun : status ≡ 6 → IsUnused log_old log_new journal posts

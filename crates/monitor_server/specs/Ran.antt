@@ -15,7 +15,7 @@ use Rattle.session_model.specs.Sittings.{IsSitting, NoneBehindLoss, Sitting, all
 use Rattle.session_model.specs.Stories.{AcceptFailed, IsStory, LastAccept, Unasked}
 use Rattle.monitor_server.specs.declared.report.Detail.{Detail}
 use Rattle.monitor_server.specs.Headline.{ConversationsMatch, FaultEndsAreCounted, IsComplete, JournalIsLegal, LogMatches, NoFault, OperationsMatch, RunsToQuota, SessionsInOrder, StatusHasCause}
-use Rattle.monitor_server.specs.Modes.{CheckMode, LeavesRest, PasswordMode}
+use Rattle.monitor_server.specs.Modes.{CheckMode, ChildMode, LeavesRest, PasswordMode}
 use Rattle.monitor_server.specs.Serving.{RoseBy, asks_among}
 
 -- what one worker did, whose events stand at these places
@@ -74,4 +74,5 @@ pub record Whole {F S E K P : Type 0} (words : List (List ℕ)) (status : ℕ) (
   pub promises : Promises words status journal posts scene faults ListenRose LogRose held_old held_new
   pub password : PasswordMode words status detail contents before after ReadFailed EndsFailed
   pub check : CheckMode words status detail contents before after ReadFailed EndsFailed
+  pub child : ChildMode words status before after EndsFailed
   pub leaves : LeavesRest words status detail files_old files_new site_old site_new ends_old ends_new log_old log_new journal posts

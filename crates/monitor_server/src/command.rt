@@ -5,6 +5,7 @@ ghost use Rattle.monitor_server.specs.declared.command.Unread.TheVariants.{OutOf
 ghost use Rattle.monitor_server.specs.Commands.{IsMeant, IsReading, serve_words};
 
 use check_mode::read_check_command;
+use child_mode::{ChildCommand, read_child_command};
 use command_line::read_command_line;
 use otp_mode::{OtpCommand, read_otp_command};
 use outside::Word;
@@ -19,6 +20,8 @@ pub enum Command<'a> {
     Password(OtpCommand<'a>),
     /// To check the setup in the file of this name.
     Check(&'a str),
+    /// To run a child program.
+    Child(ChildCommand),
 }
 
 /// Why words were not read as a command.
@@ -58,8 +61,11 @@ fn command_of<'a>(mode: &str, further: &[&'a str]) -> Option<Command<'a>>
     if let Some(command) = read_otp_command(mode, further) {
         return Some(Command::Password(command));
     }
-    match read_check_command(mode, further) {
-        Some(setup) => Some(Command::Check(setup)),
+    if let Some(setup) = read_check_command(mode, further) {
+        return Some(Command::Check(setup));
+    }
+    match read_child_command(mode, further) {
+        Some(command) => Some(Command::Child(command)),
         None => None,
     }
 }

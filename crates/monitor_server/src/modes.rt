@@ -4,11 +4,14 @@ ghost use Rattle.std.specs.Prelude.{◌≡◌, ◌⊎◌, None};
 ghost use Rattle.outside.specs.Files.{SameFiles};
 ghost use Rattle.outside.specs.Told.{Goes, Rose};
 ghost use Rattle.otp_mode.specs.Command.{command_parts};
+ghost use Rattle.child_mode.specs.Commands.{parts_of};
+ghost use Rattle.monitor_server.specs.declared.report.Detail.TheVariants.{Nothing};
 ghost use Rattle.monitor_server.specs.Headline.{IsUnused};
-ghost use Rattle.monitor_server.specs.Modes.{CheckRan, PasswordRan, fault_detail, finding_detail};
+ghost use Rattle.monitor_server.specs.Modes.{CheckRan, ChildRan, PasswordRan, fault_detail, finding_detail};
 
 use crate::report::{Detail, FileKind, Report, unused};
 use check_mode::{Finding, run_check};
+use child_mode::{ChildCommand, run_child_mode};
 use otp_mode::{OtpCommand, OtpFault, run_otp};
 use outside::{Files, Sink, Stream};
 use std::alloc::Global;
@@ -84,4 +87,21 @@ fn detail_of_finding(finding: Finding) -> Detail
         },
         Finding::WordsRefused(fault) => Detail::WordsBad(fault),
     }
+}
+
+/// Runs a child program, the monitor's side of whose link is the ends.
+pub(crate) fn run_child<P, K, E: Stream>(
+    alloc: Global,
+    command: &ChildCommand,
+    log: K,
+    ends: &mut E,
+) -> Report<P, K>
+    ensures child { ChildRan (parts_of command.now) result.status (E.link ends.old) (E.link ends.new) (Rose (E.faults ends.old) (E.faults ends.new)) }
+    ensures detail { result.detail ≡ Nothing }
+    ensures unused { IsUnused log result.log result.journal.items result.posts.items }
+    ensures silent { (result.status ≡ 3) ⊎ (result.status ≡ 9) → ends.new ≡ ends.old }
+    ensures no_file { (result.status ≡ 4) ⊎ (result.status ≡ 5) → ends.new ≡ ends.old }
+{
+    let run = run_child_mode(alloc, command, ends);
+    unused(alloc, run.status(), Detail::Nothing, log)
 }

@@ -40,7 +40,7 @@ pub struct Report<P, K> {
     /// 3 where a file could not be read, 4 where one isn't there, 5 where a setup or a word list is
     /// refused, 6 where the site could not listen, 7 where the log could not be written, 9 where
     /// memory was wanted, 10 where a worker could not wait for a connection, 11 where the ends
-    /// failed, 12 where the pass phrase is refused.
+    /// failed, 12 where the pass phrase is refused or what a child was sent can't be read.
     pub status: u8,
     /// Which file is missing, or what is wrong with it.
     pub detail: Detail,

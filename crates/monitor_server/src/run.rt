@@ -39,6 +39,18 @@ struct Prepared {
     journal: Vec<Event>,
 }
 
+/// What the site listens at, as the setup says.
+fn place_of(alloc: Global, setup: &Setup) -> Result<Place, AllocError>
+    ensures place { IfOk result (λ p. p ≡ setup_place setup.now) }
+{
+    Ok(Place {
+        socket: Word::of(alloc, setup.socket().as_bytes())?,
+        launcher: Word::of(alloc, setup.launcher().as_bytes())?,
+        vault: Word::of(alloc, setup.vault().as_bytes())?,
+        workers: setup.workers(),
+    })
+}
+
 /// Takes all memory that the run needs.
 fn prepare(alloc: Global) -> Result<Prepared, AllocError>
     ensures setup { IfOk result (λ p. p.setup ≡ plain_settings) }
@@ -48,12 +60,7 @@ fn prepare(alloc: Global) -> Result<Prepared, AllocError>
     ensures room { IfOk result (λ p. vec_capacity p.journal ≡ events_max plain_settings) }
 {
     let setup = Setup::plain(alloc)?;
-    let place = Place {
-        socket: Word::of(alloc, setup.socket().as_bytes())?,
-        launcher: Word::of(alloc, setup.launcher().as_bytes())?,
-        vault: Word::of(alloc, setup.vault().as_bytes())?,
-        workers: setup.workers(),
-    };
+    let place = place_of(alloc, &setup)?;
     let journal = Vec::with_capacity(alloc, setup.events_max())?;
     Ok(Prepared {
         setup,

@@ -478,7 +478,11 @@ check a b
 otp md5 -x TeSt
 otp md5 1 TeSt -x
 drill 7
-child-pre 1";
+child-pre
+child-pre 01
+child-pre 262145
+child-user 1 1000
+child-user 1 0 bob";
 
 #[test]
 fn words_that_are_no_command(rt: HostRuntime) -> Result<(), Fault> {

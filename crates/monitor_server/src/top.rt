@@ -5,11 +5,11 @@ ghost use Rattle.outside.specs.Files.{SameFiles};
 ghost use Rattle.outside.specs.Told.{Goes, Rose};
 ghost use Rattle.policy_model.specs.Settings.{plain_settings};
 ghost use Rattle.monitor_server.specs.Headline.{ConversationsMatch, FaultEndsAreCounted, IsComplete, JournalIsLegal, ListensAt, LogMatches, NoFault, OperationsMatch, RunsToQuota, SessionsInOrder, StatusHasCause};
-ghost use Rattle.monitor_server.specs.Modes.{CheckMode, LeavesRest, PasswordMode};
+ghost use Rattle.monitor_server.specs.Modes.{CheckMode, ChildMode, LeavesRest, PasswordMode};
 ghost use Rattle.monitor_server.specs.Ran.{Whole};
 
 use crate::command::{Command, Unread, read_command};
-use crate::modes::{check_setup, print_password};
+use crate::modes::{check_setup, print_password, run_child};
 use crate::report::{Detail, NO_MEMORY, Report, unused};
 use crate::run::serve_plain;
 use outside::{Files, Sink, Site, Stream, Word};
@@ -35,6 +35,7 @@ fn run_command<F: Files, S: Site, K: Sink, E: Stream>(
         Ok(Command::Serve) => serve_plain(alloc, site, log),
         Ok(Command::Password(command)) => print_password(alloc, &command, files, log, ends),
         Ok(Command::Check(setup)) => check_setup(alloc, setup, files, log, ends),
+        Ok(Command::Child(command)) => run_child(alloc, &command, log, ends),
         Err(Unread::NoCommand) => unused(alloc, NO_COMMAND, Detail::Nothing, log),
         Err(Unread::OutOfMemory) => unused(alloc, NO_MEMORY, Detail::Nothing, log),
     }
@@ -47,7 +48,9 @@ fn run_command<F: Files, S: Site, K: Sink, E: Stream>(
 ///   list are right;
 /// - `otp ALGO N SEED` and `otp ALGO N SEED WORDS` print a one-time password of RFC 2289: the pass
 ///   phrase is the first line that `ends` gives, and the password is sent to `ends` in hexadecimal,
-///   and in six words where a file of a word list is named.
+///   and in six words where a file of a word list is named;
+/// - `child-pre SESSION` and `child-user SESSION UID NAME` run the child before the login and the
+///   user's child over `ends`, the monitor's side of which is the child's link.
 ///
 /// Other words are no command, and neither are those of which one begins with `-`.
 pub fn otplogd<F: Files, S: Site, K: Sink, E: Stream>(
@@ -77,6 +80,8 @@ pub fn otplogd<F: Files, S: Site, K: Sink, E: Stream>(
     ensures password { PasswordMode words.now result.status result.detail (F.contents files.new) (E.link ends.old) (E.link ends.new) (Rose (F.read_faults files.old) (F.read_faults files.new)) (Rose (E.faults ends.old) (E.faults ends.new)) }
     // The mode `check` says what its files hold of a setup, or why it says nothing.
     ensures check { CheckMode words.now result.status result.detail (F.contents files.new) (E.link ends.old) (E.link ends.new) (Rose (F.read_faults files.old) (F.read_faults files.new)) (Rose (E.faults ends.old) (E.faults ends.new)) }
+    // The modes of the children run them over the ends.
+    ensures child { ChildMode words.now result.status (E.link ends.old) (E.link ends.new) (Rose (E.faults ends.old) (E.faults ends.new)) }
     // What a mode doesn't use it leaves as it was.
     ensures leaves { LeavesRest words.now result.status result.detail files.old files.new site.old site.new ends.old ends.new log result.log result.journal.items result.posts.items }
     ensures files { Goes SameFiles (F.contents files.old) (F.contents files.new) }

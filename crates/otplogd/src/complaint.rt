@@ -46,7 +46,7 @@ fn status_text(status: u8) -> &'static str {
         6 => "the socket could not be listened at",
         9 => "memory was wanted",
         11 => "standard input could not be read, or standard output not be written",
-        12 => "the pass phrase is not 10 to 63 bytes of printable ASCII",
+        12 => "the input is refused: a pass phrase is 10 to 63 bytes of printable ASCII",
         _ => "it failed",
     }
 }

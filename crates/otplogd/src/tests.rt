@@ -60,7 +60,7 @@ fn each_status_has_its_line(rt: HostRuntime) -> Result<(), Fail> {
         (
             12,
             Detail::Nothing,
-            "otplogd: the pass phrase is not 10 to 63 bytes of printable ASCII",
+            "otplogd: the input is refused: a pass phrase is 10 to 63 bytes of printable ASCII",
         ),
     ];
     for (status, detail, line) in rows {

@@ -35,3 +35,6 @@ returns-clause-check g c = c.run_command.ensures.whole.check
 
 pub returns-clause-leaves : goal.returns-clause-leaves
 returns-clause-leaves g c = c.run_command.ensures.whole.leaves
+
+pub returns-clause-child : goal.returns-clause-child
+returns-clause-child g c = c.run_command.ensures.whole.child

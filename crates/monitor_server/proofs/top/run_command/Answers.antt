@@ -2,10 +2,11 @@ use Rattle.std.proofs.Common.{Err, Ok, ap, inl, inr, refl, subst}
 use Rattle.outside.specs.Files.{SameFiles}
 use Rattle.policy_model.specs.Settings.{plain_settings}
 use Rattle.outside.proofs.Told.{Goes-same}
+use Rattle.child_mode.specs.Commands as children
 use Rattle.otp_mode.specs.Command.{command_parts}
 use Rattle.monitor_server.specs.Commands.{IsReading}
 use Rattle.monitor_server.proofs.Headline.{uncommanded, unremembered}
-use Rattle.monitor_server.proofs.Whole.{listens-nowhere, whole-checked, whole-nothing, whole-password, whole-served}
+use Rattle.monitor_server.proofs.Whole.{listens-nowhere, whole-checked, whole-child, whole-nothing, whole-password, whole-served}
 use Rattle.monitor_server.proofs.top.run_command.Goals as goal
 
 pub returns-in-Ok-Password-clause-whole : goal.returns-in-Ok-Password-clause-whole
@@ -51,3 +52,15 @@ returns-in-Err-NoCommand-clause-listens g c = listens-nowhere plain_settings _ (
 
 pub returns-in-Err-OutOfMemory-clause-listens : goal.returns-in-Err-OutOfMemory-clause-listens
 returns-in-Err-OutOfMemory-clause-listens g c = listens-nowhere plain_settings _ (g.S.Site.listens c.args.site.now) c.unused-in-Err-OutOfMemory.ensures.unused.workers
+
+pub returns-in-Ok-Child-clause-whole : goal.returns-in-Ok-Child-clause-whole
+returns-in-Ok-Child-clause-whole g c =
+    let unused = c.run_child.ensures.unused in
+    whole-child (children.parts_of c.in-Ok-Child.command) (subst (λ command. IsReading c.args.words.now (Ok command)) c.in-Ok-Child.field-0-is c.in-Ok-Child.ensures) c.run_child.ensures.child c.run_child.ensures.detail unused c.run_child.ensures.silent c.run_child.ensures.no_file (ap g.K.Sink.held unused.log) refl refl
+
+pub returns-in-Ok-Child-clause-files : goal.returns-in-Ok-Child-clause-files
+returns-in-Ok-Child-clause-files g c =
+    Goes-same SameFiles (λ files. record { same = λ name. refl }) (g.F.Files.contents c.args.files.now)
+
+pub returns-in-Ok-Child-clause-listens : goal.returns-in-Ok-Child-clause-listens
+returns-in-Ok-Child-clause-listens g c = listens-nowhere plain_settings _ (g.S.Site.listens c.args.site.now) c.run_child.ensures.unused.workers
