@@ -1,6 +1,6 @@
 use super::*;
 use otp_hash::{Algo, Seed};
-use policy_model::Setup;
+use policy_model::{Account, Grant, SetupParts};
 use request_catalogue::Width;
 use std::alloc::AllocError;
 use std::test::*;
@@ -33,115 +33,272 @@ const LINES: [&str; 24] = [
     "grants = [{ name = \"notes\", mode = 3 }, { name = \"log\", mode = 1 }]",
 ];
 
-/// The file with other texts at some lines.
-fn text_of(rt: &HostRuntime, changed: &[(usize, &str)]) -> Result<String, AllocError> {
+/// The text of a line by changes of the form `PLACE TEXT`, parted by `;`, if one is of its place.
+fn line_at(changes: &str, place: usize) -> Option<&str> {
+    for change in changes.split(';') {
+        if let Some((at, text)) = change.split_once(' ') {
+            if at.parse::<usize>() == Ok(place) {
+                return Some(text);
+            }
+        }
+    }
+    None
+}
+
+/// Appends a text, with a newline for each `|`.
+fn push_text(text: &mut String, more: &str) -> Result<(), AllocError> {
+    for (i, part) in more.split('|').enumerate() {
+        if i > 0 {
+            text.push_str("\n")?;
+        }
+        text.push_str(part)?;
+    }
+    Ok(())
+}
+
+/// The file with changes.
+fn text_of(rt: &HostRuntime, changes: &str) -> Result<String, AllocError> {
     let mut text = String::new(rt.alloc());
     for (i, line) in LINES.iter().enumerate() {
-        let other = changed.iter().find(|row| row.0 == i);
-        text.push_str(other.map_or(*line, |row| row.1))?;
+        push_text(&mut text, line_at(changes, i).unwrap_or(*line))?;
         text.push_str("\n")?;
     }
     Ok(text)
 }
 
-/// What is refused of the file with other texts at some lines.
-fn refusal(rt: &HostRuntime, changed: &[(usize, &str)]) -> Result<Option<SetupError>, AllocError> {
-    let text = text_of(rt, changed)?;
-    Ok(read_setup(rt.alloc(), text.as_bytes()).err())
+/// What is refused of a text.
+fn refusal(rt: &HostRuntime, text: &str) -> Option<SetupError> {
+    read_setup(rt.alloc(), text.as_bytes()).err()
 }
 
-/// A refusal.
-fn refused(key: SetupKey, rule: SetupRule, account: u32) -> Option<SetupError> {
-    Some(SetupError::Refused(SetupFault { key, rule, account }))
+/// Whether a refusal is by this key and rule, of this account.
+fn is_so(refusal: Option<SetupError>, key: &str, rule: &str, account: u32) -> bool {
+    match refusal {
+        Some(SetupError::Refused(fault)) => {
+            fault.key.word() == key && fault.rule.word() == rule && fault.account == account
+        }
+        _ => false,
+    }
+}
+
+/// Whether the file is refused by the key and the rule, of the account, that a line has before its
+/// changes.
+fn is_refused_so(rt: &HostRuntime, line: &str) -> Result<bool, Fail> {
+    let (key, rest) = line.split_once(' ').ok_or("a key")?;
+    let (rule, rest) = rest.split_once(' ').ok_or("a rule")?;
+    let (account, changes) = number_at(rest)?;
+    let text = text_of(rt, changes)?;
+    let account = u32::try_from(account).unwrap_or(0);
+    Ok(is_so(refusal(rt, text.as_str()), key, rule, account))
+}
+
+/// Whether the file is refused as each line says.
+fn are_refused_so(rt: &HostRuntime, lines: &str) -> Result<bool, Fail> {
+    let mut all = true;
+    for line in lines.lines().skip(1) {
+        all &= is_refused_so(rt, line.trim_start())?;
+    }
+    Ok(all)
+}
+
+/// Whether the texts of the whole setup are these.
+fn has_texts(parts: &SetupParts) -> bool {
+    parts.socket.as_str() == "s"
+        && parts.launcher.as_str() == "l"
+        && parts.vault.as_str() == "v"
+        && parts.words.as_str() == "w"
+        && parts.banner.as_str() == "Hi ~"
+}
+
+/// Whether its numbers are these.
+fn has_numbers(parts: &SetupParts) -> bool {
+    parts.workers == 1
+        && parts.connections == 4
+        && parts.requests == 64
+        && parts.tries == 3
+        && parts.hold == 3_600_000
+        && parts.info.as_slice() == [1_000, 1].as_slice()
+}
+
+/// Whether an account is alice's.
+fn is_alice(account: &Account) -> bool {
+    account.name.as_slice() == b"alice".as_slice()
+        && account.uid == 1_000
+        && account.algo == Algo::Md5
+        && account.seed.as_slice() == b"test".as_slice()
+        && account.sequence == 9
+        && account.password == 0x9E87_6134_D904_99DD
+        && account.enabled
+        && account.grants.as_slice().is_empty()
+}
+
+/// Whether an account is bob's.
+fn is_bob(account: &Account) -> bool {
+    account.name.as_slice() == b"bob".as_slice()
+        && account.uid == 1_001
+        && account.algo == Algo::Sha1
+        && account.sequence == 1
+        && account.password == 0x63D9_3663_9734_385B
+        && are_bobs(account.grants.as_slice())
+}
+
+/// Whether grants are bob's.
+fn are_bobs(grants: &[Grant]) -> bool {
+    match grants {
+        [notes, log] => {
+            notes.name.as_slice() == b"notes".as_slice()
+                && notes.mode == 3
+                && log.name.as_slice() == b"log".as_slice()
+                && log.mode == 1
+        }
+        _ => false,
+    }
+}
+
+/// Whether the accounts are alice's and bob's.
+fn are_both(accounts: &[Account]) -> bool {
+    match accounts {
+        [alice, bob] => is_alice(alice) && is_bob(bob),
+        _ => false,
+    }
 }
 
 #[test]
 fn a_whole_setup(rt: HostRuntime) -> Result<(), Fail> {
-    let text = text_of(
-        &rt,
-        &[(8, "hold = 3600000\ninfo = [1000, 1]\nbanner = \"Hi ~\"")],
-    )?;
-    let setup: Setup = read_setup(rt.alloc(), text.as_bytes())
-        .ok()
-        .ok_or("a setup")?;
-    let parts = setup.parts();
-    assert_eq!(rt; parts.socket.as_str(), "s");
-    assert_eq!(rt; parts.launcher.as_str(), "l");
-    assert_eq!(rt; parts.vault.as_str(), "v");
-    assert_eq!(rt; parts.words.as_str(), "w");
-    assert_eq!(rt; parts.banner.as_str(), "Hi ~");
-    assert_eq!(rt; parts.workers, 1);
-    assert_eq!(rt; parts.connections, 4);
-    assert_eq!(rt; parts.requests, 64);
-    assert_eq!(rt; parts.tries, 3);
-    assert_eq!(rt; parts.hold, 3_600_000);
-    assert_eq!(rt; parts.info.as_slice(), [1_000, 1].as_slice());
-    let accounts = parts.accounts.as_slice();
-    assert_eq!(rt; accounts.len(), 2);
-    let (alice, bob) = (&accounts[0], &accounts[1]);
-    assert_eq!(rt; alice.name.as_slice(), b"alice".as_slice());
-    assert_eq!(rt; alice.uid, 1_000);
-    assert_eq!(rt; alice.algo, Algo::Md5);
-    assert_eq!(rt; Some(alice.seed), Seed::of(b"test"));
-    assert_eq!(rt; alice.sequence, 9);
-    assert_eq!(rt; alice.password, 0x9E87_6134_D904_99DD);
-    assert!(rt; alice.enabled);
-    assert_eq!(rt; alice.grants.as_slice().len(), 0);
-    assert_eq!(rt; bob.algo, Algo::Sha1);
-    assert_eq!(rt; bob.password, 0x63D9_3663_9734_385B);
-    let grants = bob.grants.as_slice();
-    assert_eq!(rt; grants.len(), 2);
-    assert_eq!(rt; grants[0].name.as_slice(), b"notes".as_slice());
-    assert_eq!(rt; grants[0].mode, 3);
-    assert_eq!(rt; grants[1].mode, 1);
-    Ok(())
-}
-
-/// A line in the place of the hold, and the key and the rule that it breaks before the hold is
-/// found missing.
-const REFUSED_LINES: &str = "
-    salt=1 salt kind
-    salt=\"\" salt text
-    salt=\"a-b\" salt text
-    salt=\"abcdefghijklmnopq\" salt text
-    frames=1 frames kind
-    frames=\"Wide\" frames text";
-
-/// Whether the file is refused as a line says.
-fn is_refused_so(rt: &HostRuntime, line: &str) -> Result<bool, Fail> {
-    let mut words = line.split_whitespace();
-    let text = words.next().ok_or("a line")?;
-    let key = words.next().ok_or("a key")?;
-    let rule = words.next().ok_or("a rule")?;
-    Ok(match refusal(rt, &[(8, text)])? {
-        Some(SetupError::Refused(fault)) => fault.key.word() == key && fault.rule.word() == rule,
-        _ => false,
-    })
-}
-
-#[test]
-fn faults_of_salt_and_frames(rt: HostRuntime) -> Result<(), Fail> {
-    for line in REFUSED_LINES.lines() {
-        assert!(rt; line.is_empty() || is_refused_so(&rt, line)?, "of {line}");
+    let text = text_of(&rt, "8 hold = 3600000|info = [1000, 1]|banner = \"Hi ~\"")?;
+    match read_setup(rt.alloc(), text.as_bytes()) {
+        Ok(setup) => {
+            let parts = setup.parts();
+            assert!(rt; has_texts(parts) && has_numbers(parts));
+            assert!(rt; are_both(parts.accounts.as_slice()));
+            Ok(())
+        }
+        Err(_) => Err(Fail::from("a setup")),
     }
-    Ok(())
 }
 
-/// The first of two faults by the order of the keys, whatever the order of the lines.
+/// Each line is the key, the rule and the account of the first fault, and then what is changed.
+const REFUSED: &str = "
+    file not-toml 0 0 socket
+    file not-toml 0 0 socket = \"s\"|socket = \"s\"
+    file not-toml 0 4 workers = 10000000000000000000
+    other unknown 0 8 hold = 30000|extra = 1
+    socket missing 0 0 #
+    socket kind 0 0 socket = 1
+    socket text 0 0 socket = \"\"
+    socket text 0 0 socket = \"\u{e9}\"
+    socket text 0 0 socket = \"01234567890123456789012345678901234567890123456789012345678901234567890123456789012345678901234567890\"
+    launcher missing 0 1 #
+    launcher kind 0 1 launcher = []
+    launcher text 0 1 launcher = \"\"
+    vault missing 0 2 #
+    vault kind 0 2 vault = true
+    vault text 0 2 vault = \"\"
+    words missing 0 3 #
+    words kind 0 3 words = 1.5
+    words text 0 3 words = \"a\\nb\"
+    banner kind 0 3 words = \"w\"|banner = 1
+    banner text 0 3 words = \"w\"|banner = \"\\t\"
+    workers missing 0 4 #
+    workers kind 0 4 workers = \"1\"
+    workers range 0 4 workers = 0
+    workers range 0 4 workers = 65
+    workers range 0 4 workers = -1
+    connections missing 0 5 #
+    connections kind 0 5 connections = 4.0
+    connections range 0 5 connections = 0
+    connections range 0 5 connections = 4097
+    requests missing 0 6 #
+    requests kind 0 6 requests = []
+    requests range 0 6 requests = 7
+    requests range 0 6 requests = 4097
+    tries missing 0 7 #
+    tries kind 0 7 tries = {}
+    tries range 0 7 tries = 0
+    tries range 0 7 tries = 11
+    hold missing 0 8 #
+    hold kind 0 8 hold = false
+    hold range 0 8 hold = 0
+    hold range 0 8 hold = 3600001
+    info kind 0 8 hold = 1|info = 1
+    info kind 0 8 hold = 1|info = [1, \"2\"]
+    info range 0 8 hold = 1|info = [0]
+    info range 0 8 hold = 1|info = [1001]
+    info twice 0 8 hold = 1|info = [7, 1, 7]
+    other unknown 2 17 name = \"bob\"|extra = 1
+    name missing 2 17 #
+    name kind 2 17 name = 1
+    name text 2 17 name = \"Bob\"
+    name twice 2 17 name = \"alice\"
+    uid missing 2 18 #
+    uid kind 2 18 uid = \"1\"
+    uid range 2 18 uid = 0
+    uid range 2 18 uid = 4294967295
+    uid twice 2 18 uid = 1000
+    algorithm missing 2 19 #
+    algorithm kind 2 19 algorithm = 5
+    algorithm text 2 19 algorithm = \"MD5\"
+    seed missing 2 20 #
+    seed kind 2 20 seed = 1
+    seed text 2 20 seed = \"\"
+    seed text 2 20 seed = \"te-st\"
+    seed text 2 20 seed = \"abcdefghijklmnopq\"
+    sequence missing 2 21 #
+    sequence kind 2 21 sequence = \"1\"
+    sequence range 2 21 sequence = -1
+    sequence range 2 21 sequence = 10000
+    password missing 2 22 #
+    password kind 2 22 password = 1
+    password text 2 22 password = \"63d936639734385\"
+    password text 2 22 password = \"63d936639734385b0\"
+    password text 2 22 password = \"63d936639734385g\"
+    enabled kind 2 23 enabled = 1
+    grants kind 2 23 grants = 1
+    grants kind 2 23 grants = [1]
+    other unknown 2 23 grants = [{ name = \"a\", mode = 1, more = 1 }]
+    grant-name missing 2 23 grants = [{ mode = 1 }]
+    grant-name kind 2 23 grants = [{ name = 1, mode = 1 }]
+    grant-name text 2 23 grants = [{ name = \"A\", mode = 1 }]
+    grant-name twice 2 23 grants = [{ name = \"a\", mode = 1 }, { name = \"a\", mode = 0 }]
+    grant-mode missing 2 23 grants = [{ name = \"a\" }]
+    grant-mode kind 2 23 grants = [{ name = \"a\", mode = \"1\" }]
+    grant-mode range 2 23 grants = [{ name = \"a\", mode = 0 }]
+    grant-mode range 2 23 grants = [{ name = \"a\", mode = 4 }]
+    salt kind 0 8 salt=1
+    salt text 0 8 salt=\"\"
+    salt text 0 8 salt=\"a-b\"
+    salt text 0 8 salt=\"abcdefghijklmnopq\"
+    frames kind 0 8 frames=1
+    frames text 0 8 frames=\"Wide\"";
+
+/// The first of several faults: by the order of the keys, whatever the order of the lines.
+const FIRST: &str = "
+    requests product 0 4 workers = 4;5 connections = 4096;17 name = 1
+    socket missing 0 0 #;4 #
+    other unknown 0 0 #;8 hold = 1|extra = 1
+    info range 0 8 hold = 1|info = [1, 1, 0];17 #
+    seed missing 1 13 #;17 #
+    name twice 2 17 name = \"alice\";18 uid = 1000
+    other unknown 1 11 uid = 0;10 name = \"alice\"|x = 1
+    salt kind 0 7 frames=1;8 salt=1
+    banner kind 0 7 salt=1;8 banner=1
+    frames kind 0 4 frames=1";
+
 #[test]
-fn the_order_of_salt_and_frames(rt: HostRuntime) -> Result<(), Fail> {
-    let salt = refused(SetupKey::Salt, SetupRule::Kind, 0);
-    assert!(rt; refusal(&rt, &[(7, "frames=1"), (8, "salt=1")])? == salt);
-    let banner = refused(SetupKey::Banner, SetupRule::Kind, 0);
-    assert!(rt; refusal(&rt, &[(7, "salt=1"), (8, "banner=1")])? == banner);
-    let frames = refused(SetupKey::Frames, SetupRule::Kind, 0);
-    assert!(rt; refusal(&rt, &[(4, "frames=1")])? == frames);
+fn each_fault(rt: HostRuntime) -> Result<(), Fail> {
+    assert!(rt; are_refused_so(&rt, REFUSED)?);
     Ok(())
 }
 
-/// Whether the file is read with these when another text stands at its first line.
-fn is_read_with(rt: &HostRuntime, line: &str, salt: &[u8], frames: Width) -> Result<bool, Fail> {
-    let text = text_of(rt, &[(0, line)])?;
+#[test]
+fn the_first_of_several_faults(rt: HostRuntime) -> Result<(), Fail> {
+    assert!(rt; are_refused_so(&rt, FIRST)?);
+    Ok(())
+}
+
+/// Whether the file is read with these with changes.
+fn is_read_with(rt: &HostRuntime, changes: &str, salt: &[u8], frames: Width) -> Result<bool, Fail> {
+    let text = text_of(rt, changes)?;
     Ok(match read_setup(rt.alloc(), text.as_bytes()) {
         Ok(setup) => {
             let parts = setup.parts();
@@ -153,442 +310,108 @@ fn is_read_with(rt: &HostRuntime, line: &str, salt: &[u8], frames: Width) -> Res
 
 #[test]
 fn salt_and_frames_and_neither(rt: HostRuntime) -> Result<(), Fail> {
-    let plain = "socket = \"s\"";
+    let plain = "0 socket = \"s\"";
     assert!(rt; is_read_with(&rt, plain, b"decoy", Width::Narrow)?);
-    let both = "socket = \"s\"\nframes = \"wide\"\nsalt = \"ABCDEFGHIJKLMNO9\"";
+    let both = "0 socket = \"s\"|frames = \"wide\"|salt = \"ABCDEFGHIJKLMNO9\"";
     assert!(rt; is_read_with(&rt, both, b"abcdefghijklmno9", Width::Wide)?);
     Ok(())
 }
 
+/// Changes with which the file is taken.
+const TAKEN: &str = "
+    0 socket = \"0123456789012345678901234567890123456789012345678901234567890123456789012345678901234567890123456789\"
+    0 \u{feff}socket = \"s\"
+    4 workers = 64
+    5 connections = 4096
+    6 requests = 8
+    6 requests = 4096
+    7 tries = 10
+    8 hold = 1|banner = \"\"|info = []
+    10 name = \"alice\"|enabled = false|grants = []
+    11 uid = 1
+    11 uid = 4294967294
+    13 seed = \"abcdefghijklmnO9\"
+    14 sequence = 0
+    14 sequence = 9999";
+
 #[test]
 fn what_is_taken(rt: HostRuntime) -> Result<(), Fail> {
-    let hundred =
-        "socket = \"0123456789012345678901234567890123456789012345678901234567890123456789012345678901234567890123456789\"";
-    let rows = [
-        (0, hundred),
-        (0, "\u{feff}socket = \"s\""),
-        (4, "workers = 64"),
-        (5, "connections = 4096"),
-        (6, "requests = 8"),
-        (6, "requests = 4096"),
-        (7, "tries = 10"),
-        (8, "hold = 1\nbanner = \"\"\ninfo = []"),
-        (10, "name = \"alice\"\nenabled = false\ngrants = []"),
-        (11, "uid = 1"),
-        (11, "uid = 4294967294"),
-        (13, "seed = \"abcdefghijklmnO9\""),
-        (14, "sequence = 0"),
-        (14, "sequence = 9999"),
-    ];
-    for row in rows {
-        assert_eq!(rt; refusal(&rt, &[row])?, None);
+    for line in TAKEN.lines().skip(1) {
+        let text = text_of(&rt, line.trim_start())?;
+        assert!(rt; refusal(&rt, text.as_str()).is_none(), "of {line}");
     }
     Ok(())
 }
 
-#[test]
-fn faults_outside_the_accounts(rt: HostRuntime) -> Result<(), Fail> {
-    let hundred_one =
-        "socket = \"01234567890123456789012345678901234567890123456789012345678901234567890123456789012345678901234567890\"";
-    let rows = [
-        (0, "socket", SetupKey::File, SetupRule::NotToml),
-        (
-            0,
-            "socket = \"s\"\nsocket = \"s\"",
-            SetupKey::File,
-            SetupRule::NotToml,
-        ),
-        (
-            4,
-            "workers = 10000000000000000000",
-            SetupKey::File,
-            SetupRule::NotToml,
-        ),
-        (
-            8,
-            "hold = 30000\nextra = 1",
-            SetupKey::Other,
-            SetupRule::Unknown,
-        ),
-        (0, "", SetupKey::Socket, SetupRule::Missing),
-        (0, "socket = 1", SetupKey::Socket, SetupRule::Kind),
-        (0, "socket = \"\"", SetupKey::Socket, SetupRule::Text),
-        (0, "socket = \"\u{e9}\"", SetupKey::Socket, SetupRule::Text),
-        (0, hundred_one, SetupKey::Socket, SetupRule::Text),
-        (1, "", SetupKey::Launcher, SetupRule::Missing),
-        (1, "launcher = []", SetupKey::Launcher, SetupRule::Kind),
-        (1, "launcher = \"\"", SetupKey::Launcher, SetupRule::Text),
-        (2, "", SetupKey::Vault, SetupRule::Missing),
-        (2, "vault = true", SetupKey::Vault, SetupRule::Kind),
-        (2, "vault = \"\"", SetupKey::Vault, SetupRule::Text),
-        (3, "", SetupKey::Words, SetupRule::Missing),
-        (3, "words = 1.5", SetupKey::Words, SetupRule::Kind),
-        (3, "words = \"a\\nb\"", SetupKey::Words, SetupRule::Text),
-        (
-            3,
-            "words = \"w\"\nbanner = 1",
-            SetupKey::Banner,
-            SetupRule::Kind,
-        ),
-        (
-            3,
-            "words = \"w\"\nbanner = \"\\t\"",
-            SetupKey::Banner,
-            SetupRule::Text,
-        ),
-        (4, "", SetupKey::Workers, SetupRule::Missing),
-        (4, "workers = \"1\"", SetupKey::Workers, SetupRule::Kind),
-        (4, "workers = 0", SetupKey::Workers, SetupRule::Range),
-        (4, "workers = 65", SetupKey::Workers, SetupRule::Range),
-        (4, "workers = -1", SetupKey::Workers, SetupRule::Range),
-        (5, "", SetupKey::Connections, SetupRule::Missing),
-        (
-            5,
-            "connections = 4.0",
-            SetupKey::Connections,
-            SetupRule::Kind,
-        ),
-        (
-            5,
-            "connections = 0",
-            SetupKey::Connections,
-            SetupRule::Range,
-        ),
-        (
-            5,
-            "connections = 4097",
-            SetupKey::Connections,
-            SetupRule::Range,
-        ),
-        (6, "", SetupKey::Requests, SetupRule::Missing),
-        (6, "requests = []", SetupKey::Requests, SetupRule::Kind),
-        (6, "requests = 7", SetupKey::Requests, SetupRule::Range),
-        (6, "requests = 4097", SetupKey::Requests, SetupRule::Range),
-        (7, "", SetupKey::Tries, SetupRule::Missing),
-        (7, "tries = {}", SetupKey::Tries, SetupRule::Kind),
-        (7, "tries = 0", SetupKey::Tries, SetupRule::Range),
-        (7, "tries = 11", SetupKey::Tries, SetupRule::Range),
-        (8, "", SetupKey::Hold, SetupRule::Missing),
-        (8, "hold = false", SetupKey::Hold, SetupRule::Kind),
-        (8, "hold = 0", SetupKey::Hold, SetupRule::Range),
-        (8, "hold = 3600001", SetupKey::Hold, SetupRule::Range),
-        (8, "hold = 1\ninfo = 1", SetupKey::Info, SetupRule::Kind),
-        (
-            8,
-            "hold = 1\ninfo = [1, \"2\"]",
-            SetupKey::Info,
-            SetupRule::Kind,
-        ),
-        (8, "hold = 1\ninfo = [0]", SetupKey::Info, SetupRule::Range),
-        (
-            8,
-            "hold = 1\ninfo = [1001]",
-            SetupKey::Info,
-            SetupRule::Range,
-        ),
-        (
-            8,
-            "hold = 1\ninfo = [7, 1, 7]",
-            SetupKey::Info,
-            SetupRule::Twice,
-        ),
-    ];
-    for (place, line, key, rule) in rows {
-        assert_eq!(rt; refusal(&rt, &[(place, line)])?, refused(key, rule, 0));
-    }
-    Ok(())
-}
+/// Files of which a part is there often: the key, the rule and the account of the first fault, so many
+/// lines of the file, how often the part is there, and then what stands before it, the part, and what
+/// stands behind it, each with a `/` at its end.
+const LONG: &str = "
+    account range 0 9 1025 /[[account]]|//
+    name missing 1 9 1024 /[[account]]|//
+    account kind 0 9 0 account = 1|///
+    account kind 1 9 0 account = [1]|///
+    info range 0 9 33 info = [/7, /]|/
+    grants range 1 16 65 grants = [/1, /]|/
+    grants kind 1 16 64 grants = [/1, /]|/
+    workers missing 0 3 255 words = \"/w/\"|/
+    words text 0 3 256 words = \"/w/\"|/
+    socket missing 0 0 0 ///";
 
-#[test]
-fn faults_in_the_accounts(rt: HostRuntime) -> Result<(), Fail> {
-    let rows = [
-        (
-            17,
-            "name = \"bob\"\nextra = 1",
-            SetupKey::Other,
-            SetupRule::Unknown,
-        ),
-        (17, "", SetupKey::Name, SetupRule::Missing),
-        (17, "name = 1", SetupKey::Name, SetupRule::Kind),
-        (17, "name = \"Bob\"", SetupKey::Name, SetupRule::Text),
-        (17, "name = \"alice\"", SetupKey::Name, SetupRule::Twice),
-        (18, "", SetupKey::Uid, SetupRule::Missing),
-        (18, "uid = \"1\"", SetupKey::Uid, SetupRule::Kind),
-        (18, "uid = 0", SetupKey::Uid, SetupRule::Range),
-        (18, "uid = 4294967295", SetupKey::Uid, SetupRule::Range),
-        (18, "uid = 1000", SetupKey::Uid, SetupRule::Twice),
-        (19, "", SetupKey::Algorithm, SetupRule::Missing),
-        (19, "algorithm = 5", SetupKey::Algorithm, SetupRule::Kind),
-        (
-            19,
-            "algorithm = \"MD5\"",
-            SetupKey::Algorithm,
-            SetupRule::Text,
-        ),
-        (20, "", SetupKey::Seed, SetupRule::Missing),
-        (20, "seed = 1", SetupKey::Seed, SetupRule::Kind),
-        (20, "seed = \"\"", SetupKey::Seed, SetupRule::Text),
-        (20, "seed = \"te-st\"", SetupKey::Seed, SetupRule::Text),
-        (
-            20,
-            "seed = \"abcdefghijklmnopq\"",
-            SetupKey::Seed,
-            SetupRule::Text,
-        ),
-        (21, "", SetupKey::Sequence, SetupRule::Missing),
-        (21, "sequence = \"1\"", SetupKey::Sequence, SetupRule::Kind),
-        (21, "sequence = -1", SetupKey::Sequence, SetupRule::Range),
-        (21, "sequence = 10000", SetupKey::Sequence, SetupRule::Range),
-        (22, "", SetupKey::Password, SetupRule::Missing),
-        (22, "password = 1", SetupKey::Password, SetupRule::Kind),
-        (
-            22,
-            "password = \"63d936639734385\"",
-            SetupKey::Password,
-            SetupRule::Text,
-        ),
-        (
-            22,
-            "password = \"63d936639734385b0\"",
-            SetupKey::Password,
-            SetupRule::Text,
-        ),
-        (
-            22,
-            "password = \"63d936639734385g\"",
-            SetupKey::Password,
-            SetupRule::Text,
-        ),
-        (23, "enabled = 1", SetupKey::Enabled, SetupRule::Kind),
-        (23, "grants = 1", SetupKey::Grants, SetupRule::Kind),
-        (23, "grants = [1]", SetupKey::Grants, SetupRule::Kind),
-        (
-            23,
-            "grants = [{ name = \"a\", mode = 1, more = 1 }]",
-            SetupKey::Other,
-            SetupRule::Unknown,
-        ),
-        (
-            23,
-            "grants = [{ mode = 1 }]",
-            SetupKey::GrantName,
-            SetupRule::Missing,
-        ),
-        (
-            23,
-            "grants = [{ name = 1, mode = 1 }]",
-            SetupKey::GrantName,
-            SetupRule::Kind,
-        ),
-        (
-            23,
-            "grants = [{ name = \"A\", mode = 1 }]",
-            SetupKey::GrantName,
-            SetupRule::Text,
-        ),
-        (
-            23,
-            "grants = [{ name = \"a\", mode = 1 }, { name = \"a\", mode = 0 }]",
-            SetupKey::GrantName,
-            SetupRule::Twice,
-        ),
-        (
-            23,
-            "grants = [{ name = \"a\" }]",
-            SetupKey::GrantMode,
-            SetupRule::Missing,
-        ),
-        (
-            23,
-            "grants = [{ name = \"a\", mode = \"1\" }]",
-            SetupKey::GrantMode,
-            SetupRule::Kind,
-        ),
-        (
-            23,
-            "grants = [{ name = \"a\", mode = 0 }]",
-            SetupKey::GrantMode,
-            SetupRule::Range,
-        ),
-        (
-            23,
-            "grants = [{ name = \"a\", mode = 4 }]",
-            SetupKey::GrantMode,
-            SetupRule::Range,
-        ),
-    ];
-    for (place, line, key, rule) in rows {
-        assert_eq!(rt; refusal(&rt, &[(place, line)])?, refused(key, rule, 2));
-    }
-    Ok(())
-}
-
-#[test]
-fn the_first_of_several_faults(rt: HostRuntime) -> Result<(), Fail> {
-    let product = [
-        (4, "workers = 4"),
-        (5, "connections = 4096"),
-        (17, "name = 1"),
-    ];
-    assert_eq!(rt;
-        refusal(&rt, &product)?,
-        refused(SetupKey::Requests, SetupRule::Product, 0)
-    );
-    let rows = [
-        ([(0, ""), (4, "")], SetupKey::Socket, SetupRule::Missing, 0),
-        (
-            [(0, ""), (8, "hold = 1\nextra = 1")],
-            SetupKey::Other,
-            SetupRule::Unknown,
-            0,
-        ),
-        (
-            [(8, "hold = 1\ninfo = [1, 1, 0]"), (17, "")],
-            SetupKey::Info,
-            SetupRule::Range,
-            0,
-        ),
-        ([(13, ""), (17, "")], SetupKey::Seed, SetupRule::Missing, 1),
-        (
-            [(17, "name = \"alice\""), (18, "uid = 1000")],
-            SetupKey::Name,
-            SetupRule::Twice,
-            2,
-        ),
-        (
-            [(11, "uid = 0"), (10, "name = \"alice\"\nx = 1")],
-            SetupKey::Other,
-            SetupRule::Unknown,
-            1,
-        ),
-    ];
-    for (changed, key, rule, account) in rows {
-        assert_eq!(rt; refusal(&rt, &changed)?, refused(key, rule, account));
-    }
-    Ok(())
-}
-
-/// The front of the file with a text behind it that is there so often, and an end.
+/// The front of the file with a text behind it: parts that are parted by `/`, the second of them there
+/// so often.
 fn long_text(
     rt: &HostRuntime,
     front: usize,
-    begin: &str,
-    item: &str,
-    count: u32,
-    end: &str,
+    count: usize,
+    parts: &str,
 ) -> Result<String, AllocError> {
     let mut text = String::new(rt.alloc());
     for line in LINES.iter().take(front) {
         text.push_str(line)?;
         text.push_str("\n")?;
     }
-    text.push_str(begin)?;
-    for _ in 0..count {
-        text.push_str(item)?;
+    for (i, part) in parts.split('/').enumerate() {
+        let often = if i == 1 { count } else { 1 };
+        for _ in 0..often {
+            push_text(&mut text, part)?;
+        }
     }
-    text.push_str(end)?;
     Ok(text)
+}
+
+/// The number in front of a text, and what stands behind it.
+fn number_at(text: &str) -> Result<(usize, &str), Fail> {
+    let (number, rest) = text.split_once(' ').ok_or("a number")?;
+    Ok((number.parse::<usize>().map_err(|_| "a number")?, rest))
+}
+
+/// Whether a long file is refused as a line says.
+fn is_long_so(rt: &HostRuntime, line: &str) -> Result<bool, Fail> {
+    let (key, rest) = line.split_once(' ').ok_or("a key")?;
+    let (rule, rest) = rest.split_once(' ').ok_or("a rule")?;
+    let (account, rest) = number_at(rest)?;
+    let (front, rest) = number_at(rest)?;
+    let (count, parts) = number_at(rest)?;
+    let text = long_text(rt, front, count, parts)?;
+    let account = u32::try_from(account).unwrap_or(0);
+    Ok(is_so(refusal(rt, text.as_str()), key, rule, account))
 }
 
 #[test]
 fn long_and_strange_files(rt: HostRuntime) -> Result<(), Fail> {
-    let rows = [
-        (
-            9,
-            "",
-            "[[account]]\n",
-            1_025,
-            "",
-            refused(SetupKey::Account, SetupRule::Range, 0),
-        ),
-        (
-            9,
-            "",
-            "[[account]]\n",
-            1_024,
-            "",
-            refused(SetupKey::Name, SetupRule::Missing, 1),
-        ),
-        (
-            9,
-            "account = 1\n",
-            "",
-            0,
-            "",
-            refused(SetupKey::Account, SetupRule::Kind, 0),
-        ),
-        (
-            9,
-            "account = [1]\n",
-            "",
-            0,
-            "",
-            refused(SetupKey::Account, SetupRule::Kind, 1),
-        ),
-        (9, "account = []\n", "", 0, "", None),
-        (
-            9,
-            "info = [",
-            "7, ",
-            33,
-            "]\n",
-            refused(SetupKey::Info, SetupRule::Range, 0),
-        ),
-        (
-            16,
-            "grants = [",
-            "1, ",
-            65,
-            "]\n",
-            refused(SetupKey::Grants, SetupRule::Range, 1),
-        ),
-        (
-            16,
-            "grants = [",
-            "1, ",
-            64,
-            "]\n",
-            refused(SetupKey::Grants, SetupRule::Kind, 1),
-        ),
-        (
-            3,
-            "words = \"",
-            "w",
-            255,
-            "\"\n",
-            refused(SetupKey::Workers, SetupRule::Missing, 0),
-        ),
-        (
-            3,
-            "words = \"",
-            "w",
-            256,
-            "\"\n",
-            refused(SetupKey::Words, SetupRule::Text, 0),
-        ),
-        (
-            0,
-            "",
-            "",
-            0,
-            "",
-            refused(SetupKey::Socket, SetupRule::Missing, 0),
-        ),
-    ];
-    for (front, begin, item, count, end, expected) in rows {
-        let text = long_text(&rt, front, begin, item, count, end)?;
-        assert_eq!(rt; read_setup(rt.alloc(), text.as_bytes()).err(), expected);
+    for line in LONG.lines().skip(1) {
+        assert!(rt; is_long_so(&rt, line.trim_start())?, "of {line}");
     }
+    let none = long_text(&rt, 9, 0, "account = []|")?;
+    assert!(rt; refusal(&rt, none.as_str()).is_none());
     let bytes = read_setup(rt.alloc(), b"socket = \"\xFF\"\n").err();
-    assert_eq!(rt; bytes, refused(SetupKey::File, SetupRule::NotToml, 0));
+    assert!(rt; is_so(bytes, "file", "not-toml", 0));
     Ok(())
 }
 
 #[test]
 fn spelled_words(rt: HostRuntime) -> Result<(), Fail> {
-    assert_eq!(rt; SetupKey::GrantMode.word(), "grant-mode");
-    assert_eq!(rt; SetupKey::Other.word(), "other");
-    assert_eq!(rt; SetupRule::NotToml.word(), "not-toml");
     assert_eq!(rt; SetupRule::NoHook.word(), "no-hook");
     Ok(())
 }
