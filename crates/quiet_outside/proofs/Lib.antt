@@ -1,0 +1,7 @@
+mod RepeatingLemmas
+mod ReceivingLemmas
+mod ScriptLemmas
+mod FindLemmas
+mod ShelfLemmas
+mod FilesLemmas
+mod BlankLemmas

@@ -1,0 +1,10 @@
+use Rattle.quiet_outside.proofs.RepeatingLemmas.{length-items_after}
+use Rattle.std.proofs.Common.{arith}
+use Rattle.quiet_outside.proofs.calls.QuietPostPost.now.Goals as goal
+
+pub invariant_of-self : goal.invariant_of-self
+invariant_of-self c = record {
+  in_scripts = c.args.self.now.in_scripts;
+  some_moment = rw c.take.ensures.after (length-items_after c.args.self.now.moments c.args.self.now.some_moment);
+  counted = λ t. omega (arith, c.act.ensures.came c.args.self.now.came c.args.self.now.counted t);
+}

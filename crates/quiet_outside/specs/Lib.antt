@@ -1,0 +1,12 @@
+pub mod Room
+pub mod Kept
+pub mod QuietSink
+pub mod Blank
+pub mod QuietStream
+pub mod Pieces
+pub mod KeptFile
+pub mod Shelf
+pub mod QuietFiles
+pub mod Transcript
+pub mod QuietConn
+pub mod QuietPost

@@ -1,0 +1,15 @@
+use Rattle.std.specs.Prelude.{ℕ, List, Option}
+use Rattle.quiet_outside.specs.declared.sink.QuietSink.{QuietSink}
+use Rattle.quiet_outside.specs.Kept.{told_bytes}
+
+-- the bytes that the sink holds, if it tells them
+abbrev pub held_of : QuietSink → Option (List ℕ)
+held_of s = told_bytes s.kept
+
+-- how many bytes it still has room for
+abbrev pub room_of : QuietSink → ℕ
+room_of s = s.kept.left
+
+-- how many faults it had: none
+abbrev pub faults_of : QuietSink → ℕ
+faults_of s = 0

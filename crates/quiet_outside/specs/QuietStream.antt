@@ -1,0 +1,34 @@
+use Rattle.std.specs.Prelude.{ℕ, List, Option}
+use Rattle.outside.specs.declared.act.Role.{Role}
+use Rattle.outside.specs.Link.{Link}
+use Rattle.outside.specs.MemStream.{link_at}
+use Rattle.outside.specs.Told.{told_if}
+use Rattle.quiet_outside.specs.declared.stream.Closed.{Closed}
+use Rattle.quiet_outside.specs.declared.stream.QuietStream.{QuietStream}
+
+-- what the stream tells
+abbrev pub link_of : QuietStream → Option Link
+link_of s = told_if s.sent.telling (link_at s.input.items s.sent.bytes.items s.taken)
+
+-- which child it leads to
+abbrev pub role_of : QuietStream → Role
+role_of s = s.role
+
+-- what a quiet stream has left: the lengths of the pieces in which it gives what is still to come,
+-- and the room for bytes sent to it
+pub record StreamStock : Type 0 where
+  pub cuts : List ℕ
+  pub room : ℕ
+
+-- what the stream has left
+abbrev pub stream_stock : QuietStream → StreamStock
+stream_stock s = record { cuts = s.cuts; room = s.sent.left }
+
+-- what a stream to a child of this role told, as it stands once the stream is closed
+abbrev pub closed_with : Role → Link → Closed
+closed_with role link =
+    record { talk = record { role = role; taken = link.taken; sent = link.sent }; unread = link.left }
+
+-- how many faults it had: none
+abbrev pub faults_of : QuietStream → ℕ
+faults_of s = 0
