@@ -12,7 +12,7 @@ mod ticket;
 pub use fault::KeeperFault;
 pub use launch::{PRE_MODE, USER_MODE, launch_words};
 pub use laws::{exports_hand_to_the_verified_user, no_child_outlives_a_fault};
-pub use link::{PreLink, UserLink};
+pub use link::{LiveChild, PreLink, UserLink};
 pub use start::{finish_pre, finish_user, start_pre, start_user};
 pub use ticket::UserTicket;
 

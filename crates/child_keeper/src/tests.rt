@@ -5,7 +5,7 @@ ghost use Rattle.child_keeper.specs.Tickets.{NamesAccount};
 use super::*;
 use otp_hash::{Algo, Seed};
 use outside::{
-    Accepted, Act, Bytes, CallKind, Fail, Failed, MemPost, Post, Role, Script, Stream, Talk,
+    Accepted, Act, Bytes, CallKind, Fail, Failed, MemPost, Post, Role, Script, Talk,
 };
 use policy_model::{
     Account, Accounts, Ask, Decision, Event, Grants, Numbers, Setup, SetupParts, Text, plain_salt,
@@ -111,7 +111,7 @@ fn post(alloc: Global, number: u32) -> Result<MemPost, AllocError> {
 }
 
 /// Hears one piece of a child, and answers it.
-fn hear<S: Stream>(child: &mut S) -> Result<(), Failed> {
+fn hear<L: LiveChild>(child: &mut L) -> Result<(), Failed> {
     let mut buf = [0; 8];
     let _len = child.recv(&mut buf)?;
     child.send(b"ok")
@@ -123,10 +123,10 @@ fn change<P: Post>(post: &mut P, setup: &Setup, export: &Event) -> Result<(), Ke
     requires known { NamesAccount setup.now export.now }
 {
     let mut pre = start_pre(post, export.session)?;
-    let _heard = hear(pre.stream());
+    let _heard = hear(&mut pre);
     let ticket = UserTicket::of(export, setup);
     let mut user = start_user(post, pre, ticket, setup)?;
-    let _heard = hear(user.stream());
+    let _heard = hear(&mut user);
     finish_user(post, user);
     Ok(())
 }
