@@ -1,0 +1,110 @@
+-- Believed: what a child is told of its requests.
+use Rattle.std.specs.Prelude.{ℕ, ◌==◌, nat_lt, List, [], ◌∷◌, filter_map, find, Option, Some, None, if◌then◌else◌}
+use Rattle.std.specs.Int.{w32, to_le_bytes}
+use Rattle.std.specs.List.{flat_map}
+use Rattle.imsg_frame.specs.Message.{Message, spelling_of, composed_of}
+use Rattle.info_hooks.specs.declared.key.Key.{Key}
+use Rattle.info_hooks.specs.Said.{said}
+use Rattle.request_catalogue.specs.declared.texts.Name.{Name}
+use Rattle.request_catalogue.specs.declared.width.Width.{Width}
+use Rattle.request_catalogue.specs.TextBytes.{name_bytes}
+use Rattle.request_catalogue.specs.Replies.{AnswerValue, Done, Denied, Device, reply_of, reply_kind_of}
+use Rattle.otp_hash.specs.SeedBytes.{seed_bytes}
+use Rattle.otp_words.specs.Challenges.{challenge_of}
+use Rattle.outside.specs.declared.act.Act.{Act}
+use Rattle.policy_model.specs.declared.account.Account.{Account}
+use Rattle.policy_model.specs.declared.event.Ask.{Ask}
+use Rattle.policy_model.specs.declared.event.Ask.TheVariants as asks
+use Rattle.policy_model.specs.declared.event.Decision.{Decision}
+use Rattle.policy_model.specs.declared.event.Decision.TheVariants as decisions
+use Rattle.policy_model.specs.Asks.{decoys_from, shown_of}
+use Rattle.policy_model.specs.Decoys.{decoy_algo, decoy_number, decoy_seed}
+use Rattle.policy_model.specs.Journal.{Place}
+use Rattle.policy_model.specs.Logins.{account_of}
+use Rattle.policy_model.specs.Settings.{Settings}
+use Rattle.state_export.specs.Spelling.{import_bytes}
+use Rattle.service_model.specs.Service.{Service}
+use Rattle.service_model.specs.Acts.{bytes_read, failed_device}
+use Rattle.service_model.specs.Places.{Step}
+use Rattle.service_model.specs.Users.{user_at}
+
+-- the challenge of a user's account, with the number of the next password
+abbrev pub account_challenge : Option Account → ℕ → List ℕ
+account_challenge None number = []
+account_challenge (Some account) number = challenge_of account.algo number (seed_bytes account.seed)
+
+-- the challenge of a name's decoy
+abbrev pub decoy_challenge : Settings → Name → List ℕ
+decoy_challenge setup user = challenge_of (decoy_algo setup user) (decoy_number setup user) (decoy_seed setup user)
+
+-- what a permitted CHALLENGE with a value is answered by: the account's challenge, or, from 10,000 on, the decoy's
+abbrev pub challenge_text : Settings → Name → ℕ → List ℕ
+challenge_text setup user value = if nat_lt value decoys_from then account_challenge (account_of setup user) value else decoy_challenge setup user
+
+-- the imported state: the user's number and name, and the bytes that the child before had exported
+abbrev pub imported_state : Option Account → List ℕ → List ℕ
+imported_state None exported = []
+imported_state (Some account) exported = import_bytes account.uid (name_bytes account.name) exported
+
+-- what a form, if there is one, says of a user, if one is logged in, who has so many passwords left
+abbrev pub said_of : Option Key → Option Account → ℕ → List ℕ
+said_of (Some key) (Some account) sequence = said key.form (record { name = account.name; uid = account.uid; algo = account.algo; sequence = sequence })
+said_of _ _ sequence = []
+
+-- an information text: the form of its number, said of the user
+abbrev pub info_text : List Key → ℕ → Option Account → ℕ → List ℕ
+info_text forms number user sequence = said_of (find (λ key. key.number == number) forms) user sequence
+
+-- the first of a list, if there is one
+abbrev pub list_head : List ℕ → Option ℕ
+list_head [] = None
+list_head (x ∷ xs) = Some x
+
+-- the body of what is answered to a permitted ask with a value, where these bytes were exported
+abbrev pub done_body : Service → List ℕ → Place → List Act → Ask → ℕ → List ℕ
+done_body service exported p done asks.Banner value = service.setup.banner
+done_body service exported p done (asks.Challenge user now) value = challenge_text service.setup user value
+done_body service exported p done asks.Import value = imported_state (user_at service.setup p) exported
+done_body service exported p done (asks.ReadAt handle offset max) value = flat_map bytes_read done
+done_body service exported p done (asks.OpenFile mode name) value = to_le_bytes w32 value
+done_body service exported p done (asks.Info number) value = info_text service.forms number (user_at service.setup p) value
+done_body service exported p done _ value = []
+
+-- a device that failed, or that all was done
+abbrev pub outcome_value : Option ℕ → List ℕ → AnswerValue
+outcome_value (Some device) body = Device device
+outcome_value None body = Done body
+
+-- what is answered to a permitted ask: nothing to an EXPORT
+abbrev pub permitted_value : Service → List ℕ → Place → List Act → Ask → ℕ → Option AnswerValue
+permitted_value service exported p done (asks.Export len) value = None
+permitted_value service exported p done ask value = Some (outcome_value (list_head (filter_map failed_device done)) (done_body service exported p done ask value))
+
+-- what is answered to a decision, as it is shown: nothing to a lost one
+abbrev pub answer_value : Service → List ℕ → Place → List Act → Decision → Option AnswerValue
+answer_value service exported p done (decisions.Permit value) = permitted_value service exported p done p.event.ask value
+answer_value service exported p done (decisions.Deny rule detail) = Some (Denied rule detail)
+answer_value service exported p done decisions.Lost = None
+
+-- the reply to a message in a session: the message's number and peer, the session's number, and the answer
+abbrev pub reply_message : Message → ℕ → AnswerValue → Message
+reply_message message session answer = composed_of (reply_kind_of message.header.kind message.header.flags) message.header.peerid session (reply_of answer)
+
+abbrev pub reply_bytes : Width → Message → ℕ → Option AnswerValue → List ℕ
+reply_bytes width message session None = []
+reply_bytes width message session (Some answer) = spelling_of width (reply_message message session answer)
+
+-- the answer to an event that came by a message, where these bytes were exported before
+unfoldable pub reply_to : Service → List ℕ → Message → Place → List Act → List ℕ
+reply_to service exported message p done = reply_bytes service.setup.frames message p.event.session (answer_value service exported p done (shown_of p.event.decision))
+
+-- the bytes that a child is sent for a step; nothing where no message brought it
+abbrev pub answer_to_message : Service → List ℕ → Option Message → Place → List Act → List ℕ
+answer_to_message service exported None p done = []
+answer_to_message service exported (Some message) p done = reply_to service exported message p done
+
+abbrev pub answer_to : Service → List ℕ → Step → List ℕ
+answer_to service exported step = answer_to_message service exported step.message step.place step.acts
+
+abbrev pub answers : Service → List ℕ → List Step → List ℕ
+answers service exported steps = flat_map (answer_to service exported) steps

@@ -1,0 +1,10 @@
+pub mod Service
+pub mod Places
+pub mod Users
+pub mod Requests
+pub mod Acts
+pub mod Answers
+pub mod Parts
+pub mod Ends
+pub mod Sittings
+pub mod Stories

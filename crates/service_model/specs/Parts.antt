@@ -1,0 +1,117 @@
+-- Believed: what one child had of a session.
+use Rattle.std.specs.Prelude.{◌≡◌, ◌≢◌, ℕ, true, false, List, [], ◌++◌, take, Option, Some, None, option_to_list}
+use Rattle.std.specs.List.{AllByRecursion, flat_map}
+use Rattle.imsg_frame.specs.Message.{Message, spelling_of}
+use Rattle.imsg_frame.specs.Cut.{IsPartialFront, IsBadFront}
+use Rattle.request_catalogue.specs.declared.width.Width.{Width}
+use Rattle.request_catalogue.specs.Widths.{frame_max}
+use Rattle.outside.specs.declared.act.Act.{Act}
+use Rattle.outside.specs.declared.act.Role.{Role}
+use Rattle.policy_model.specs.declared.event.Ask.{Ask}
+use Rattle.policy_model.specs.declared.event.Why.{Why}
+use Rattle.policy_model.specs.declared.event.Why.TheVariants as whys
+use Rattle.policy_model.specs.declared.event.Decision.{Decision}
+use Rattle.policy_model.specs.declared.event.Decision.TheVariants as decisions
+use Rattle.policy_model.specs.Asks.{came_by_frame, ends_session, exports}
+use Rattle.service_model.specs.Service.{Service}
+use Rattle.service_model.specs.Places.{Step}
+use Rattle.service_model.specs.Requests.{CameBy}
+use Rattle.service_model.specs.Acts.{AreActsOf}
+use Rattle.service_model.specs.Answers.{answers}
+
+-- the steps of a child's requests: those that it was served on after, and the one that ended its part, if one did;
+-- the bytes taken from it and sent to it, those taken that were no whole frame any more, and those that nobody received
+pub record Part : Type 0 where
+  pub role : Role
+  pub served : List Step
+  pub final : Option Step
+  pub taken : List ℕ
+  pub sent : List ℕ
+  pub rest : List ℕ
+  pub unread : List ℕ
+
+-- how a child's part ended: its session did, or the user's child is next
+pub data PartEnd : Type 0 where
+  EndsSession : (why : Why) → PartEnd
+  HandsOver : PartEnd
+
+-- all requests of a part, in order
+abbrev pub requests_of : Part → List Step
+requests_of part = part.served ++ option_to_list part.final
+
+abbrev pub message_bytes : Width → Option Message → List ℕ
+message_bytes width None = []
+message_bytes width (Some message) = spelling_of width message
+
+-- the bytes by which the steps came
+abbrev pub step_bytes : Width → List Step → List ℕ
+step_bytes width steps = flat_map (λ s. message_bytes width s.message) steps
+
+abbrev pub CameByMessage : Service → Option Message → Ask → Type 0
+CameByMessage service None ask = ⊥
+CameByMessage service (Some message) ask = CameBy service message ask
+
+-- a child's request, with the message that it came by and the acts that were done for it
+pub record IsRequestStep (service : Service) (step : Step) : Type 0 where
+  pub request : came_by_frame step.place.event.ask ≡ true
+  pub came : CameByMessage service step.message step.place.event.ask
+  pub acts : AreActsOf service.setup step.place step.message step.acts
+
+-- a child is served on after a step: its session goes on, and no other child follows it
+pub record GoesOn (step : Step) : Type 0 where
+  pub unended : ends_session step.place.event ≡ false
+  pub unexported : exports step.place.event ≡ false
+
+-- why a session ends after a request that ends it
+abbrev pub why_of : Decision → Why
+why_of (decisions.Permit value) = whys.Finished
+why_of (decisions.Deny rule detail) = whys.Violation rule
+why_of decisions.Lost = whys.LogLost
+
+-- why a session ends where no request ended it: by what its child's bytes ended with
+abbrev pub EndsAlone : Width → Why → List ℕ → List ℕ → Type 0
+EndsAlone width whys.ChildEnded rest unread = (rest ≡ []) × (unread ≡ [])
+EndsAlone width whys.Truncated rest unread = (rest ≢ []) × (unread ≡ []) × IsPartialFront width (frame_max width) rest
+EndsAlone width (whys.BadFrame len) rest unread = IsBadFront width (frame_max width) rest len
+EndsAlone width _ rest unread = ⊥
+
+-- the end of a part, where no fault of its link ended it
+abbrev pub EndsSo : Width → PartEnd → Option Step → List ℕ → List ℕ → Type 0
+EndsSo width HandsOver None rest unread = ⊥
+EndsSo width HandsOver (Some step) rest unread = exports step.place.event ≡ true
+EndsSo width (EndsSession why) None rest unread = EndsAlone width why rest unread
+EndsSo width (EndsSession why) (Some step) rest unread = (ends_session step.place.event ≡ true) × (why ≡ why_of step.place.event.decision)
+
+abbrev pub by_link : PartEnd
+by_link = EndsSession whys.LinkFault
+
+-- the last answer was sent whole, or, where the link failed, a front of it
+pub record LastSent (end : PartEnd) (whole sent : List ℕ) : Type 0 where
+  pub cut : (n : ℕ) × (sent ≡ take n whole)
+  pub all : end ≢ by_link → sent ≡ whole
+
+-- what one child had of a session, whose part ended so, where these bytes were exported before
+pub record IsPart (service : Service) (exported : List ℕ) (end : PartEnd) (part : Part) : Type 0 where
+  pub each : AllByRecursion (IsRequestStep service) (requests_of part)
+  pub on : AllByRecursion GoesOn part.served
+  pub taken : part.taken ≡ step_bytes service.setup.frames (requests_of part) ++ part.rest
+  pub sent : (last : List ℕ) × (part.sent ≡ answers service exported part.served ++ last) × LastSent end (answers service exported (option_to_list part.final)) last
+  pub ended : end ≢ by_link → EndsSo service.setup.frames end part.final part.rest part.unread
+
+-- a child was sent the answer to each of its requests, whole
+pub record IsAnswered (service : Service) (exported : List ℕ) (part : Part) : Type 0 where
+  pub whole : part.sent ≡ answers service exported (requests_of part)
+
+-- the acts of the request that ended a part
+abbrev pub final_acts : Option Step → List Act
+final_acts None = []
+final_acts (Some step) = step.acts
+
+abbrev pub body_in : Option Message → List ℕ
+body_in None = []
+body_in (Some message) = message.body
+
+-- the state that a part exported, where the request that ended it is an EXPORT: the body of its message
+abbrev pub exported_by : Option Step → List ℕ
+exported_by None = []
+exported_by (Some step) = body_in step.message

@@ -1,0 +1,32 @@
+-- Believed: places of the journal, and the steps that a worker takes there.
+use Rattle.std.specs.Prelude.{ℕ, ◌==◌, List, [], ◌∷◌, ◌++◌, map, Option, if◌then◌else◌}
+use Rattle.std.specs.List.{flat_map}
+use Rattle.imsg_frame.specs.Message.{Message}
+use Rattle.outside.specs.declared.act.Act.{Act}
+use Rattle.policy_model.specs.declared.event.Event.{Event}
+use Rattle.policy_model.specs.Journal.{Place}
+
+-- an event at its place, with the message that it came by, if it is a child's, and the acts that were done for it
+pub record Step : Type 0 where
+  pub place : Place
+  pub message : Option Message
+  pub acts : List Act
+
+abbrev pub place_of : List Event → Event → Place
+place_of before event = record { before = before; event = event }
+
+-- the places of a worker's events in the second list, where the first one stands before it
+abbrev pub places_after : ℕ → List Event → List Event → List Place
+places_after worker before [] = []
+places_after worker before (e ∷ events) = (if e.worker == worker then place_of before e ∷ [] else []) ++ places_after worker (before ++ e ∷ []) events
+
+-- the places of a worker's events in a journal
+abbrev pub worker_places : List Event → ℕ → List Place
+worker_places journal worker = places_after worker [] journal
+
+abbrev pub step_places : List Step → List Place
+step_places steps = map (λ s. s.place) steps
+
+-- the acts of the steps, one after the other
+abbrev pub step_acts : List Step → List Act
+step_acts steps = flat_map (λ s. s.acts) steps

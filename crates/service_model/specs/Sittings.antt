@@ -1,0 +1,106 @@
+-- Believed: one session of a worker, and all of them.
+use Rattle.std.specs.Prelude.{◌≡◌, ◌≢◌, ℕ, Bool, true, false, List, [], ◌∷◌, ◌++◌, map, Option, Some, None, option_to_list}
+use Rattle.std.specs.List.{AllByRecursion, flat_map}
+use Rattle.outside.specs.declared.act.Role.{Role}
+use Rattle.outside.specs.declared.act.Role.TheVariants.{Pre}
+use Rattle.policy_model.specs.declared.event.Ask.TheVariants as asks
+use Rattle.policy_model.specs.declared.event.Event.{Event}
+use Rattle.policy_model.specs.declared.event.Why.{Why}
+use Rattle.policy_model.specs.declared.event.Why.TheVariants as whys
+use Rattle.policy_model.specs.Asks.{is_lost, is_permit}
+use Rattle.policy_model.specs.Settings.{Settings}
+use Rattle.service_model.specs.Service.{Service}
+use Rattle.service_model.specs.Places.{Step, step_places, worker_places}
+use Rattle.service_model.specs.Acts.{AreActsOf, ending_operations, has_failed_start, operation_of}
+use Rattle.service_model.specs.Ends.{is_lost_end}
+use Rattle.service_model.specs.Parts.{EndsSession, HandsOver, IsAnswered, IsPart, Part, exported_by, final_acts, requests_of}
+use Rattle.service_model.specs.Users.{user_role}
+
+-- a session: its opening, what each child had of it, and its end; no end where the opening is lost
+pub record Sitting : Type 0 where
+  pub opening : Step
+  pub parts : List Part
+  pub ending : Option Step
+
+-- all steps of a session, in order
+abbrev pub all_steps : Sitting → List Step
+all_steps sitting = sitting.opening ∷ flat_map requests_of sitting.parts ++ option_to_list sitting.ending
+
+-- the role of the user's child that a part hands over to, read off the place of its EXPORT
+abbrev pub IsUserOf : Settings → Option Step → Role → Type 0
+IsUserOf setup None role = ⊥
+IsUserOf setup (Some step) role = role ≡ user_role setup step.place
+
+-- the first child's part, behind which no other child was served: it ended the session, or the user's child could not be started
+abbrev pub EndsFirst : Service → Why → Part → Type 0
+EndsFirst service whys.KeeperFault pre = IsPart service [] HandsOver pre × (has_failed_start (final_acts pre.final) ≡ true)
+EndsFirst service why pre = IsPart service [] (EndsSession why) pre
+
+-- the first child handed over to the user's, which ended the session
+pub record ChangesUser (service : Service) (why : Why) (pre user : Part) : Type 0 where
+  pub first : IsPart service [] HandsOver pre
+  pub started : has_failed_start (final_acts pre.final) ≡ false
+  pub verified : IsUserOf service.setup pre.final user.role
+  pub second : IsPart service (exported_by pre.final) (EndsSession why) user
+  pub served : why ≢ whys.KeeperFault
+
+-- the children of a session that ended so: none where the first could not be started, else the one before the login, and then the user's, where one was started
+abbrev pub AreParts : Service → Why → Step → List Part → Type 0
+AreParts service why opening [] = (has_failed_start opening.acts ≡ true) × (why ≡ whys.KeeperFault)
+AreParts service why opening (pre ∷ []) = (has_failed_start opening.acts ≡ false) × (pre.role ≡ Pre opening.place.event.session) × EndsFirst service why pre
+AreParts service why opening (pre ∷ user ∷ []) = (has_failed_start opening.acts ≡ false) × (pre.role ≡ Pre opening.place.event.session) × ChangesUser service why pre user
+AreParts service why opening (pre ∷ user ∷ other ∷ parts) = ⊥
+
+-- the child that is live at a session's end, if one is: its last
+abbrev pub live_role : Role → List Part → Role
+live_role role [] = role
+live_role role (part ∷ parts) = live_role part.role parts
+
+-- the opening of a session, with its acts
+pub record IsOpening (setup : Settings) (step : Step) : Type 0 where
+  pub ask : step.place.event.ask ≡ asks.Begin
+  pub none : step.message ≡ None
+  pub acts : AreActsOf setup step.place None step.acts
+
+-- the end of a session that was opened, with its acts
+pub record IsEnding (session : ℕ) (live : Role) (why : Why) (step : Step) : Type 0 where
+  pub ask : step.place.event.ask ≡ asks.End why
+  pub session_is : step.place.event.session ≡ session
+  pub none : step.message ≡ None
+  pub operations : map operation_of step.acts ≡ ending_operations live why
+
+-- what follows an opening: nothing where it is lost, and else its children and its end
+abbrev pub Follows : Service → Step → List Part → Option Step → Type 0
+Follows service opening parts None = (is_lost opening.place.event.decision ≡ true) × (parts ≡ [])
+Follows service opening parts (Some ending) = (is_permit opening.place.event.decision ≡ true) × ((why : Why) × IsEnding opening.place.event.session (live_role (Pre opening.place.event.session) parts) why ending × AreParts service why opening parts)
+
+-- one session of a worker
+pub record IsSitting (service : Service) (sitting : Sitting) : Type 0 where
+  pub begins : IsOpening service.setup sitting.opening
+  pub round : Follows service sitting.opening sitting.parts sitting.ending
+
+-- an end of a session behind which its worker serves no more: there is none, since the opening is lost, or it came because a
+-- decision was lost
+abbrev pub ends_by_loss : Option Step → Bool
+ends_by_loss None = true
+ends_by_loss (Some ending) = is_lost_end ending.place.event.ask
+
+abbrev pub ends_worker : Sitting → Bool
+ends_worker sitting = ends_by_loss sitting.ending
+
+-- behind such a session stands no other
+abbrev pub NoneBehindLoss : List Sitting → Type 0
+NoneBehindLoss [] = Unit {0}
+NoneBehindLoss (sitting ∷ behind) = (ends_worker sitting ≡ true → behind ≡ []) × NoneBehindLoss behind
+
+-- the sessions of a worker, one after the other, are all its events; one that was lost, or ended because a decision was lost, is
+-- the last
+pub record AreSittingsOf (service : Service) (journal : List Event) (worker : ℕ) (sittings : List Sitting) : Type 0 where
+  pub places : worker_places journal worker ≡ step_places (flat_map all_steps sittings)
+  pub each : AllByRecursion (IsSitting service) sittings
+  pub alone : NoneBehindLoss sittings
+
+-- each child of a session was sent the answer to each of its requests, whole: the user's with the state that the first one exported
+abbrev pub AreAnswered : Service → List ℕ → List Part → Type 0
+AreAnswered service exported [] = Unit {0}
+AreAnswered service exported (part ∷ parts) = IsAnswered service exported part × AreAnswered service (exported_by part.final) parts
