@@ -1,0 +1,5 @@
+pub mod FileLemmas
+pub mod Knowing
+pub mod Done
+pub mod Answering
+pub mod Served

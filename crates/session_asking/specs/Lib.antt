@@ -1,0 +1,6 @@
+pub mod Files
+pub mod Known
+pub mod Asking
+pub mod Work
+pub mod Made
+pub mod Serving

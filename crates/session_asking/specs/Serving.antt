@@ -1,0 +1,105 @@
+-- Inner: what serving one message did.
+use Rattle.std.specs.Prelude.{◌≡◌, ◌≢◌, true, ℕ, ◌+◌, ◌≤◌, List, [], ◌∷◌, ◌++◌, Option, Some, None}
+use Rattle.imsg_frame.specs.Message.{Message}
+use Rattle.outside.specs.Link.{Exchanged, Link}
+use Rattle.outside.specs.Scene.{Played, Scene}
+use Rattle.outside.specs.Told.{Goes}
+use Rattle.policy_model.specs.declared.event.Event.{Event}
+use Rattle.policy_model.specs.Asks.{exports, is_proper_why, value_of}
+use Rattle.policy_model.specs.Journal.{ask_count}
+use Rattle.policy_model.specs.Settings.{Settings}
+use Rattle.service_model.specs.Answers.{answer_to}
+use Rattle.service_model.specs.Parts.{CameByMessage, EndsSession, EndsSo, GoesOn, IsRequestStep, LastSent, PartEnd, by_link}
+use Rattle.service_model.specs.Places.{Step, place_of, step_places, worker_places}
+use Rattle.service_model.specs.Service.{Service}
+use Rattle.service_model.specs.Users.{role_of, user_at}
+use Rattle.session_turns.specs.Joins.{Rights}
+use Rattle.session_asking.specs.declared.asking.Turn.{Turn}
+use Rattle.session_asking.specs.declared.asking.Turn.TheVariants as turns
+use Rattle.session_asking.specs.declared.live.LoggedIn.{LoggedIn}
+use Rattle.session_asking.specs.Files.{name_in}
+use Rattle.session_asking.specs.Known.{IsServed, IsStillOpen}
+use Rattle.child_keeper.specs.Tickets.{NamesAccount, user_role}
+
+-- a moment of a worker: what it has seen of the journal, what its post tells and what its child's link tells
+pub record Moment : Type 0 where
+  pub seen : List Event
+  pub scene : Option Scene
+  pub link : Option Link
+
+abbrev pub moment : List Event → Option Scene → Option Link → Moment
+moment seen scene link = record { seen = seen; scene = scene; link = link }
+
+-- whose requests these are: the run's service, what was exported before, the session and the worker
+pub record Whose : Type 0 where
+  pub service : Service
+  pub exported : List ℕ
+  pub session : ℕ
+  pub worker : ℕ
+
+abbrev pub whose : Service → List ℕ → ℕ → ℕ → Whose
+whose service exported session worker = record { service = service; exported = exported; session = session; worker = worker }
+
+-- the places that a worker gained
+pub record Steps (worker : ℕ) (steps : List Step) (old new : List Event) : Type 0 where
+  pub own : worker_places new worker ≡ worker_places old worker ++ step_places steps
+
+-- what a child was sent for its request, by why its session ends after it, if it does
+abbrev pub Answers : Service → List ℕ → Turn → Step → List ℕ → Type 0
+Answers service exported turns.GoesOn step sent = GoesOn step × (sent ≡ answer_to service exported step)
+Answers service exported (turns.Ends why) step sent = LastSent (EndsSession why) (answer_to service exported step) sent × (EndsSession why ≢ by_link → EndsSo service.setup.frames (EndsSession why) (Some step) [] [])
+Answers service exported (turns.HandsOver e) step sent = ⊥
+
+-- a message was served: one step of the worker
+pub record HasServed (w : Whose) (message : Message) (turn : Turn) (before after : Moment) : Type 0 where
+  pub step : Step
+  pub came : step.message ≡ Some message
+  pub is : IsRequestStep w.service step
+  pub steps : Steps w.worker (step ∷ []) before.seen after.seen
+  pub acts : Goes (Played step.acts [] []) before.scene after.scene
+  pub sent : List ℕ
+  pub bytes : Goes (Exchanged [] sent) before.link after.link
+  pub answers : Answers w.service w.exported turn step sent
+
+-- a permitted EXPORT stands behind these events: nothing is done for it yet, and nothing sent
+pub record HasExported (w : Whose) (message : Message) (e : Event) (before after : Moment) : Type 0 where
+  pub front : List Event
+  pub exported : exports e ≡ true
+  pub came : CameByMessage w.service (Some message) e.ask
+  pub session_is : e.session ≡ w.session
+  pub steps : Steps w.worker (record { place = place_of front e; message = Some message; acts = [] } ∷ []) before.seen after.seen
+  pub acts : Goes (Played [] [] []) before.scene after.scene
+  pub bytes : Goes (Exchanged [] []) before.link after.link
+  pub named : NamesAccount w.service.setup e
+  pub role : user_role w.service.setup e ≡ role_of e.session (user_at w.service.setup (place_of front e))
+
+-- what followed a message
+abbrev pub Serves : Whose → Message → Turn → Moment → Moment → Type 0
+Serves w message (turns.HandsOver e) before after = HasExported w message e before after
+Serves w message turn before after = HasServed w message turn before after
+
+-- a session that goes on has made one ask more, and is served on
+pub record WentOn (setup : Settings) (session : ℕ) (rights_old : Rights) (old : List Event) (rights_new : Rights) (new : List Event) (user : Option LoggedIn) : Type 0 where
+  pub served : IsServed setup rights_new new session user
+  pub asks : ask_count new session ≡ ask_count old session + 1
+
+-- a user that was just handed a session: the account is the one that the EXPORT names, and no file is open
+pub record IsNewUser (user : LoggedIn) (e : Event) : Type 0 where
+  pub account : user.account ≡ value_of e.decision
+  pub files : (handle : ℕ) → name_in user.files.names handle ≡ None
+
+-- what is left to a worker behind a message: a session that goes on, that is still to be ended, or whose user's child is next
+abbrev pub Leaves : Settings → ℕ → Turn → Rights → List Event → Rights → List Event → Option LoggedIn → Type 0
+Leaves setup session turns.GoesOn rights_old old rights_new new user = WentOn setup session rights_old old rights_new new user
+Leaves setup session (turns.Ends why) rights_old old rights_new new user = IsStillOpen setup rights_new new session
+Leaves setup session (turns.HandsOver e) rights_old old rights_new new user = (logged_in : LoggedIn) → IsNewUser logged_in e → IsServed setup rights_new new session (Some logged_in)
+
+-- what is kept of what a session exported: a permitted EXPORT hands on its message's body, and nothing else changes it
+pub record HasReplied (turn : Turn) (body : List ℕ) (old new : List ℕ) : Type 0 where
+  pub handed : (e : Event) → turn ≡ turns.HandsOver e → new ≡ body
+  pub kept : ((e : Event) → turn ≢ turns.HandsOver e) → new ≡ old
+
+-- the reason that a turn gives is one that may be asked for
+abbrev pub IsProperTurn : Turn → Type 0
+IsProperTurn (turns.Ends why) = is_proper_why why ≡ true
+IsProperTurn _ = Unit {0}
