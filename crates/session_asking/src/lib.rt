@@ -22,3 +22,6 @@ pub use live::{Live, LoggedIn};
 pub use replies::Replies;
 pub use serving::serve_message;
 pub use texts::Texts;
+
+#[cfg(test)]
+mod tests;
