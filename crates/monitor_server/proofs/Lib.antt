@@ -8,3 +8,4 @@ pub mod Ran
 pub mod Logs
 pub mod Headline
 pub mod Whole
+pub mod ModeLemmas
