@@ -1,4 +1,4 @@
-use Rattle.std.proofs.Common.{◌≡◌, ℕ, ◌≤◌, List, [], ◌∷◌, map, Option, Some, None, Result, Ok, Err, IfSome, refl, sym, ap, subst, ◌∙◌, arith, option_map}
+use Rattle.std.proofs.Common.{◌≡◌, ℕ, ◌≤◌, List, [], ◌∷◌, map, Option, Some, None, Ok, IfSome, refl, sym, ap, ◌∙◌, arith, option_map}
 use Rattle.outside.specs.Files.{Contents, SameFiles}
 use Rattle.outside.specs.Told.{Goes, Rose}
 use Rattle.outside.proofs.Told.{Rose-within}
@@ -13,11 +13,9 @@ use Rattle.setup_reading.specs.declared.reading.SetupFileError.{SetupFileError}
 use Rattle.setup_reading.specs.declared.reading.SetupFileError.TheVariants as setup_errors
 use Rattle.setup_reading.specs.Read.{IsSetupError, IsSetupIn, judged_setup}
 use Rattle.setup_reading.proofs.ReadLemmas.{IsSetupIn-later}
-use Rattle.renew_mode.specs.declared.error.RenewError.{RenewError}
-use Rattle.renew_mode.specs.declared.error.RenewError.TheVariants as errors
 use Rattle.renew_mode.specs.declared.basis.Basis.{Basis}
 use Rattle.renew_mode.specs.Errors.{error_of_list, error_of_setup}
-use Rattle.renew_mode.specs.Bases.{HasBasis, IsFileError, IsListError}
+use Rattle.renew_mode.specs.Bases.{HasBasis, IsFileError}
 
 -- ---- a setup that is written
 

@@ -1,6 +1,6 @@
-use Rattle.std.proofs.Common.{◌≡◌, ◌≢◌, ℕ, false, ◌≤◌, List, [], Option, Some, None, Result, Ok, Err, IfSome, refl, sym, ap, subst, ◌∙◌, arith, ◌⊎◌, inl, inr}
+use Rattle.std.proofs.Common.{◌≡◌, ℕ, false, List, [], Option, Some, None, Result, Ok, Err, IfSome, refl, ◌∙◌, arith, ◌⊎◌, inl, inr}
 use Rattle.outside.specs.Files.{Contents, MayBeReplaced, Replaced, SameFiles}
-use Rattle.outside.specs.Link.{Exchanged, Link, SendsPart}
+use Rattle.outside.specs.Link.{Link}
 use Rattle.outside.specs.Told.{Goes}
 use Rattle.outside.proofs.Exchanges.{Exchanged-none}
 use Rattle.outside.proofs.Told.{Goes-same, Goes-then}
@@ -10,7 +10,6 @@ use Rattle.request_catalogue.specs.TextBytes.{name_bytes}
 use Rattle.otp_extended.specs.declared.renewal.Renewed.{Renewed}
 use Rattle.otp_extended.specs.declared.run.Renewal.{Renewal}
 use Rattle.otp_extended.specs.declared.run.RenewalFault.{RenewalFault}
-use Rattle.otp_extended.specs.declared.run.RenewalFault.TheVariants as renewal_faults
 use Rattle.otp_extended.specs.Commands.{RenewParts}
 use Rattle.otp_extended.specs.Lines.{OnlyReceived}
 use Rattle.otp_extended.specs.Outcome as renewals
@@ -20,8 +19,8 @@ use Rattle.renew_mode.specs.declared.basis.Basis.{Basis}
 use Rattle.renew_mode.specs.declared.texts.Texts.{Texts}
 use Rattle.renew_mode.specs.Bases.{HasBasis, IsFileError}
 use Rattle.renew_mode.specs.Errors.{may_be_written}
-use Rattle.renew_mode.specs.Outcome.{IsOutcome, IsRead, IsUnread, Spares}
-use Rattle.renew_mode.specs.Renewing.{AreTexts, ComesOf, IsMade, IsPut, IsRenewing}
+use Rattle.renew_mode.specs.Outcome.{IsOutcome, IsRead, Spares}
+use Rattle.renew_mode.specs.Renewing.{AreTexts, IsMade, IsPut, IsRenewing}
 use Rattle.renew_mode.proofs.RenewLemmas.{HasBasis-before}
 
 -- ---- files that stayed as they were, and were then written

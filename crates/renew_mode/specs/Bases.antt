@@ -1,5 +1,5 @@
 -- Believed: the setup and the word list of a renewal, or why there are none.
-use Rattle.std.specs.Prelude.{◌≡◌, ℕ, List, Option, Some, Result, Ok, Err, IfSome}
+use Rattle.std.specs.Prelude.{◌≡◌, ℕ, List, Option, Some, Ok}
 use Rattle.outside.specs.Files.{Contents}
 use Rattle.policy_model.specs.Settings.{Settings}
 use Rattle.file_front.specs.declared.list.ListError.{ListError}

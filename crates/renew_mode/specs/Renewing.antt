@@ -1,5 +1,5 @@
 -- Believed: what comes of a response where the setup and the word list were read.
-use Rattle.std.specs.Prelude.{◌≡◌, ℕ, List, [], Option, Result, Ok, Err}
+use Rattle.std.specs.Prelude.{◌≡◌, [], Option, Result, Ok, Err}
 use Rattle.outside.specs.Files.{Contents, MayBeReplaced, Replaced, SameFiles}
 use Rattle.outside.specs.Link.{Exchanged, Link, SendsPart}
 use Rattle.outside.specs.Told.{Goes}
