@@ -8,4 +8,3 @@ pub mod Ran
 pub mod Logs
 pub mod Headline
 pub mod Whole
-pub mod ModeLemmas

@@ -40,7 +40,7 @@ use Rattle.audit_mode.specs.Outcome as audits
 use Rattle.audit_mode.specs.Words.{AuditParts, audit_command}
 use Rattle.otp_extended.specs.declared.renewal.Renewed.{Renewed}
 use Rattle.otp_extended.specs.declared.run.RenewalFault.TheVariants as renewal_faults
-use Rattle.otp_extended.specs.Commands.{RenewParts, command_of, renew_command}
+use Rattle.otp_extended.specs.Commands.{RenewParts, renew_command}
 use Rattle.renew_mode.specs.declared.error.RenewError.{RenewError}
 use Rattle.renew_mode.specs.declared.error.RenewError.TheVariants as renew_errors
 use Rattle.renew_mode.specs.Errors as renews
