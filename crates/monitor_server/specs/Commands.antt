@@ -6,6 +6,10 @@ use Rattle.otp_mode.specs.Words.{OtpParts, otp_command}
 use Rattle.check_mode.specs.Words.{check_command}
 use Rattle.child_mode.specs.Commands.{parts_of}
 use Rattle.child_mode.specs.Words.{ChildParts, child_command}
+use Rattle.audit_mode.specs.Commands as audits
+use Rattle.audit_mode.specs.Words.{AuditParts, audit_command}
+use Rattle.otp_extended.specs.Commands as renewals
+use Rattle.otp_extended.specs.Commands.{RenewParts, renew_command}
 use Rattle.monitor_server.specs.declared.command.Command.{Command}
 use Rattle.monitor_server.specs.declared.command.Command.TheVariants as commands
 use Rattle.monitor_server.specs.declared.command.Unread.{Unread}
@@ -27,9 +31,17 @@ asks_check words = option_and_then check_command (plain_words words)
 abbrev pub asks_child : List (List ℕ) → Option ChildParts
 asks_child words = option_and_then child_command (plain_words words)
 
--- the words of a command: `serve`, or those of the modes `otp` and `check` and of the children's
+-- the setup and the log that the words ask the mode `audit` for, where none begins with a hyphen
+abbrev pub asks_audit : List (List ℕ) → Option AuditParts
+asks_audit words = option_and_then audit_command (plain_words words)
+
+-- the setup and the user that the words ask the mode `renew` for, where none begins with a hyphen
+abbrev pub asks_renew : List (List ℕ) → Option RenewParts
+asks_renew words = option_and_then renew_command (plain_words words)
+
+-- the words of a command: `serve`, or those of the modes `otp` and `check`, of the children's, and of `audit` and `renew`
 abbrev pub IsCommand : List (List ℕ) → Type 0
-IsCommand words = (words ≡ serve_words) ⊎ ((parts : OtpParts) × (asks_otp words ≡ Some parts)) ⊎ ((setup : List ℕ) × (asks_check words ≡ Some setup)) ⊎ ((parts : ChildParts) × (asks_child words ≡ Some parts))
+IsCommand words = (words ≡ serve_words) ⊎ ((parts : OtpParts) × (asks_otp words ≡ Some parts)) ⊎ ((setup : List ℕ) × (asks_check words ≡ Some setup)) ⊎ ((parts : ChildParts) × (asks_child words ≡ Some parts)) ⊎ ((parts : AuditParts) × (asks_audit words ≡ Some parts)) ⊎ ((parts : RenewParts) × (asks_renew words ≡ Some parts))
 
 -- what a mode's word and the words behind it are read as
 abbrev pub IsMeant : List (List ℕ) → Option Command → Type 0
@@ -37,7 +49,9 @@ IsMeant words (Some commands.Serve) = words ≡ serve_words
 IsMeant words (Some (commands.Password command)) = otp_command words ≡ Some (command_parts command)
 IsMeant words (Some (commands.Check setup)) = check_command words ≡ Some setup.now
 IsMeant words (Some (commands.Child command)) = child_command words ≡ Some (parts_of command)
-IsMeant words None = (words ≢ serve_words) × (otp_command words ≡ None) × (check_command words ≡ None) × (child_command words ≡ None)
+IsMeant words (Some (commands.Audit command)) = audit_command words ≡ Some (audits.command_parts command)
+IsMeant words (Some (commands.Renew command)) = renew_command words ≡ Some (renewals.command_parts command)
+IsMeant words None = (words ≢ serve_words) × (otp_command words ≡ None) × (check_command words ≡ None) × (child_command words ≡ None) × (audit_command words ≡ None) × (renew_command words ≡ None)
 
 -- what the words of a command line are read as; want of memory comes only where none begins with a hyphen
 abbrev pub IsReading : List (List ℕ) → Result Command Unread → Type 0
@@ -45,5 +59,7 @@ IsReading words (Ok commands.Serve) = words ≡ serve_words
 IsReading words (Ok (commands.Password command)) = asks_otp words ≡ Some (command_parts command)
 IsReading words (Ok (commands.Check setup)) = asks_check words ≡ Some setup.now
 IsReading words (Ok (commands.Child command)) = asks_child words ≡ Some (parts_of command)
+IsReading words (Ok (commands.Audit command)) = asks_audit words ≡ Some (audits.command_parts command)
+IsReading words (Ok (commands.Renew command)) = asks_renew words ≡ Some (renewals.command_parts command)
 IsReading words (Err unread.NoCommand) = IsCommand words → ⊥
 IsReading words (Err unread.OutOfMemory) = plain_words words ≢ None

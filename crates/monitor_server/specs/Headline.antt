@@ -116,7 +116,7 @@ ends_by_accept_fault scene = is_fault (last_or None scene.acts)
 
 -- the statuses of the program
 abbrev pub statuses : List ℕ
-statuses = 0 ∷ 2 ∷ 3 ∷ 4 ∷ 5 ∷ 6 ∷ 7 ∷ 9 ∷ 10 ∷ 11 ∷ 12 ∷ []
+statuses = 0 ∷ 2 ∷ 3 ∷ 4 ∷ 5 ∷ 6 ∷ 7 ∷ 8 ∷ 9 ∷ 10 ∷ 11 ∷ 12 ∷ 14 ∷ 15 ∷ []
 
 abbrev pub IsStatus : ℕ → Type 0
 IsStatus status = list_any (λ s. s == status) statuses ≡ true

@@ -1,7 +1,8 @@
 -- What the modes beside `serve` promise, and what each mode leaves as it was.
 use Rattle.std.specs.Prelude.{◌≡◌, ◌≢◌, ◌⊎◌, ℕ, List, Option, Some, None, Result, Ok, Err}
-use Rattle.outside.specs.Files.{Contents}
+use Rattle.outside.specs.Files.{Contents, SameFiles}
 use Rattle.outside.specs.Link.{Link}
+use Rattle.outside.specs.Told.{Goes}
 use Rattle.policy_model.specs.declared.event.Event.{Event}
 use Rattle.otp_mode.specs.declared.fault.OtpFault.{OtpFault}
 use Rattle.otp_mode.specs.declared.fault.OtpFault.TheVariants as faults
@@ -16,10 +17,23 @@ use Rattle.check_mode.specs.Outcome as checks
 use Rattle.child_mode.specs.declared.run.ChildRun.{ChildRun}
 use Rattle.child_mode.specs.Outcome as children
 use Rattle.child_mode.specs.Words.{ChildParts}
+use Rattle.audit_check.specs.declared.answer.Audit.{Audit}
+use Rattle.audit_check.specs.declared.answer.Audit.TheVariants as answers
+use Rattle.audit_mode.specs.declared.error.AuditError.{AuditError}
+use Rattle.audit_mode.specs.declared.error.AuditError.TheVariants as audit_errors
+use Rattle.audit_mode.specs.Outcome as audits
+use Rattle.audit_mode.specs.Words.{AuditParts}
+use Rattle.otp_extended.specs.declared.renewal.Renewed.{Renewed}
+use Rattle.otp_extended.specs.declared.run.RenewalFault.TheVariants as renewal_faults
+use Rattle.otp_extended.specs.Commands.{RenewParts}
+use Rattle.renew_mode.specs.declared.error.RenewError.{RenewError}
+use Rattle.renew_mode.specs.declared.error.RenewError.TheVariants as renew_errors
+use Rattle.renew_mode.specs.Errors as error_statuses
+use Rattle.renew_mode.specs.Outcome as renews
 use Rattle.monitor_server.specs.declared.report.Detail.{Detail}
-use Rattle.monitor_server.specs.declared.report.Detail.TheVariants.{Missing, Nothing, SetupBad, WordsBad}
-use Rattle.monitor_server.specs.declared.report.FileKind.TheVariants.{Setup, Words}
-use Rattle.monitor_server.specs.Commands.{asks_check, asks_child, asks_otp, serve_words}
+use Rattle.monitor_server.specs.declared.report.Detail.TheVariants.{AuditNo, Missing, Nothing, RenewBad, SetupBad, WordsBad}
+use Rattle.monitor_server.specs.declared.report.FileKind.TheVariants.{Log, Setup, Words}
+use Rattle.monitor_server.specs.Commands.{asks_audit, asks_check, asks_child, asks_otp, asks_renew, serve_words}
 use Rattle.monitor_server.specs.Headline.{IsUnused}
 
 -- where a fault of the mode `otp` lies
@@ -77,17 +91,64 @@ pub record ChildRan (parts : ChildParts) (status : ℕ) (before after : Option L
 pub record ChildMode (words : List (List ℕ)) (status : ℕ) (before after : Option Link) (EndsFailed : Type 0) : Type 0 where
   pub ran : (parts : ChildParts) → asks_child words ≡ Some parts → (status ≡ 9) ⊎ ChildRan parts status before after EndsFailed
 
--- what a mode doesn't use it leaves as it was: all but `otp` and `check` the files, all but these and the children's the ends, all but `serve` the site, the log
--- and the posts; `otp` leaves the files where the words name no list; with 3 and 9 nothing was received or sent, and with 4 and 5
--- only by `check`; the detail tells of 4 and 5 alone
+-- what is missing or refused of a setup and a log
+abbrev pub audit_detail : Result Audit AuditError → Detail
+audit_detail (Ok (answers.No place why)) = AuditNo place why
+audit_detail (Err audit_errors.SetupMissing) = Missing Setup
+audit_detail (Err (audit_errors.SetupRefused fault)) = SetupBad fault
+audit_detail (Err audit_errors.LogMissing) = Missing Log
+audit_detail _ = Nothing
+
+-- the mode `audit` came to an outcome that the files and the ends account for, and that is told by status and detail
+pub record AuditRan (parts : AuditParts) (status : ℕ) (detail : Detail) (contents : Option Contents) (before after : Option Link) (ReadFailed EndsFailed : Type 0) : Type 0 where
+  pub outcome : Result Audit AuditError
+  pub status_is : status ≡ audits.status_of outcome
+  pub detail_is : detail ≡ audit_detail outcome
+  pub cause : audits.IsOutcome parts contents before after ReadFailed EndsFailed outcome
+
+-- where the words are those of the mode `audit`, it ran, unless memory was wanted
+pub record AuditMode (words : List (List ℕ)) (status : ℕ) (detail : Detail) (contents : Option Contents) (before after : Option Link) (ReadFailed EndsFailed : Type 0) : Type 0 where
+  pub ran : (parts : AuditParts) → asks_audit words ≡ Some parts → (status ≡ 9) ⊎ AuditRan parts status detail contents before after ReadFailed EndsFailed
+
+-- what is missing or refused of a setup, a word list and a response
+abbrev pub renew_detail : Result Renewed RenewError → Detail
+renew_detail (Err renew_errors.SetupMissing) = Missing Setup
+renew_detail (Err (renew_errors.SetupRefused fault)) = SetupBad fault
+renew_detail (Err renew_errors.WordsMissing) = Missing Words
+renew_detail (Err (renew_errors.WordsRefused fault)) = WordsBad fault
+renew_detail (Err (renew_errors.NoRenewal (renewal_faults.Refused fault))) = RenewBad fault
+renew_detail _ = Nothing
+
+-- the mode `renew` came to an outcome that the files, before and after, and the ends account for, and that is told by status and detail
+pub record RenewRan (parts : RenewParts) (status : ℕ) (detail : Detail) (old new : Option Contents) (before after : Option Link) (ReadFailed ReplaceFailed EndsFailed : Type 0) : Type 0 where
+  pub outcome : Result Renewed RenewError
+  pub status_is : status ≡ error_statuses.status_of outcome
+  pub detail_is : detail ≡ renew_detail outcome
+  pub cause : renews.IsOutcome parts old new before after ReadFailed ReplaceFailed EndsFailed outcome
+  pub spares : Goes (renews.Spares parts.setup) old new
+  pub unwritten : status ≢ 0 → status ≢ 8 → status ≢ 11 → Goes SameFiles old new
+
+-- where the words are those of the mode `renew`, it ran, unless memory was wanted for them
+pub record RenewMode (words : List (List ℕ)) (status : ℕ) (detail : Detail) (old new : Option Contents) (before after : Option Link) (ReadFailed ReplaceFailed EndsFailed : Type 0) : Type 0 where
+  pub ran : (parts : RenewParts) → asks_renew words ≡ Some parts → (status ≡ 9) ⊎ RenewRan parts status detail old new before after ReadFailed ReplaceFailed EndsFailed
+
+-- no mode but `renew` changes a file, and that one at most the setup's that its words name; with other statuses than 0, 8 and 11 no file is changed
+pub record ChangesFiles (words : List (List ℕ)) (status : ℕ) (old new : Option Contents) : Type 0 where
+  pub same : asks_renew words ≡ None → Goes SameFiles old new
+  pub spares : (parts : RenewParts) → asks_renew words ≡ Some parts → Goes (renews.Spares parts.setup) old new
+  pub unwritten : status ≢ 0 → status ≢ 8 → status ≢ 11 → Goes SameFiles old new
+
+-- what a mode doesn't use it leaves as it was: all but `otp`, `check`, `audit` and `renew` the files, all but these and the children's the ends,
+-- all but `serve` the site, the log and the posts; `otp` leaves the files where the words name no list; with 3 nothing was received or
+-- sent, with 9 only by `renew`, and with 4 and 5 only by `check`; the detail tells of 4, 5, 14 and 15 alone
 pub record LeavesRest {F S E K P : Type 0} (words : List (List ℕ)) (status : ℕ) (detail : Detail) (files_old files_new : F) (site_old site_new : S) (ends_old ends_new : E) (log_old log_new : K) (journal : List Event) (posts : List P) : Type 0 where
-  pub files : asks_otp words ≡ None → asks_check words ≡ None → files_new ≡ files_old
-  pub ends : asks_otp words ≡ None → asks_check words ≡ None → asks_child words ≡ None → ends_new ≡ ends_old
+  pub files : asks_otp words ≡ None → asks_check words ≡ None → asks_audit words ≡ None → asks_renew words ≡ None → files_new ≡ files_old
+  pub ends : asks_otp words ≡ None → asks_check words ≡ None → asks_child words ≡ None → asks_audit words ≡ None → asks_renew words ≡ None → ends_new ≡ ends_old
   pub site : words ≢ serve_words → site_new ≡ site_old
   pub unserved : words ≢ serve_words → IsUnused log_old log_new journal posts
   pub unbegun : status ≡ 6 → IsUnused log_old log_new journal posts
   pub unremembered : status ≡ 9 → IsUnused log_old log_new journal posts
   pub unread : (parts : OtpParts) → asks_otp words ≡ Some parts → parts.list ≡ None → files_new ≡ files_old
-  pub silent : (status ≡ 3) ⊎ (status ≡ 9) → ends_new ≡ ends_old
+  pub silent : (status ≡ 3) ⊎ (status ≡ 9) × (asks_renew words ≡ None) → ends_new ≡ ends_old
   pub unprinted : asks_check words ≡ None → (status ≡ 4) ⊎ (status ≡ 5) → ends_new ≡ ends_old
-  pub plain : status ≢ 4 → status ≢ 5 → detail ≡ Nothing
+  pub plain : status ≢ 4 → status ≢ 5 → status ≢ 14 → status ≢ 15 → detail ≡ Nothing

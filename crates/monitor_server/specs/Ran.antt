@@ -15,7 +15,7 @@ use Rattle.session_model.specs.Sittings.{IsSitting, NoneBehindLoss, Sitting, all
 use Rattle.session_model.specs.Stories.{AcceptFailed, IsStory, LastAccept, Unasked}
 use Rattle.monitor_server.specs.declared.report.Detail.{Detail}
 use Rattle.monitor_server.specs.Headline.{ConversationsMatch, FaultEndsAreCounted, IsComplete, JournalIsLegal, LogMatches, NoFault, OperationsMatch, RunsToQuota, SessionsInOrder, StatusHasCause}
-use Rattle.monitor_server.specs.Modes.{CheckMode, ChildMode, LeavesRest, PasswordMode}
+use Rattle.monitor_server.specs.Modes.{AuditMode, CheckMode, ChildMode, LeavesRest, PasswordMode, RenewMode}
 use Rattle.monitor_server.specs.Serving.{RoseBy, asks_among}
 
 -- what one worker did, whose events stand at these places
@@ -70,9 +70,11 @@ pub record Promises {P : Type 0} (words : List (List ℕ)) (status : ℕ) (journ
   pub complete : IsComplete words status scene journal posts (NoFault ListenRose LogRose faults posts)
 
 -- all that the top call says of a command
-pub record Whole {F S E K P : Type 0} (words : List (List ℕ)) (status : ℕ) (detail : Detail) (journal : List Event) (posts : List P) (scene : P → Option Scene) (faults : P → Faults) (files_old files_new : F) (site_old site_new : S) (ends_old ends_new : E) (log_old log_new : K) (contents : Option Contents) (before after : Option Link) (held_old held_new : Option (List ℕ)) (ListenRose LogRose ReadFailed EndsFailed : Type 0) : Type 0 where
+pub record Whole {F S E K P : Type 0} (words : List (List ℕ)) (status : ℕ) (detail : Detail) (journal : List Event) (posts : List P) (scene : P → Option Scene) (faults : P → Faults) (files_old files_new : F) (site_old site_new : S) (ends_old ends_new : E) (log_old log_new : K) (contents_old contents : Option Contents) (before after : Option Link) (held_old held_new : Option (List ℕ)) (ListenRose LogRose ReadFailed ReplaceFailed EndsFailed : Type 0) : Type 0 where
   pub promises : Promises words status journal posts scene faults ListenRose LogRose held_old held_new
   pub password : PasswordMode words status detail contents before after ReadFailed EndsFailed
   pub check : CheckMode words status detail contents before after ReadFailed EndsFailed
   pub child : ChildMode words status before after EndsFailed
+  pub audit : AuditMode words status detail contents before after ReadFailed EndsFailed
+  pub renew : RenewMode words status detail contents_old contents before after ReadFailed ReplaceFailed EndsFailed
   pub leaves : LeavesRest words status detail files_old files_new site_old site_new ends_old ends_new log_old log_new journal posts

@@ -4,9 +4,11 @@ ghost use Rattle.std.specs.Prelude.{◌≡◌, ◌≢◌, ◌∷◌, false, map,
 ghost use Rattle.monitor_server.specs.declared.command.Unread.TheVariants.{OutOfMemory};
 ghost use Rattle.monitor_server.specs.Commands.{IsMeant, IsReading, serve_words};
 
+use audit_mode::{AuditCommand, read_audit_command};
 use check_mode::read_check_command;
 use child_mode::{ChildCommand, read_child_command};
 use command_line::read_command_line;
+use otp_extended::{RenewCommand, read_renew_command};
 use otp_mode::{OtpCommand, read_otp_command};
 use outside::Word;
 use std::alloc::{AllocError, Global};
@@ -22,6 +24,10 @@ pub enum Command<'a> {
     Check(&'a str),
     /// To run a child program.
     Child(ChildCommand),
+    /// To audit a log.
+    Audit(AuditCommand<'a>),
+    /// To renew a user's chain of passwords.
+    Renew(RenewCommand<'a>),
 }
 
 /// Why words were not read as a command.
@@ -64,8 +70,14 @@ fn command_of<'a>(mode: &str, further: &[&'a str]) -> Option<Command<'a>>
     if let Some(setup) = read_check_command(mode, further) {
         return Some(Command::Check(setup));
     }
-    match read_child_command(mode, further) {
-        Some(command) => Some(Command::Child(command)),
+    if let Some(command) = read_child_command(mode, further) {
+        return Some(Command::Child(command));
+    }
+    if let Some(command) = read_audit_command(mode, further) {
+        return Some(Command::Audit(command));
+    }
+    match read_renew_command(mode, further) {
+        Some(command) => Some(Command::Renew(command)),
         None => None,
     }
 }

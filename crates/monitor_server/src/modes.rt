@@ -5,15 +5,21 @@ ghost use Rattle.outside.specs.Files.{SameFiles};
 ghost use Rattle.outside.specs.Told.{Goes, Rose};
 ghost use Rattle.otp_mode.specs.Command.{command_parts};
 ghost use Rattle.child_mode.specs.Commands.{parts_of};
+ghost use Rattle.audit_mode.specs.Commands as audits;
+ghost use Rattle.otp_extended.specs.Commands as renewals;
 ghost use Rattle.monitor_server.specs.declared.report.Detail.TheVariants.{Nothing};
 ghost use Rattle.monitor_server.specs.Headline.{IsUnused};
-ghost use Rattle.monitor_server.specs.Modes.{CheckRan, ChildRan, PasswordRan, fault_detail, finding_detail};
+ghost use Rattle.monitor_server.specs.Modes.{AuditRan, CheckRan, ChildRan, PasswordRan, RenewRan, audit_detail, fault_detail, finding_detail, renew_detail};
 
 use crate::report::{Detail, FileKind, Report, unused};
+use audit_check::Audit;
+use audit_mode::{AuditCommand, AuditError, run_audit};
 use check_mode::{Finding, run_check};
 use child_mode::{ChildCommand, run_child_mode};
+use otp_extended::{RenewCommand, RenewalFault, Renewed};
 use otp_mode::{OtpCommand, OtpFault, run_otp};
 use outside::{Files, Sink, Stream};
+use renew_mode::{RenewError, run_renew};
 use std::alloc::Global;
 
 /// Prints a one-time password: the pass phrase is read from the ends, and a word list from its file.
@@ -104,4 +110,86 @@ pub(crate) fn run_child<P, K, E: Stream>(
 {
     let run = run_child_mode(alloc, command, ends);
     unused(alloc, run.status(), Detail::Nothing, log)
+}
+
+/// Says whether a log is legal: it and the setup are read from their files.
+pub(crate) fn audit_log<F: Files, P, K, E: Stream>(
+    alloc: Global,
+    command: &AuditCommand<'_>,
+    files: &mut F,
+    log: K,
+    ends: &mut E,
+) -> Report<P, K>
+    ensures audit { AuditRan (audits.command_parts command.now) result.status result.detail (F.contents files.new) (E.link ends.old) (E.link ends.new) (Rose (F.read_faults files.old) (F.read_faults files.new)) (Rose (E.faults ends.old) (E.faults ends.new)) }
+    ensures unused { IsUnused log result.log result.journal.items result.posts.items }
+    ensures silent { (result.status ≡ 3) ⊎ (result.status ≡ 9) → ends.new ≡ ends.old }
+    ensures at_file { (result.status ≡ 4) ⊎ (result.status ≡ 5) → ends.new ≡ ends.old }
+    ensures files { Goes SameFiles (F.contents files.old) (F.contents files.new) }
+{
+    let outcome = run_audit(alloc, command, files, ends);
+    unused(
+        alloc,
+        audit_mode::status(outcome),
+        audit_detail(outcome),
+        log,
+    )
+}
+
+/// What is missing or refused of a setup and a log.
+fn audit_detail(outcome: Result<Audit, AuditError>) -> Detail
+    ensures { result ≡ audit_detail outcome }
+{
+    match outcome {
+        Ok(Audit::No { line, why }) => Detail::AuditNo { line, why },
+        Err(AuditError::SetupMissing) => Detail::Missing {
+            file: FileKind::Setup,
+        },
+        Err(AuditError::SetupRefused(fault)) => Detail::SetupBad(fault),
+        Err(AuditError::LogMissing) => Detail::Missing {
+            file: FileKind::Log,
+        },
+        Ok(Audit::Yes { .. })
+        | Err(AuditError::ReadFailed | AuditError::OutOfMemory | AuditError::EndsFailed) => {
+            Detail::Nothing
+        }
+    }
+}
+
+/// Renews a user's chain of passwords in the setup's file by a response, which is read from the ends.
+pub(crate) fn renew_account<F: Files, P, K, E: Stream>(
+    alloc: Global,
+    command: &RenewCommand<'_>,
+    files: &mut F,
+    log: K,
+    ends: &mut E,
+) -> Report<P, K>
+    ensures renew { RenewRan (renewals.command_parts command.now) result.status result.detail (F.contents files.old) (F.contents files.new) (E.link ends.old) (E.link ends.new) (Rose (F.read_faults files.old) (F.read_faults files.new)) (Rose (F.replace_faults files.old) (F.replace_faults files.new)) (Rose (E.faults ends.old) (E.faults ends.new)) }
+    ensures unused { IsUnused log result.log result.journal.items result.posts.items }
+    ensures at_files { (result.status ≡ 3) ⊎ (result.status ≡ 4) ⊎ (result.status ≡ 5) → ends.new ≡ ends.old }
+{
+    let outcome = run_renew(alloc, command, files, ends);
+    unused(
+        alloc,
+        renew_mode::status(outcome),
+        renew_detail(outcome),
+        log,
+    )
+}
+
+/// What is missing or refused of a setup, a word list and a response.
+fn renew_detail(outcome: Result<Renewed, RenewError>) -> Detail
+    ensures { result ≡ renew_detail outcome }
+{
+    match outcome {
+        Err(RenewError::SetupMissing) => Detail::Missing {
+            file: FileKind::Setup,
+        },
+        Err(RenewError::SetupRefused(fault)) => Detail::SetupBad(fault),
+        Err(RenewError::WordsMissing) => Detail::Missing {
+            file: FileKind::Words,
+        },
+        Err(RenewError::WordsRefused(fault)) => Detail::WordsBad(fault),
+        Err(RenewError::NoRenewal(RenewalFault::Refused(fault))) => Detail::RenewBad(fault),
+        _ => Detail::Nothing,
+    }
 }

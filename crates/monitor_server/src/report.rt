@@ -4,6 +4,8 @@ ghost use Rattle.std.specs.Prelude.{◌≡◌};
 ghost use Rattle.monitor_server.specs.Headline.{IsUnused};
 
 use account_file::SetupFault;
+use audit_check::AuditWhy;
+use otp_extended::RenewFault;
 use otp_words::DictFault;
 use policy_model::Event;
 use std::alloc::Global;
@@ -18,6 +20,8 @@ pub enum FileKind {
     Setup,
     /// The word list.
     Words,
+    /// The log.
+    Log,
 }
 
 /// What an exit status alone doesn't tell.
@@ -31,6 +35,10 @@ pub enum Detail {
     SetupBad(SetupFault),
     /// The word list is refused by this fault, with status 5.
     WordsBad(DictFault),
+    /// The log stops being a legal one at this line, counted from 1, with status 14.
+    AuditNo { line: u32, why: AuditWhy },
+    /// The response renews nothing, with status 15.
+    RenewBad(RenewFault),
 }
 
 /// What a run came to.
@@ -38,11 +46,13 @@ pub enum Detail {
 pub struct Report<P, K> {
     /// The program's exit status: 0 where nothing below applies, 2 where the words are no command,
     /// 3 where a file could not be read, 4 where one isn't there, 5 where a setup or a word list is
-    /// refused, 6 where the site could not listen, 7 where the log could not be written, 9 where
-    /// memory was wanted, 10 where a worker could not wait for a connection, 11 where the ends
-    /// failed, 12 where the pass phrase is refused or what a child was sent can't be read.
+    /// refused, 6 where the site could not listen, 7 where the log could not be written, 8 where the
+    /// setup could not be replaced, 9 where memory was wanted, 10 where a worker could not wait for a
+    /// connection, 11 where the ends failed, 12 where the pass phrase is refused, a response isn't one
+    /// or what a child was sent can't be read, 14 where a log is not legal, 15 where a response renews
+    /// nothing.
     pub status: u8,
-    /// Which file is missing, or what is wrong with it.
+    /// Which file is missing, or what is wrong with it or with the response.
     pub detail: Detail,
     /// All events of the run, in the order in which they were decided.
     pub journal: Vec<Event>,

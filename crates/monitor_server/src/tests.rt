@@ -4,6 +4,7 @@ ghost use Rattle.outside.specs.Scene.{IsFresh};
 
 use super::{Detail, FileKind, Report, otplogd};
 use account_file::{SetupFault, SetupKey, SetupRule};
+use audit_check::AuditWhy;
 use otp_words::{DictFault, DictRule};
 use outside::{
     Accepted, Act, Bytes, CallKind, Fail, MemFiles, MemPost, MemSink, MemSite, MemStream, Role,
@@ -12,6 +13,7 @@ use outside::{
 use std::alloc::{AllocError, Global};
 use std::test::Fail as Fault;
 
+mod offline;
 mod polite;
 
 /// The child before the login of the first session.
@@ -350,7 +352,7 @@ tries = 1
 hold = 1
 ";
 
-const UNSERVED: [Unserved; 8] = [
+const UNSERVED: [Unserved; 12] = [
     // No post is there for the one worker.
     Unserved {
         line: "serve",
@@ -392,6 +394,48 @@ const UNSERVED: [Unserved; 8] = [
             rule: DictRule::Length,
         }),
         sent: b"refused words 1 length\n",
+    },
+    Unserved {
+        line: "audit setup log",
+        input: b"",
+        file: ("setup", ITS_OWN_LIST),
+        status: 4,
+        detail: Detail::Missing {
+            file: FileKind::Log,
+        },
+        sent: b"",
+    },
+    Unserved {
+        line: "audit setup setup",
+        input: b"",
+        file: ("setup", ITS_OWN_LIST),
+        status: 14,
+        detail: Detail::AuditNo {
+            line: 1,
+            why: AuditWhy::Text,
+        },
+        sent: b"no 1 text\n",
+    },
+    Unserved {
+        line: "renew setup alice",
+        input: b"",
+        file: ("other", b""),
+        status: 4,
+        detail: Detail::Missing {
+            file: FileKind::Setup,
+        },
+        sent: b"",
+    },
+    Unserved {
+        line: "renew setup alice",
+        input: b"",
+        file: ("setup", ITS_OWN_LIST),
+        status: 5,
+        detail: Detail::WordsBad(DictFault {
+            line: 1,
+            rule: DictRule::Length,
+        }),
+        sent: b"",
     },
     Unserved {
         line: "otp md5 99 TeSt",
@@ -482,7 +526,14 @@ child-pre
 child-pre 01
 child-pre 262145
 child-user 1 1000
-child-user 1 0 bob";
+child-user 1 0 bob
+audit
+audit a
+audit a b c
+audit -x b
+renew a
+renew a Bob
+renew a bob c";
 
 #[test]
 fn words_that_are_no_command(rt: HostRuntime) -> Result<(), Fault> {

@@ -1,7 +1,9 @@
 //! What the program says where it served nobody.
 
 use account_file::SetupFault;
+use audit_check::AuditWhy;
 use monitor_server::{Detail, FileKind};
+use otp_extended::RenewFault;
 use otp_words::{DictFault, DictRule};
 use std::fmt;
 
@@ -11,7 +13,7 @@ use std::fmt;
 pub struct Complaint {
     /// The exit status, not 0.
     pub status: u8,
-    /// Which file is missing, or what is wrong with it.
+    /// Which file is missing, or what is wrong with it or with the response.
     pub detail: Detail,
 }
 
@@ -32,6 +34,16 @@ impl fmt::Display for Complaint {
                 "the word list is refused: line {line} {}",
                 list_rule_text(rule)
             ),
+            Detail::AuditNo { line, why } => {
+                write!(f, "the log is not legal: line {line} {}", why_text(why))
+            }
+            Detail::RenewBad(fault) => {
+                write!(
+                    f,
+                    "the response renews nothing: {}",
+                    renew_fault_text(fault)
+                )
+            }
         }
     }
 }
@@ -39,14 +51,23 @@ impl fmt::Display for Complaint {
 /// What a status alone tells.
 fn status_text(status: u8) -> &'static str {
     match status {
-        2 => "call it as otplogd serve, otplogd check SETUP or otplogd otp md5|sha1 N SEED [WORDS]",
+        2 => {
+            "call it as otplogd serve, otplogd check SETUP, otplogd audit SETUP LOG, \
+            otplogd renew SETUP NAME or otplogd otp md5|sha1 N SEED [WORDS]"
+        }
         3 => "a file could not be read",
         4 => "a file is not there",
         5 => "a file is refused",
         6 => "the socket could not be listened at",
+        8 => "the setup could not be replaced",
         9 => "memory was wanted",
         11 => "standard input could not be read, or standard output not be written",
-        12 => "the input is refused: a pass phrase is 10 to 63 bytes of printable ASCII",
+        12 => {
+            "the input is refused: a pass phrase is 10 to 63 bytes of printable ASCII, \
+            and a response one of RFC 2243"
+        }
+        14 => "the log is not legal",
+        15 => "the response renews nothing",
         _ => "it failed",
     }
 }
@@ -56,6 +77,7 @@ fn file_text(file: FileKind) -> &'static str {
     match file {
         FileKind::Setup => "the setup",
         FileKind::Words => "the word list",
+        FileKind::Log => "the log",
     }
 }
 
@@ -66,5 +88,28 @@ fn list_rule_text(rule: DictRule) -> &'static str {
         DictRule::Length => "has not 1 to 4 letters",
         DictRule::Letter => "has another character than a letter",
         DictRule::Twice => "has a word that stands before",
+    }
+}
+
+/// What is wrong with the first line that makes a log no legal one.
+fn why_text(why: AuditWhy) -> &'static str {
+    match why {
+        AuditWhy::Text => "is no line of a log",
+        AuditWhy::Count => "has another number than its place, or one above 1,048,576",
+        AuditWhy::Event => "has an event that the policy does not give",
+    }
+}
+
+/// Why a response renews nothing.
+fn renew_fault_text(fault: RenewFault) -> &'static str {
+    match fault {
+        RenewFault::Unknown => "no account has that name",
+        RenewFault::Disabled => "the account is not enabled",
+        RenewFault::Exhausted => "the account has no password left",
+        RenewFault::NotInit => "it begins no new chain",
+        RenewFault::SameSeed => "its seed is the account's",
+        RenewFault::Replayed => "its current password was accepted before",
+        RenewFault::NoMatch => "its current password is not the next one",
+        RenewFault::Loop => "the new chain leads back to a spent password",
     }
 }

@@ -1,6 +1,8 @@
 use crate::complaint::Complaint;
 use account_file::{SetupFault, SetupKey, SetupRule};
+use audit_check::AuditWhy;
 use monitor_server::{Detail, FileKind};
+use otp_extended::RenewFault;
 use otp_words::{DictFault, DictRule};
 use std::test::Fail;
 
@@ -19,7 +21,8 @@ fn each_status_has_its_line(rt: HostRuntime) -> Result<(), Fail> {
         (
             2,
             Detail::Nothing,
-            "otplogd: call it as otplogd serve, otplogd check SETUP or otplogd otp md5|sha1 N SEED [WORDS]",
+            "otplogd: call it as otplogd serve, otplogd check SETUP, otplogd audit SETUP LOG, \
+            otplogd renew SETUP NAME or otplogd otp md5|sha1 N SEED [WORDS]",
         ),
         (3, Detail::Nothing, "otplogd: a file could not be read"),
         (
@@ -37,6 +40,13 @@ fn each_status_has_its_line(rt: HostRuntime) -> Result<(), Fail> {
             "otplogd: the word list is not there",
         ),
         (
+            4,
+            Detail::Missing {
+                file: FileKind::Log,
+            },
+            "otplogd: the log is not there",
+        ),
+        (
             5,
             Detail::SetupBad(twice),
             "otplogd: the setup is refused: key uid, rule twice, account 2",
@@ -51,6 +61,11 @@ fn each_status_has_its_line(rt: HostRuntime) -> Result<(), Fail> {
             Detail::Nothing,
             "otplogd: the socket could not be listened at",
         ),
+        (
+            8,
+            Detail::Nothing,
+            "otplogd: the setup could not be replaced",
+        ),
         (9, Detail::Nothing, "otplogd: memory was wanted"),
         (
             11,
@@ -60,7 +75,21 @@ fn each_status_has_its_line(rt: HostRuntime) -> Result<(), Fail> {
         (
             12,
             Detail::Nothing,
-            "otplogd: the input is refused: a pass phrase is 10 to 63 bytes of printable ASCII",
+            "otplogd: the input is refused: a pass phrase is 10 to 63 bytes of printable ASCII, \
+            and a response one of RFC 2243",
+        ),
+        (
+            14,
+            Detail::AuditNo {
+                line: 7,
+                why: AuditWhy::Event,
+            },
+            "otplogd: the log is not legal: line 7 has an event that the policy does not give",
+        ),
+        (
+            15,
+            Detail::RenewBad(RenewFault::NoMatch),
+            "otplogd: the response renews nothing: its current password is not the next one",
         ),
     ];
     for (status, detail, line) in rows {

@@ -38,3 +38,9 @@ returns-clause-leaves g c = c.run_command.ensures.whole.leaves
 
 pub returns-clause-child : goal.returns-clause-child
 returns-clause-child g c = c.run_command.ensures.whole.child
+
+pub returns-clause-audit : goal.returns-clause-audit
+returns-clause-audit g c = c.run_command.ensures.whole.audit
+
+pub returns-clause-renew : goal.returns-clause-renew
+returns-clause-renew g c = c.run_command.ensures.whole.renew

@@ -1,0 +1,74 @@
+use Rattle.std.proofs.Common.{◌≡◌, ℕ, ◌≤◌, List, take, Option, Some, None, Err, IfSome, refl, sym, ap, subst, ◌∙◌, arith}
+use Rattle.std.specs.Prelude.{option_map}
+use Rattle.outside.specs.Files.{Contents, SameFiles}
+use Rattle.outside.specs.Link.{Link}
+use Rattle.outside.specs.Told.{Goes, Rose}
+use Rattle.outside.proofs.Told.{Rose-within}
+use Rattle.policy_model.specs.Settings.{Settings}
+use Rattle.setup_reading.specs.declared.reading.SetupFileError.{SetupFileError}
+use Rattle.setup_reading.specs.declared.reading.SetupFileError.TheVariants as setup_errors
+use Rattle.setup_reading.specs.Read.{IsSetupError, IsSetupIn}
+use Rattle.setup_reading.proofs.ReadLemmas.{IsSetupIn-later}
+use Rattle.audit_check.specs.declared.answer.Audit.{Audit}
+use Rattle.audit_mode.specs.declared.error.AuditError.{AuditError}
+use Rattle.audit_mode.specs.declared.error.AuditError.TheVariants as errors
+use Rattle.audit_mode.specs.Outcome.{IsAnswered, IsAnswerOf, IsFileError, IsLogError, IsOnlyAnswer, IsOutcome, error_of_setup}
+use Rattle.audit_mode.specs.Words.{AuditParts}
+
+-- ---- the log
+
+-- the front that was read of a log
+abbrev pub IsFrontOf : {A : Type 0} → (A → List ℕ) → Option A → Option Contents → List ℕ → Type 0
+IsFrontOf items found contents name = IfSome contents (λ files. option_map items found ≡ option_map (take 268435457) (files name))
+
+-- there is no log where no front was read
+pub missing-log : {A : Type 0} (items : A → List ℕ) (found : Option A) (contents : Option Contents) (name : List ℕ) → found ≡ None → IsFrontOf items found contents name → IfSome contents (λ files. files name ≡ None)
+missing-log items found None name none read = tt
+missing-log items found (Some files) name none read = go (files name) (sym (ap (option_map items) none) ∙ read) where
+  go : (file : Option (List ℕ)) → None ≡ option_map (take 268435457) file → file ≡ None
+  go None e = refl
+  go (Some bytes) e = absurd cc
+
+-- what is said of the front is said of the log
+pub answer-of-front : {A : Type 0} (items : A → List ℕ) (found : Option A) (bytes : A) (front : List ℕ) (contents : Option Contents) (name : List ℕ) (setup : Settings) (answer : Audit) → found ≡ Some bytes → front ≡ items bytes → IsFrontOf items found contents name → IsOnlyAnswer setup front answer → IfSome contents (λ files. IsAnswerOf setup (files name) answer)
+answer-of-front items found bytes front None name setup answer there is read only = tt
+answer-of-front items found bytes front (Some files) name setup answer there is read only =
+    go (files name) (ap Some is ∙ sym (ap (option_map items) there) ∙ read) where
+      go : (file : Option (List ℕ)) → Some front ≡ option_map (take 268435457) file → IsAnswerOf setup file answer
+      go None e = absurd cc
+      go (Some text) e =
+          let same : front ≡ take 268435457 text = cc in
+          subst (λ t. IsOnlyAnswer setup t answer) same only
+
+-- ---- the setup and the log
+
+pub IsAnswered-setup : (before after : Option Contents) (parts : AuditParts) (setup : Settings) (answer : Audit) → Goes SameFiles before after → IsSetupIn before parts.setup setup → IfSome after (λ files. IsAnswerOf setup (files parts.log) answer) → IsAnswered after parts answer
+IsAnswered-setup before after parts setup answer goes spelled said =
+    record { setup = setup; spelled = IsSetupIn-later before after parts.setup setup goes spelled; answer_of = said }
+
+-- an error of the setup's file
+pub IsFileError-setup : (contents : Option Contents) (parts : AuditParts) (ReadFailed : Type 0) (error : SetupFileError) → IsSetupError contents parts.setup ReadFailed error → IsFileError contents parts ReadFailed (error_of_setup error)
+IsFileError-setup contents parts R setup_errors.Failed why = why
+IsFileError-setup contents parts R setup_errors.OutOfMemory why = tt
+IsFileError-setup contents parts R setup_errors.Missing why = why
+IsFileError-setup contents parts R (setup_errors.Refused fault) why = why
+
+-- an error of the log's file, behind the setup's
+pub IsFileError-log : (before after : Option Contents) (parts : AuditParts) (setup : Settings) (first between last : ℕ) (error : AuditError) → Goes SameFiles before after → IsSetupIn before parts.setup setup → first ≤ between → IsLogError after parts.log (Rose between last) error → IsFileError after parts (Rose first last) error
+IsFileError-log before after parts setup first between last errors.ReadFailed goes spelled le why =
+    Rose-within first between last last le why (omega arith)
+IsFileError-log before after parts setup first between last errors.LogMissing goes spelled le why =
+    record { setup = setup; spelled = IsSetupIn-later before after parts.setup setup goes spelled; missing = why }
+IsFileError-log before after parts setup first between last errors.OutOfMemory goes spelled le why = tt
+IsFileError-log before after parts setup first between last errors.SetupMissing goes spelled le why = absurd why
+IsFileError-log before after parts setup first between last (errors.SetupRefused fault) goes spelled le why = absurd why
+IsFileError-log before after parts setup first between last errors.EndsFailed goes spelled le why = absurd why
+
+-- an error of a file is what came of the mode; the ends are as they were
+pub IsOutcome-file : (parts : AuditParts) (contents : Option Contents) (link : Option Link) (ReadFailed EndsFailed : Type 0) (error : AuditError) → IsFileError contents parts ReadFailed error → IsOutcome parts contents link link ReadFailed EndsFailed (Err error)
+IsOutcome-file parts contents link R E errors.ReadFailed why = (why, refl)
+IsOutcome-file parts contents link R E errors.SetupMissing why = (why, refl)
+IsOutcome-file parts contents link R E (errors.SetupRefused fault) why = (why, refl)
+IsOutcome-file parts contents link R E errors.LogMissing why = (why, refl)
+IsOutcome-file parts contents link R E errors.OutOfMemory why = (why, refl)
+IsOutcome-file parts contents link R E errors.EndsFailed why = absurd why

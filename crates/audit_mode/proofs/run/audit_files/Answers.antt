@@ -1,0 +1,33 @@
+use Rattle.std.proofs.Common.{◌≡◌, Result, Ok, Err, IfOk, IfSome, sym, subst, ◌∙◌, refl}
+use Rattle.std.proofs.lemmas.Result.{err_from_is_err_and}
+use Rattle.file_front.proofs.FrontLemmas.{SameFiles-then}
+use Rattle.audit_check.specs.declared.answer.Audit.{Audit}
+use Rattle.audit_mode.specs.declared.error.AuditError.{AuditError}
+use Rattle.audit_mode.specs.Commands.{command_parts}
+use Rattle.audit_mode.specs.Outcome.{IsAnswered, IsAnswerOf, IsFileError, error_of_setup}
+use Rattle.audit_mode.proofs.AuditLemmas.{IsAnswered-setup, IsFileError-log, IsFileError-setup}
+use Rattle.audit_mode.proofs.run.audit_files.Goals as goal
+
+pub returns-in_err-setup-clause-error : goal.returns-in_err-setup-clause-error
+returns-in_err-setup-clause-error g c = λ error is.
+    let p = err_from_is_err_and c.from_residual.result c.from_residual.ensures.1 in
+    let handed = c.in_err-setup.field-0.0 in
+    let same : error_of_setup handed ≡ error = sym p.2 ∙ (let e : Err p.0 ≡ Err error = sym p.1 ∙ is in cc) in
+    let contents = g.F.Files.contents c.read_setup_file.new.files in
+    let parts = command_parts c.args.command.now in
+    subst (IsFileError contents parts _) same (IsFileError-setup contents parts _ handed (c.in_err-setup.ensures.error handed refl))
+
+pub returns-clause-answer : goal.returns-clause-answer
+returns-clause-answer g c = go c.audit_log.result c.audit_log.ensures.answer where
+  go : (result : Result Audit AuditError) → IfOk result (λ answer. IfSome (g.F.Files.contents c.audit_log.new.files) (λ there. IsAnswerOf c.in_ok-setup.setup (there c.args.command.now.log.now) answer)) → IfOk result (IsAnswered (g.F.Files.contents c.audit_log.new.files) (command_parts c.args.command.now))
+  go (Err error) said = tt
+  go (Ok answer) said =
+      IsAnswered-setup (g.F.Files.contents c.read_setup_file.new.files) (g.F.Files.contents c.audit_log.new.files) (command_parts c.args.command.now) c.in_ok-setup.setup answer c.audit_log.ensures.kept c.in_ok-setup.ensures.setup said
+
+pub returns-clause-error : goal.returns-clause-error
+returns-clause-error g c = λ error is.
+    IsFileError-log (g.F.Files.contents c.read_setup_file.new.files) (g.F.Files.contents c.audit_log.new.files) (command_parts c.args.command.now) c.in_ok-setup.setup _ _ _ error c.audit_log.ensures.kept c.in_ok-setup.ensures.setup c.in_ok-setup.ensures.read_faults (c.audit_log.ensures.error error is)
+
+pub returns-clause-kept : goal.returns-clause-kept
+returns-clause-kept g c =
+    SameFiles-then (g.F.Files.contents c.args.files.now) (g.F.Files.contents c.read_setup_file.new.files) (g.F.Files.contents c.audit_log.new.files) c.in_ok-setup.ensures.kept c.audit_log.ensures.kept

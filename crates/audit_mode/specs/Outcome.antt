@@ -1,0 +1,111 @@
+-- Believed: what the mode `audit` came to, and why.
+use Rattle.std.specs.Prelude.{◌≡◌, ℕ, Bool, true, false, List, [], length, take, Option, Some, None, Result, Ok, Err, IfSome}
+use Rattle.outside.specs.Files.{Contents}
+use Rattle.outside.specs.Link.{Exchanged, Link, SendsPart}
+use Rattle.outside.specs.Told.{Goes}
+use Rattle.policy_model.specs.declared.event.Event.{Event}
+use Rattle.policy_model.specs.Journal.{kept_events}
+use Rattle.policy_model.specs.Settings.{Settings}
+use Rattle.file_front.specs.declared.front.FrontError.{FrontError}
+use Rattle.file_front.specs.declared.front.FrontError.TheVariants as front_errors
+use Rattle.setup_reading.specs.declared.reading.SetupFileError.{SetupFileError}
+use Rattle.setup_reading.specs.declared.reading.SetupFileError.TheVariants as setup_errors
+use Rattle.setup_reading.specs.Read.{IsSetupError, IsSetupIn}
+use Rattle.decision_log.specs.Log.{log_text}
+use Rattle.audit_check.specs.declared.answer.Audit.{Audit}
+use Rattle.audit_check.specs.declared.answer.Audit.TheVariants.{Yes, No}
+use Rattle.audit_check.specs.Consequences.{IsJournalOf}
+use Rattle.audit_check.specs.Said.{IsAnswer}
+use Rattle.audit_mode.specs.declared.error.AuditError.{AuditError}
+use Rattle.audit_mode.specs.declared.error.AuditError.TheVariants as errors
+use Rattle.audit_mode.specs.Lines.{answer_line}
+use Rattle.audit_mode.specs.Words.{AuditParts}
+
+-- the text of a log: the first 268,435,457 bytes of its file
+abbrev pub log_front : List ℕ → List ℕ
+log_front bytes = take 268435457 bytes
+
+-- this is said of a text by an audit, and nothing else is true of it; a text that a run's journal has is a legal log of its events
+pub record IsOnlyAnswer (setup : Settings) (text : List ℕ) (answer : Audit) : Type 0 where
+  pub said : IsAnswer setup text answer
+  pub exact : (other : Audit) → IsAnswer setup text other → answer ≡ other
+  pub runs : (journal : List Event) → IsJournalOf setup journal → text ≡ log_text journal → answer ≡ Yes (length (kept_events journal))
+
+-- the same of the log in a file, which is there
+abbrev pub IsAnswerOf : Settings → Option (List ℕ) → Audit → Type 0
+IsAnswerOf setup None answer = ⊥
+IsAnswerOf setup (Some bytes) answer = IsOnlyAnswer setup (log_front bytes) answer
+
+-- the files, where they tell what stands in them, spell a setup, and this is said of the log
+pub record IsAnswered (contents : Option Contents) (parts : AuditParts) (answer : Audit) : Type 0 where
+  pub setup : Settings
+  pub spelled : IsSetupIn contents parts.setup setup
+  pub answer_of : IfSome contents (λ files. IsAnswerOf setup (files parts.log) answer)
+
+-- the files spell a setup, and there is no log
+pub record IsLogMissing (contents : Option Contents) (parts : AuditParts) : Type 0 where
+  pub setup : Settings
+  pub spelled : IsSetupIn contents parts.setup setup
+  pub missing : IfSome contents (λ files. files parts.log ≡ None)
+
+-- why there is no answer: a reading failed, the setup's file is missing or refused, the log's is missing, or memory was wanted
+abbrev pub IsFileError : Option Contents → AuditParts → Type 0 → AuditError → Type 0
+IsFileError contents parts ReadFailed errors.ReadFailed = ReadFailed
+IsFileError contents parts ReadFailed errors.SetupMissing = IsSetupError contents parts.setup ReadFailed setup_errors.Missing
+IsFileError contents parts ReadFailed (errors.SetupRefused fault) = IsSetupError contents parts.setup ReadFailed (setup_errors.Refused fault)
+IsFileError contents parts ReadFailed errors.LogMissing = IsLogMissing contents parts
+IsFileError contents parts ReadFailed errors.OutOfMemory = Unit {0}
+IsFileError contents parts ReadFailed errors.EndsFailed = ⊥
+
+-- the same where the setup was read
+abbrev pub IsLogError : Option Contents → List ℕ → Type 0 → AuditError → Type 0
+IsLogError contents name ReadFailed errors.ReadFailed = ReadFailed
+IsLogError contents name ReadFailed errors.LogMissing = IfSome contents (λ files. files name ≡ None)
+IsLogError contents name ReadFailed errors.OutOfMemory = Unit {0}
+IsLogError contents name ReadFailed _ = ⊥
+
+-- the errors that are handed on
+abbrev pub error_of_front : FrontError → AuditError
+error_of_front front_errors.Failed = errors.ReadFailed
+error_of_front front_errors.OutOfMemory = errors.OutOfMemory
+
+abbrev pub error_of_setup : SetupFileError → AuditError
+error_of_setup setup_errors.Failed = errors.ReadFailed
+error_of_setup setup_errors.OutOfMemory = errors.OutOfMemory
+error_of_setup setup_errors.Missing = errors.SetupMissing
+error_of_setup (setup_errors.Refused fault) = errors.SetupRefused fault
+
+-- what came of the mode, by what the files tell, what the ends told before and after, and whether a reading of a file and a call
+-- on the ends failed: the answer is told whole, or in part where the ends failed, or nothing is told
+abbrev pub IsOutcome : AuditParts → Option Contents → Option Link → Option Link → Type 0 → Type 0 → Result Audit AuditError → Type 0
+IsOutcome parts contents before after ReadFailed EndsFailed (Ok answer) =
+    IsAnswered contents parts answer × Goes (Exchanged [] (answer_line answer)) before after
+IsOutcome parts contents before after ReadFailed EndsFailed (Err errors.EndsFailed) =
+    EndsFailed × ((answer : Audit) × IsAnswered contents parts answer × SendsPart (answer_line answer) before after)
+IsOutcome parts contents before after ReadFailed EndsFailed (Err error) =
+    IsFileError contents parts ReadFailed error × (after ≡ before)
+
+-- whether the mode ended before its line
+abbrev pub ends_before_line : Result Audit AuditError → Bool
+ends_before_line (Ok answer) = false
+ends_before_line (Err errors.EndsFailed) = false
+ends_before_line (Err _) = true
+
+-- the exit status of a program that has told an answer
+abbrev pub answer_status : Audit → ℕ
+answer_status (Yes events) = 0
+answer_status (No place why) = 14
+
+-- the exit status of a program that ends by an error
+abbrev pub error_status : AuditError → ℕ
+error_status errors.ReadFailed = 3
+error_status errors.SetupMissing = 4
+error_status errors.LogMissing = 4
+error_status (errors.SetupRefused fault) = 5
+error_status errors.OutOfMemory = 9
+error_status errors.EndsFailed = 11
+
+-- the exit status of a program that ends by what came of the mode
+abbrev pub status_of : Result Audit AuditError → ℕ
+status_of (Ok answer) = answer_status answer
+status_of (Err error) = error_status error

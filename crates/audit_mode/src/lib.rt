@@ -1,0 +1,15 @@
+//! The mode `audit`: an operator asks whether a log is one that a monitor with this setup could have
+//! written. Believe `specs/Words.antt`, `specs/Outcome.antt` and the files that these name.
+#![tactic(auto)]
+
+mod command;
+mod error;
+mod line;
+mod run;
+
+pub use command::{AuditCommand, read_audit_command};
+pub use error::AuditError;
+pub use run::{run_audit, status};
+
+#[cfg(test)]
+mod tests;

@@ -1,0 +1,108 @@
+//! The mode.
+
+ghost use Rattle.std.specs.Prelude.{◌≡◌, ◌≤◌, Err, IfOk, IfSome, true};
+ghost use Rattle.outside.specs.Files.{SameFiles};
+ghost use Rattle.outside.specs.Told.{Goes, Rose};
+ghost use Rattle.audit_mode.specs.declared.error.AuditError.{AuditError};
+ghost use Rattle.audit_mode.specs.Commands.{command_parts};
+ghost use Rattle.audit_mode.specs.Outcome.{IsAnswered, IsAnswerOf, IsFileError, IsLogError, IsOutcome, answer_status, ends_before_line, status_of};
+
+use crate::command::AuditCommand;
+use crate::error::AuditError;
+use crate::line::answer_line;
+use audit_check::{Audit, audit};
+use file_front::read_front;
+use outside::{Files, Stream};
+use policy_model::Setup;
+use setup_reading::read_setup_file;
+use std::alloc::Global;
+
+/// How many bytes of a log are read: one more than 1,048,576 lines of 256 bytes have.
+const LOG_MAX: usize = 268_435_457;
+
+/// The exit status of a program that ends by what came of the mode: 0 for a legal log and 14 for
+/// another, else 3, 4, 5, 9 or 11.
+pub fn status(outcome: Result<Audit, AuditError>) -> u8
+    ensures { result ≡ status_of outcome }
+{
+    match outcome {
+        Ok(answer) => answer_status(answer),
+        Err(error) => error.status(),
+    }
+}
+
+/// The exit status of a program that has told an answer.
+fn answer_status(answer: Audit) -> u8
+    ensures { result ≡ answer_status answer }
+{
+    match answer {
+        Audit::Yes { .. } => 0,
+        Audit::No { .. } => 14,
+    }
+}
+
+/// Runs the mode: reads the setup and then the log, of which the first 268,435,457 bytes count, and
+/// sends one line that says whether the log is legal.
+///
+/// # Errors
+///
+/// The first error, in this order: of the setup, of the log, of the line; memory may be wanted for
+/// each.
+pub fn run_audit<F: Files, E: Stream>(
+    alloc: Global,
+    command: &AuditCommand<'_>,
+    files: &mut F,
+    ends: &mut E,
+) -> Result<Audit, AuditError>
+    ensures outcome { IsOutcome (command_parts command.now) (F.contents files.new) (E.link ends.old)
+        (E.link ends.new) (Rose (F.read_faults files.old) (F.read_faults files.new))
+        (Rose (E.faults ends.old) (E.faults ends.new)) result }
+    ensures untold { ends_before_line result ≡ true → ends.new ≡ ends.old }
+    ensures kept { Goes SameFiles (F.contents files.old) (F.contents files.new) }
+    ensures read_faults { F.read_faults files.old ≤ F.read_faults files.new }
+    ensures replace_faults { F.replace_faults files.old ≤ F.replace_faults files.new }
+    ensures faults { E.faults ends.old ≤ E.faults ends.new }
+{
+    let answer = audit_files(alloc, command, files)?;
+    let line = answer_line(alloc, answer)?;
+    ends.send(line.as_bytes())?;
+    Ok(answer)
+}
+
+/// The answer for the setup and the log of two files.
+fn audit_files<F: Files>(
+    alloc: Global,
+    command: &AuditCommand<'_>,
+    files: &mut F,
+) -> Result<Audit, AuditError>
+    ensures answer { IfOk result (IsAnswered (F.contents files.new) (command_parts command.now)) }
+    ensures error { (error : AuditError) → result ≡ Err error → IsFileError (F.contents files.new)
+        (command_parts command.now) (Rose (F.read_faults files.old) (F.read_faults files.new)) error }
+    ensures kept { Goes SameFiles (F.contents files.old) (F.contents files.new) }
+    ensures read_faults { F.read_faults files.old ≤ F.read_faults files.new }
+    ensures replace_faults { F.replace_faults files.old ≤ F.replace_faults files.new }
+{
+    let setup = read_setup_file(alloc, files, command.setup)?;
+    audit_log(alloc, &setup, files, command.log)
+}
+
+/// The answer for the log of a file.
+fn audit_log<F: Files>(
+    alloc: Global,
+    setup: &Setup,
+    files: &mut F,
+    name: &str,
+) -> Result<Audit, AuditError>
+    ensures answer { IfOk result (λ answer. IfSome (F.contents files.new) (λ there.
+        IsAnswerOf setup.now (there name.now) answer)) }
+    ensures error { (error : AuditError) → result ≡ Err error → IsLogError (F.contents files.new)
+        name.now (Rose (F.read_faults files.old) (F.read_faults files.new)) error }
+    ensures kept { Goes SameFiles (F.contents files.old) (F.contents files.new) }
+    ensures read_faults { F.read_faults files.old ≤ F.read_faults files.new }
+    ensures replace_faults { F.replace_faults files.old ≤ F.replace_faults files.new }
+{
+    let Some(text) = read_front(alloc, files, name, LOG_MAX)? else {
+        return Err(AuditError::LogMissing);
+    };
+    Ok(audit(alloc, setup, text.as_slice())?)
+}

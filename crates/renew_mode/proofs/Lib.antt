@@ -1,0 +1,2 @@
+mod RenewLemmas
+mod RunLemmas

@@ -1,0 +1,152 @@
+use Rattle.std.proofs.Common.{◌≡◌, ℕ, false, List, [], Option, Some, None, Result, Ok, Err, IfSome, refl, ◌∙◌, arith, ◌⊎◌, inl, inr}
+use Rattle.outside.specs.Files.{Contents, MayBeReplaced, Replaced, SameFiles}
+use Rattle.outside.specs.Link.{Link}
+use Rattle.outside.specs.Told.{Goes}
+use Rattle.outside.proofs.Exchanges.{Exchanged-none}
+use Rattle.outside.proofs.Told.{Goes-same, Goes-then}
+use Rattle.file_front.proofs.FrontLemmas.{SameFiles-then}
+use Rattle.request_catalogue.specs.declared.texts.Name.{Name}
+use Rattle.request_catalogue.specs.TextBytes.{name_bytes}
+use Rattle.otp_extended.specs.declared.renewal.Renewed.{Renewed}
+use Rattle.otp_extended.specs.declared.run.Renewal.{Renewal}
+use Rattle.otp_extended.specs.declared.run.RenewalFault.{RenewalFault}
+use Rattle.otp_extended.specs.Commands.{RenewParts}
+use Rattle.otp_extended.specs.Lines.{OnlyReceived}
+use Rattle.otp_extended.specs.Outcome as renewals
+use Rattle.renew_mode.specs.declared.error.RenewError.{RenewError}
+use Rattle.renew_mode.specs.declared.error.RenewError.TheVariants as errors
+use Rattle.renew_mode.specs.declared.basis.Basis.{Basis}
+use Rattle.renew_mode.specs.declared.texts.Texts.{Texts}
+use Rattle.renew_mode.specs.Bases.{HasBasis, IsFileError}
+use Rattle.renew_mode.specs.Errors.{may_be_written}
+use Rattle.renew_mode.specs.Outcome.{IsOutcome, IsRead, Spares}
+use Rattle.renew_mode.specs.Renewing.{AreTexts, IsMade, IsPut, IsRenewing}
+use Rattle.renew_mode.proofs.RenewLemmas.{HasBasis-before}
+
+-- ---- files that stayed as they were, and were then written
+
+same-files : (contents : Option Contents) → Goes SameFiles contents contents
+same-files contents = Goes-same SameFiles (λ files. record { same = λ name. refl }) contents
+
+same-replaced : (name bytes : List ℕ) (a b c : Option Contents) → Goes SameFiles a b → Goes (Replaced name bytes) b c → Goes (Replaced name bytes) a c
+same-replaced name bytes = Goes-then SameFiles (Replaced name bytes) (Replaced name bytes) (λ a b c first second. record {
+  file = second.file;
+  others = λ other ne. second.others other ne ∙ first.same other;
+})
+
+same-may_be_replaced : (name bytes : List ℕ) (a b c : Option Contents) → Goes SameFiles a b → Goes (MayBeReplaced name bytes) b c → Goes (MayBeReplaced name bytes) a c
+same-may_be_replaced name bytes = Goes-then SameFiles (MayBeReplaced name bytes) (MayBeReplaced name bytes) (λ a b c first second. record { either = go a b c first second.either }) where
+  go : (a b c : Contents) → SameFiles a b → SameFiles b c ⊎ Replaced name bytes b c → SameFiles a c ⊎ Replaced name bytes a c
+  go a b c first (inl same) = inl (record { same = λ name. same.same name ∙ first.same name })
+  go a b c first (inr written) = inr (record { file = written.file; others = λ other ne. written.others other ne ∙ first.same other })
+
+-- ---- nothing passed
+
+nothing-received : (link : Option Link) → Goes OnlyReceived link link
+nothing-received link = Goes-same OnlyReceived (λ l. record { received = []; few = omega arith; passed = Exchanged-none l }) link
+
+-- ---- where the setup and the word list were read
+
+-- what failed of the writing and the sending
+pub IsRenewing-put : {parts : RenewParts} {basis : Basis} (R E E' : Type 0) (renewed : Renewed) (texts : Texts) (a c : Option Contents) (before between after : Option Link) (error : RenewError) → IsMade parts basis renewed texts before between → (E → E') → IsPut texts a c between after R E (Err error) → IsRenewing parts basis a c before after R E' (Err error)
+IsRenewing-put R E E' renewed texts a c before between after errors.ReplaceFailed made e put = (texts, between, renewed, made, put)
+IsRenewing-put R E E' renewed texts a c before between after errors.SendFailed made e put = (texts, between, renewed, made, (e put.0, put.1, put.2))
+IsRenewing-put R E E' renewed texts a c before between after errors.ReadFailed made e put = absurd put
+IsRenewing-put R E E' renewed texts a c before between after errors.SetupMissing made e put = absurd put
+IsRenewing-put R E E' renewed texts a c before between after (errors.SetupRefused fault) made e put = absurd put
+IsRenewing-put R E E' renewed texts a c before between after errors.WordsMissing made e put = absurd put
+IsRenewing-put R E E' renewed texts a c before between after (errors.WordsRefused fault) made e put = absurd put
+IsRenewing-put R E E' renewed texts a c before between after (errors.NoRenewal fault) made e put = absurd put
+IsRenewing-put R E E' renewed texts a c before between after errors.OutOfMemory made e put = absurd put
+
+-- the input renews nothing
+pub IsRenewing-none : {parts : RenewParts} {basis : Basis} {E : Type 0} (R : Type 0) (user : Name) (contents : Option Contents) (before after : Option Link) (fault : RenewalFault) → name_bytes user ≡ parts.user → renewals.IsOutcome basis.setup basis.dictionary user before after E (Err fault) → IsRenewing parts basis contents contents before after R E (Err (errors.NoRenewal fault))
+IsRenewing-none R user contents before after fault named comes = (record { user = user; named = named; comes = comes }, same-files contents)
+
+-- the same over files that stayed as they were before
+IsRead-later : (parts : RenewParts) (basis : Basis) (R E : Type 0) (Step : Contents → Contents → Type 0) (a b c : Option Contents) (before after : Option Link) (result : Result Renewed RenewError) → Goes SameFiles a b → Goes Step b c → IfSome b (HasBasis parts.setup basis) → IsRenewing parts basis a c before after R E result → IsRead parts a c before after R E result
+IsRead-later parts basis R E Step a b c before after result goes step has renewing =
+    record { basis = basis; stood = HasBasis-before a b c parts.setup basis Step goes step has; renewing = renewing }
+
+pub IsOutcome-read : (parts : RenewParts) (basis : Basis) (R R' E : Type 0) (a b c : Option Contents) (before after : Option Link) (ReadFailed : Type 0) (result : Result Renewed RenewError) → Goes SameFiles a b → IfSome b (HasBasis parts.setup basis) → (R → R') → IsRenewing parts basis b c before after R E result → IsOutcome parts a c before after ReadFailed R' E result
+IsOutcome-read parts basis R R' E a b c before after ReadFailed (Ok renewed) goes has r h =
+    IsRead-later parts basis R' E (Replaced h.0.file h.0.bytes.items) a b c before after (Ok renewed) goes h.3.0 has (h.0, h.1, h.2, (same-replaced h.0.file h.0.bytes.items a b c goes h.3.0, h.3.1))
+IsOutcome-read parts basis R R' E a b c before after ReadFailed (Err (errors.NoRenewal fault)) goes has r h =
+    IsRead-later parts basis R' E SameFiles a b c before after (Err (errors.NoRenewal fault)) goes h.1 has (h.0, SameFiles-then a b c goes h.1)
+IsOutcome-read parts basis R R' E a b c before after ReadFailed (Err errors.ReplaceFailed) goes has r h =
+    IsRead-later parts basis R' E (MayBeReplaced h.0.file h.0.bytes.items) a b c before after (Err errors.ReplaceFailed) goes h.4.1 has (h.0, h.1, h.2, h.3, (r h.4.0, same-may_be_replaced h.0.file h.0.bytes.items a b c goes h.4.1, h.4.2))
+IsOutcome-read parts basis R R' E a b c before after ReadFailed (Err errors.SendFailed) goes has r h =
+    IsRead-later parts basis R' E (Replaced h.0.file h.0.bytes.items) a b c before after (Err errors.SendFailed) goes h.4.1 has (h.0, h.1, h.2, h.3, (h.4.0, same-replaced h.0.file h.0.bytes.items a b c goes h.4.1, h.4.2))
+IsOutcome-read parts basis R R' E a b c before after ReadFailed (Err errors.OutOfMemory) goes has r h = (SameFiles-then a b c goes h.1, h.0)
+IsOutcome-read parts basis R R' E a b c before after ReadFailed (Err errors.ReadFailed) goes has r h = absurd h.4
+IsOutcome-read parts basis R R' E a b c before after ReadFailed (Err errors.SetupMissing) goes has r h = absurd h.4
+IsOutcome-read parts basis R R' E a b c before after ReadFailed (Err (errors.SetupRefused fault)) goes has r h = absurd h.4
+IsOutcome-read parts basis R R' E a b c before after ReadFailed (Err errors.WordsMissing) goes has r h = absurd h.4
+IsOutcome-read parts basis R R' E a b c before after ReadFailed (Err (errors.WordsRefused fault)) goes has r h = absurd h.4
+
+-- ---- where they were not read
+
+pub IsOutcome-unread : (parts : RenewParts) (a b : Option Contents) (link : Option Link) (ReadFailed ReplaceFailed EndsFailed : Type 0) (error : RenewError) → IsFileError b parts.setup ReadFailed error → Goes SameFiles a b → IsOutcome parts a b link link ReadFailed ReplaceFailed EndsFailed (Err error)
+IsOutcome-unread parts a b link R P E errors.ReadFailed why goes = record { why = why; files = goes; ends = refl }
+IsOutcome-unread parts a b link R P E errors.SetupMissing why goes = record { why = why; files = goes; ends = refl }
+IsOutcome-unread parts a b link R P E (errors.SetupRefused fault) why goes = record { why = why; files = goes; ends = refl }
+IsOutcome-unread parts a b link R P E errors.WordsMissing why goes = record { why = why; files = goes; ends = refl }
+IsOutcome-unread parts a b link R P E (errors.WordsRefused fault) why goes = record { why = why; files = goes; ends = refl }
+IsOutcome-unread parts a b link R P E errors.OutOfMemory why goes = (goes, nothing-received link)
+IsOutcome-unread parts a b link R P E (errors.NoRenewal fault) why goes = absurd why
+IsOutcome-unread parts a b link R P E errors.ReplaceFailed why goes = absurd why
+IsOutcome-unread parts a b link R P E errors.SendFailed why goes = absurd why
+
+-- the line and the bytes of a renewal of a user
+pub IsMade-of : (parts : RenewParts) (basis : Basis) (user : Name) (renewal : Renewal) (texts : Texts) (before between : Option Link) → name_bytes user ≡ parts.user → Goes (renewals.Comes basis.setup basis.dictionary user (Ok renewal)) before between → AreTexts parts renewal texts → IsMade parts basis renewal.renewed texts before between
+IsMade-of parts basis user renewal texts before between named comes texts_are = record {
+  renewal = renewal;
+  renewed_is = refl;
+  received = record { user = user; named = named; comes = comes };
+  texts_are = texts_are;
+}
+
+-- ---- what is written
+
+same-spares : (name : List ℕ) (a b : Option Contents) → Goes SameFiles a b → Goes (Spares name) a b
+same-spares name a None goes = tt
+same-spares name None (Some b) goes = absurd goes
+same-spares name (Some a) (Some b) goes = record { others = λ other _. goes.same other }
+
+replaced-spares : (file name bytes : List ℕ) (a b : Option Contents) → file ≡ name → Goes (Replaced file bytes) a b → Goes (Spares name) a b
+replaced-spares file name bytes a None is goes = tt
+replaced-spares file name bytes None (Some b) is goes = absurd goes
+replaced-spares file name bytes (Some a) (Some b) is goes = record { others = λ other ne. goes.others other (λ e. ne (e ∙ is)) }
+
+may_be_replaced-spares : (file name bytes : List ℕ) (a b : Option Contents) → file ≡ name → Goes (MayBeReplaced file bytes) a b → Goes (Spares name) a b
+may_be_replaced-spares file name bytes a None is goes = tt
+may_be_replaced-spares file name bytes None (Some b) is goes = absurd goes
+may_be_replaced-spares file name bytes (Some a) (Some b) is goes = go goes.either where
+  go : SameFiles a b ⊎ Replaced file bytes a b → Spares name a b
+  go (inl same) = record { others = λ other _. same.same other }
+  go (inr written) = record { others = λ other ne. written.others other (λ e. ne (e ∙ is)) }
+
+-- no file but the setup's is another than before
+pub IsOutcome-spares : (parts : RenewParts) (a b : Option Contents) (before after : Option Link) (ReadFailed ReplaceFailed EndsFailed : Type 0) (result : Result Renewed RenewError) → IsOutcome parts a b before after ReadFailed ReplaceFailed EndsFailed result → Goes (Spares parts.setup) a b
+IsOutcome-spares parts a b before after R P E (Ok renewed) h = let r = h.renewing in replaced-spares r.0.file parts.setup r.0.bytes.items a b r.2.texts_are.file r.3.0
+IsOutcome-spares parts a b before after R P E (Err errors.SendFailed) h = let r = h.renewing in replaced-spares r.0.file parts.setup r.0.bytes.items a b r.3.texts_are.file r.4.1
+IsOutcome-spares parts a b before after R P E (Err errors.ReplaceFailed) h = let r = h.renewing in may_be_replaced-spares r.0.file parts.setup r.0.bytes.items a b r.3.texts_are.file r.4.1
+IsOutcome-spares parts a b before after R P E (Err (errors.NoRenewal fault)) h = same-spares parts.setup a b h.renewing.1
+IsOutcome-spares parts a b before after R P E (Err errors.OutOfMemory) h = same-spares parts.setup a b h.0
+IsOutcome-spares parts a b before after R P E (Err errors.ReadFailed) h = same-spares parts.setup a b h.files
+IsOutcome-spares parts a b before after R P E (Err errors.SetupMissing) h = same-spares parts.setup a b h.files
+IsOutcome-spares parts a b before after R P E (Err (errors.SetupRefused fault)) h = same-spares parts.setup a b h.files
+IsOutcome-spares parts a b before after R P E (Err errors.WordsMissing) h = same-spares parts.setup a b h.files
+IsOutcome-spares parts a b before after R P E (Err (errors.WordsRefused fault)) h = same-spares parts.setup a b h.files
+
+pub IsOutcome-unwritten : (parts : RenewParts) (a b : Option Contents) (before after : Option Link) (ReadFailed ReplaceFailed EndsFailed : Type 0) (result : Result Renewed RenewError) → IsOutcome parts a b before after ReadFailed ReplaceFailed EndsFailed result → may_be_written result ≡ false → Goes SameFiles a b
+IsOutcome-unwritten parts a b before after R P E (Ok renewed) h none = absurd cc
+IsOutcome-unwritten parts a b before after R P E (Err errors.SendFailed) h none = absurd cc
+IsOutcome-unwritten parts a b before after R P E (Err errors.ReplaceFailed) h none = absurd cc
+IsOutcome-unwritten parts a b before after R P E (Err (errors.NoRenewal fault)) h none = h.renewing.1
+IsOutcome-unwritten parts a b before after R P E (Err errors.OutOfMemory) h none = h.0
+IsOutcome-unwritten parts a b before after R P E (Err errors.ReadFailed) h none = h.files
+IsOutcome-unwritten parts a b before after R P E (Err errors.SetupMissing) h none = h.files
+IsOutcome-unwritten parts a b before after R P E (Err (errors.SetupRefused fault)) h none = h.files
+IsOutcome-unwritten parts a b before after R P E (Err errors.WordsMissing) h none = h.files
+IsOutcome-unwritten parts a b before after R P E (Err (errors.WordsRefused fault)) h none = h.files

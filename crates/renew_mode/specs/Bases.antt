@@ -1,0 +1,34 @@
+-- Believed: the setup and the word list of a renewal, or why there are none.
+use Rattle.std.specs.Prelude.{◌≡◌, ℕ, List, Option, Some, Ok}
+use Rattle.outside.specs.Files.{Contents}
+use Rattle.policy_model.specs.Settings.{Settings}
+use Rattle.file_front.specs.declared.list.ListError.{ListError}
+use Rattle.file_front.specs.declared.list.ListError.TheVariants as list_errors
+use Rattle.file_front.specs.Lists.{IsJudgedSo, IsListFault}
+use Rattle.account_file.specs.Entries.{entries_of}
+use Rattle.setup_reading.specs.declared.reading.SetupFileError.TheVariants as setup_errors
+use Rattle.setup_reading.specs.Read.{IsSetupError, IsSetupIn, setup_in}
+use Rattle.renew_mode.specs.declared.error.RenewError.{RenewError}
+use Rattle.renew_mode.specs.declared.error.RenewError.TheVariants as errors
+use Rattle.renew_mode.specs.declared.basis.Basis.{Basis}
+
+-- the file of this name spells the setup, and the file that the setup names has the words
+pub record HasBasis (name : List ℕ) (basis : Basis) (files : Contents) : Type 0 where
+  pub spelled : setup_in files name ≡ Some (Ok (entries_of basis.setup))
+  pub listed : IsJudgedSo (Some files) basis.setup.words (Ok basis.dictionary)
+
+-- the file of this name spells a setup, and the word list of the name that it gives was not read
+pub record IsListError (contents : Option Contents) (name : List ℕ) (ReadFailed : Type 0) (error : ListError) : Type 0 where
+  pub setup : Settings
+  pub spelled : IsSetupIn contents name setup
+  pub unread : IsListFault contents setup.words ReadFailed error
+
+-- why there is no setup or no word list: a reading failed, a file is missing or refused, or memory was wanted
+abbrev pub IsFileError : Option Contents → List ℕ → Type 0 → RenewError → Type 0
+IsFileError contents name ReadFailed errors.ReadFailed = ReadFailed
+IsFileError contents name ReadFailed errors.SetupMissing = IsSetupError contents name ReadFailed setup_errors.Missing
+IsFileError contents name ReadFailed (errors.SetupRefused fault) = IsSetupError contents name ReadFailed (setup_errors.Refused fault)
+IsFileError contents name ReadFailed errors.WordsMissing = IsListError contents name ReadFailed list_errors.Missing
+IsFileError contents name ReadFailed (errors.WordsRefused fault) = IsListError contents name ReadFailed (list_errors.Refused fault)
+IsFileError contents name ReadFailed errors.OutOfMemory = Unit {0}
+IsFileError contents name ReadFailed _ = ⊥

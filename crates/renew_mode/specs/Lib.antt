@@ -1,0 +1,4 @@
+pub mod Errors
+pub mod Bases
+pub mod Renewing
+pub mod Outcome

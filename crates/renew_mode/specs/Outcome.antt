@@ -1,0 +1,45 @@
+-- Believed: what the mode `renew` came to, and why.
+use Rattle.std.specs.Prelude.{◌≡◌, ◌≢◌, ℕ, List, Option, Result, Ok, Err}
+use Rattle.outside.specs.Files.{Contents, SameFiles}
+use Rattle.outside.specs.Link.{Link}
+use Rattle.outside.specs.Told.{Goes}
+use Rattle.otp_extended.specs.declared.renewal.Renewed.{Renewed}
+use Rattle.otp_extended.specs.Commands.{RenewParts}
+use Rattle.otp_extended.specs.Lines.{OnlyReceived}
+use Rattle.renew_mode.specs.declared.error.RenewError.{RenewError}
+use Rattle.renew_mode.specs.declared.error.RenewError.TheVariants as errors
+use Rattle.renew_mode.specs.declared.basis.Basis.{Basis}
+use Rattle.renew_mode.specs.Bases.{HasBasis, IsFileError}
+use Rattle.renew_mode.specs.Renewing.{IsRenewing}
+
+-- no setup or no word list was read; nothing was received, sent or written
+pub record IsUnread (parts : RenewParts) (old new : Option Contents) (before after : Option Link) (ReadFailed : Type 0) (error : RenewError) : Type 0 where
+  pub why : IsFileError new parts.setup ReadFailed error
+  pub files : Goes SameFiles old new
+  pub ends : after ≡ before
+
+-- the files, as they stood before, hold a setup and a word list, on which this came of the input
+pub record IsRead (parts : RenewParts) (old new : Option Contents) (before after : Option Link) (ReplaceFailed EndsFailed : Type 0) (result : Result Renewed RenewError) : Type 0 where
+  pub basis : Basis
+  pub stood : Goes (λ files _. HasBasis parts.setup basis files) old new
+  pub renewing : IsRenewing parts basis old new before after ReplaceFailed EndsFailed result
+
+-- what came of the mode, by what the files and the ends told before and after, and whether a reading or a replacing of a file and a
+-- call on the ends failed; where memory was wanted, nothing was sent or written
+abbrev pub IsOutcome : RenewParts → Option Contents → Option Contents → Option Link → Option Link → Type 0 → Type 0 → Type 0 → Result Renewed RenewError → Type 0
+IsOutcome parts old new before after ReadFailed ReplaceFailed EndsFailed (Ok renewed) =
+    IsRead parts old new before after ReplaceFailed EndsFailed (Ok renewed)
+IsOutcome parts old new before after ReadFailed ReplaceFailed EndsFailed (Err (errors.NoRenewal fault)) =
+    IsRead parts old new before after ReplaceFailed EndsFailed (Err (errors.NoRenewal fault))
+IsOutcome parts old new before after ReadFailed ReplaceFailed EndsFailed (Err errors.ReplaceFailed) =
+    IsRead parts old new before after ReplaceFailed EndsFailed (Err errors.ReplaceFailed)
+IsOutcome parts old new before after ReadFailed ReplaceFailed EndsFailed (Err errors.SendFailed) =
+    IsRead parts old new before after ReplaceFailed EndsFailed (Err errors.SendFailed)
+IsOutcome parts old new before after ReadFailed ReplaceFailed EndsFailed (Err errors.OutOfMemory) =
+    Goes SameFiles old new × Goes OnlyReceived before after
+IsOutcome parts old new before after ReadFailed ReplaceFailed EndsFailed (Err error) =
+    IsUnread parts old new before after ReadFailed error
+
+-- each file but the one of this name is as it was
+pub record Spares (name : List ℕ) (before after : Contents) : Type 0 where
+  pub others : (other : List ℕ) → other ≢ name → after other ≡ before other

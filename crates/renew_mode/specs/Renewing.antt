@@ -1,0 +1,59 @@
+-- Believed: what comes of a response where the setup and the word list were read.
+use Rattle.std.specs.Prelude.{◌≡◌, [], Option, Result, Ok, Err}
+use Rattle.outside.specs.Files.{Contents, MayBeReplaced, Replaced, SameFiles}
+use Rattle.outside.specs.Link.{Exchanged, Link, SendsPart}
+use Rattle.outside.specs.Told.{Goes}
+use Rattle.request_catalogue.specs.declared.texts.Name.{Name}
+use Rattle.request_catalogue.specs.TextBytes.{name_bytes}
+use Rattle.account_file.specs.Entries.{entries_of}
+use Rattle.account_file.specs.Setups.{setup_of}
+use Rattle.otp_extended.specs.declared.renewal.Renewed.{Renewed}
+use Rattle.otp_extended.specs.declared.run.Renewal.{Renewal}
+use Rattle.otp_extended.specs.declared.run.RenewalFault.{RenewalFault}
+use Rattle.otp_extended.specs.Commands.{RenewParts, renewed_line}
+use Rattle.otp_extended.specs.Lines.{OnlyReceived}
+use Rattle.otp_extended.specs.Outcome as renewals
+use Rattle.renew_mode.specs.declared.error.RenewError.{RenewError}
+use Rattle.renew_mode.specs.declared.error.RenewError.TheVariants as errors
+use Rattle.renew_mode.specs.declared.basis.Basis.{Basis}
+use Rattle.renew_mode.specs.declared.texts.Texts.{Texts}
+
+-- what is written and sent of a renewal: the bytes spell the new setup
+pub record AreTexts (parts : RenewParts) (renewal : Renewal) (texts : Texts) : Type 0 where
+  pub file : texts.file ≡ parts.setup
+  pub spelled : setup_of texts.bytes.items ≡ Ok (entries_of renewal.setup)
+  pub line : texts.line.items ≡ renewed_line parts.user renewal.renewed.sequence
+
+-- this came of the first line of the input as a response of the user; nothing was sent
+pub record ComesOf (parts : RenewParts) (basis : Basis) (before after : Option Link) (EndsFailed : Type 0) (result : Result Renewal RenewalFault) : Type 0 where
+  pub user : Name
+  pub named : name_bytes user ≡ parts.user
+  pub comes : renewals.IsOutcome basis.setup basis.dictionary user before after EndsFailed result
+
+-- the response was received, and renews the account; a setup file with it was to be written, and the line to be sent
+pub record IsMade (parts : RenewParts) (basis : Basis) (renewed : Renewed) (texts : Texts) (before between : Option Link) : Type 0 where
+  pub renewal : Renewal
+  pub renewed_is : renewed ≡ renewal.renewed
+  pub received : ComesOf parts basis before between ⊥ (Ok renewal)
+  pub texts_are : AreTexts parts renewal texts
+
+-- the file was replaced, and then the line sent, or what failed of these
+abbrev pub IsPut : Texts → Option Contents → Option Contents → Option Link → Option Link → Type 0 → Type 0 → Result (Unit {0}) RenewError → Type 0
+IsPut texts old new before after ReplaceFailed EndsFailed (Ok _) =
+    Goes (Replaced texts.file texts.bytes.items) old new × Goes (Exchanged [] texts.line.items) before after
+IsPut texts old new before after ReplaceFailed EndsFailed (Err errors.ReplaceFailed) =
+    ReplaceFailed × Goes (MayBeReplaced texts.file texts.bytes.items) old new × (after ≡ before)
+IsPut texts old new before after ReplaceFailed EndsFailed (Err errors.SendFailed) =
+    EndsFailed × Goes (Replaced texts.file texts.bytes.items) old new × SendsPart texts.line.items before after
+IsPut texts old new before after ReplaceFailed EndsFailed (Err _) = ⊥
+
+-- what came of a response, by what the files and the ends told before and after, and whether a replacing and a call on the ends failed
+abbrev pub IsRenewing : RenewParts → Basis → Option Contents → Option Contents → Option Link → Option Link → Type 0 → Type 0 → Result Renewed RenewError → Type 0
+IsRenewing parts basis old new before after ReplaceFailed EndsFailed (Ok renewed) =
+    (texts : Texts) × (between : Option Link) × IsMade parts basis renewed texts before between × IsPut texts old new between after ReplaceFailed EndsFailed (Ok tt)
+IsRenewing parts basis old new before after ReplaceFailed EndsFailed (Err (errors.NoRenewal fault)) =
+    ComesOf parts basis before after EndsFailed (Err fault) × Goes SameFiles old new
+IsRenewing parts basis old new before after ReplaceFailed EndsFailed (Err errors.OutOfMemory) =
+    Goes OnlyReceived before after × Goes SameFiles old new
+IsRenewing parts basis old new before after ReplaceFailed EndsFailed (Err error) =
+    (texts : Texts) × (between : Option Link) × (renewed : Renewed) × IsMade parts basis renewed texts before between × IsPut texts old new between after ReplaceFailed EndsFailed (Err error)

@@ -1,0 +1,14 @@
+//! The mode `renew`: a user's new chain of passwords is written into the setup file, by a response that
+//! proves the old one. Believe `specs/Outcome.antt` and the files that it names.
+#![tactic(auto)]
+
+mod basis;
+mod error;
+mod run;
+mod texts;
+
+pub use error::RenewError;
+pub use run::{run_renew, status};
+
+#[cfg(test)]
+mod tests;

@@ -1,0 +1,97 @@
+//! The mode.
+
+ghost use Rattle.std.specs.Prelude.{◌≡◌, ◌≤◌, false, true};
+ghost use Rattle.outside.specs.Files.{SameFiles};
+ghost use Rattle.outside.specs.Told.{Goes, Rose};
+ghost use Rattle.otp_extended.specs.Commands.{command_parts};
+ghost use Rattle.renew_mode.specs.Errors.{ends_before_input, may_be_written, status_of};
+ghost use Rattle.renew_mode.specs.Outcome.{IsOutcome, Spares};
+ghost use Rattle.renew_mode.specs.Renewing.{IsPut, IsRenewing};
+
+use crate::basis::{Basis, read_basis};
+use crate::error::RenewError;
+use crate::texts::{Texts, texts_of};
+use otp_extended::{RenewCommand, Renewed, receive_renewal};
+use outside::{Files, Stream};
+use std::alloc::Global;
+
+/// The exit status of a program that ends by what came of the mode: 0 for a renewal, else 3, 4, 5, 8,
+/// 9, 11, 12 or 15.
+pub fn status(outcome: Result<Renewed, RenewError>) -> u8
+    ensures { result ≡ status_of outcome }
+{
+    match outcome {
+        Ok(_) => 0,
+        Err(error) => error.status(),
+    }
+}
+
+/// Runs the mode: reads the setup and then the word list that it names, receives the first line of the
+/// input, and takes it as a response for the user. It replaces the setup's file by one that spells the
+/// setup with that user's new chain, and sends one line that says so. Comments and spacing of the file
+/// are not kept.
+///
+/// # Errors
+///
+/// The first error, in this order: of the setup, of the word list, of the receiving, of the response, of
+/// the renewal, of memory, of the replacing, of the sending; memory may also be wanted at a file. The
+/// file is replaced only where none of them came before.
+pub fn run_renew<F: Files, E: Stream>(
+    alloc: Global,
+    command: &RenewCommand<'_>,
+    files: &mut F,
+    ends: &mut E,
+) -> Result<Renewed, RenewError>
+    ensures outcome { IsOutcome (command_parts command.now) (F.contents files.old) (F.contents files.new)
+        (E.link ends.old) (E.link ends.new) (Rose (F.read_faults files.old) (F.read_faults files.new))
+        (Rose (F.replace_faults files.old) (F.replace_faults files.new))
+        (Rose (E.faults ends.old) (E.faults ends.new)) result }
+    ensures at_files { ends_before_input result ≡ true → ends.new ≡ ends.old }
+    ensures spares { Goes (Spares command.now.setup.now) (F.contents files.old) (F.contents files.new) }
+    ensures unwritten { may_be_written result ≡ false → Goes SameFiles (F.contents files.old) (F.contents files.new) }
+    ensures read_faults { F.read_faults files.old ≤ F.read_faults files.new }
+    ensures replace_faults { F.replace_faults files.old ≤ F.replace_faults files.new }
+    ensures faults { E.faults ends.old ≤ E.faults ends.new }
+{
+    let basis = read_basis(alloc, files, command.setup)?;
+    renew_account(alloc, command, &basis, files, ends)
+}
+
+/// Receives the response, writes the new setup and tells it.
+fn renew_account<F: Files, E: Stream>(
+    alloc: Global,
+    command: &RenewCommand<'_>,
+    basis: &Basis,
+    files: &mut F,
+    ends: &mut E,
+) -> Result<Renewed, RenewError>
+    ensures outcome { IsRenewing (command_parts command.now) basis.now (F.contents files.old) (F.contents files.new)
+        (E.link ends.old) (E.link ends.new) (Rose (F.replace_faults files.old) (F.replace_faults files.new))
+        (Rose (E.faults ends.old) (E.faults ends.new)) result }
+    ensures read_faults { F.read_faults files.old ≤ F.read_faults files.new }
+    ensures replace_faults { F.replace_faults files.old ≤ F.replace_faults files.new }
+    ensures faults { E.faults ends.old ≤ E.faults ends.new }
+{
+    let renewal = receive_renewal(alloc, &basis.setup, &basis.dictionary, &command.user, ends)?;
+    let texts = texts_of(alloc, command, &renewal)?;
+    put(&texts, files, ends)?;
+    Ok(renewal.renewed)
+}
+
+/// Writes the new setup, and then tells it.
+fn put<F: Files, E: Stream>(texts: &Texts, files: &mut F, ends: &mut E) -> Result<(), RenewError>
+    ensures put { IsPut texts.now (F.contents files.old) (F.contents files.new) (E.link ends.old) (E.link ends.new)
+        (Rose (F.replace_faults files.old) (F.replace_faults files.new))
+        (Rose (E.faults ends.old) (E.faults ends.new)) result }
+    ensures read_faults { F.read_faults files.old ≤ F.read_faults files.new }
+    ensures replace_faults { F.replace_faults files.old ≤ F.replace_faults files.new }
+    ensures faults { E.faults ends.old ≤ E.faults ends.new }
+{
+    if files.replace(&texts.file, texts.bytes.as_slice()).is_err() {
+        return Err(RenewError::ReplaceFailed);
+    }
+    if ends.send(texts.line.as_slice()).is_err() {
+        return Err(RenewError::SendFailed);
+    }
+    Ok(())
+}
