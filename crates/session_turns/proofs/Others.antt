@@ -131,8 +131,8 @@ others_more : (setup : Settings) (worker : ℕ) (old new rest back : List Event)
 others_more setup worker old new [] back joined run none = subst (OthersJoined setup worker old) (sym (append-nil new)) joined
 others_more setup worker old new (e ∷ es) back joined run none =
     let later : e.worker ≢ worker → own worker es ≡ [] → OthersJoined setup worker old ((new ++ e ∷ []) ++ es) = λ ne rest.
-        let more = others_push setup worker old new e joined (event_at setup new e (es ++ back) run) ne in
-        others_more setup worker old (new ++ e ∷ []) es back more (subst (IsRun setup) (sym (append_assoc new (e ∷ []) (es ++ back))) run) rest in
+    let more = others_push setup worker old new e joined (event_at setup new e (es ++ back) run) ne in
+    others_more setup worker old (new ++ e ∷ []) es back more (subst (IsRun setup) (sym (append_assoc new (e ∷ []) (es ++ back))) run) rest in
     subst (OthersJoined setup worker old) (append_assoc new (e ∷ []) es) (go (eqb e.worker worker) refl none later) where
       go : (b : Bool) → eqb e.worker worker ≡ b → cond b (e ∷ own worker es) (own worker es) ≡ [] → (e.worker ≢ worker → own worker es ≡ [] → OthersJoined setup worker old ((new ++ e ∷ []) ++ es)) → OthersJoined setup worker old ((new ++ e ∷ []) ++ es)
       go true is h later = absurd cc

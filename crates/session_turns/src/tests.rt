@@ -36,9 +36,7 @@ fn begin_and_end<W: Wait>(
     ensures may { IsPassAt setup.now cell.now pass.new }
     ensures number { pass.new.number ≡ pass.old.number }
 {
-    let end = Ask::End {
-        why: Why::Finished,
-    };
+    let end = Ask::End { why: Why::Finished };
     let first = ask_once(rt, setup, cell, pass, Ask::Begin);
     let last = ask_once(rt, setup, cell, pass, end);
     first.decision == Decision::Permit { value: 1 }

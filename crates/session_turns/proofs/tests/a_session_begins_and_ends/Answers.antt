@@ -1,5 +1,4 @@
-use Rattle.std.proofs.Common.{◌≡◌, ◌<◌, ℕ, ap, arith, length, sym, ◌∙◌}
-use Rattle.turn_cell.specs.Facts.{first_pass}
+use Rattle.std.proofs.Common.{◌≡◌, ap, arith, length, ◌∙◌}
 use Rattle.session_turns.proofs.Passes.{one_back}
 use Rattle.session_turns.proofs.tests.a_session_begins_and_ends.Goals as goal
 
