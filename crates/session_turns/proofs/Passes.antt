@@ -30,7 +30,7 @@ first_is setup place number opened below = record {
 }
 
 -- each pass of a new cell
-pub new_are : (setup : Settings) (place : CellFacts (Option Opened)) (passes : List (BookPass)) → OpenedBy setup place.terms → place.passes ≡ setup.workers → AreNewPasses place passes → All (IsPassAt setup place) passes
+pub new_are : (setup : Settings) (place : CellFacts (Option Opened)) (passes : List BookPass) → OpenedBy setup place.terms → place.passes ≡ setup.workers → AreNewPasses place passes → All (IsPassAt setup place) passes
 new_are setup place passes opened count (long, new) k d lt = subst (IsPassAt setup place) (sym (new k d lt)) (first_is setup place k opened (omega (arith, long, count, lt)))
 
 -- 2. After a call

@@ -23,7 +23,8 @@ pub fn open_cell<K: Sink>(
     book: Book<K>,
 ) -> Result<(TurnCell<Book<K>>, Vec<Pass<Book<K>>>), (Book<K>, AllocError)>
     requires empty { book.journal ≡ [] }
-    ensures cell { IfOk result (λ r. IsCellOf r.0 (Some (opened_of book)) (setup_of book.core).workers (quota_of (setup_of book.core))) }
+    ensures cell { let setup = setup_of book.core in
+        IfOk result (λ r. IsCellOf r.0 (Some (opened_of book)) setup.workers (quota_of setup)) }
     ensures new { IfOk result (λ r. AreNewPasses r.0 r.1.items) }
     ensures may { IfOk result (λ r. All (IsPassAt (setup_of book.core) r.0) r.1.items) }
     ensures back { IfErr result (λ e. e.0 ≡ book) }

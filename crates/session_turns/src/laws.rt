@@ -12,7 +12,7 @@ ghost use Rattle.turn_cell.specs.Facts.{AreNewPasses, CellFacts, HoldsPass};
 
 /// A law: each pass of a new cell over a book may make asks.
 pub fn new_passes_may_ask()
-    ensures { (setup : Settings) (place : CellFacts (Option Opened)) (passes : List (BookPass))
+    ensures { (setup : Settings) (place : CellFacts (Option Opened)) (passes : List BookPass)
         → OpenedBy setup place.terms → place.passes ≡ setup.workers → AreNewPasses place passes
         → All (IsPassAt setup place) passes }
 {}

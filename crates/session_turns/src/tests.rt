@@ -1,7 +1,8 @@
 ghost use Rattle.std.specs.Prelude.{◌≡◌, ◌<◌, [], IfOk};
-ghost use Rattle.session_turns.specs.Passes.{IsPassAt, rights_of};
+ghost use Rattle.session_turns.specs.Joins.{KeepsRights};
+ghost use Rattle.session_turns.specs.Passes.{IsCalled, IsPassAt, MayCall, rights_of};
 
-use crate::{ask_once, close_cell, open_cell};
+use crate::{AtCell, Turns, call_cell, close_cell, open_cell};
 use monitor_book::Book;
 use outside::MemSink;
 use policy_model::{Ask, Decision, Setup, Why};
@@ -24,8 +25,21 @@ fn book_of(alloc: Global, setup: &Setup) -> Result<Book<MemSink>, Fail>
     }
 }
 
-/// Begins a session and ends it; whether both were permitted.
-fn begin_and_end<W: Wait>(
+/// Begins a session and ends it, by any turns; whether both were permitted.
+fn serve<A: Turns>(turns: &mut A) -> bool
+    requires may { A.may turns.old }
+    requires room { 1 < (A.rights turns.old).left }
+    ensures rights { KeepsRights 2 (A.rights turns.old) (A.rights turns.new) }
+    ensures turns { A.keeps turns.old turns.new × (A.setup turns.new ≡ A.setup turns.old) × A.may turns.new }
+{
+    let first = turns.ask(Ask::Begin);
+    let last = turns.ask(Ask::End { why: Why::Finished });
+    first.decision == Decision::Permit { value: 1 }
+        && last.decision == Decision::Permit { value: 0 }
+}
+
+/// The same with a pass of the cell.
+fn serve_at_cell<W: Wait>(
     rt: &W,
     setup: &Setup,
     cell: &TurnCell<Book<MemSink>>,
@@ -36,11 +50,24 @@ fn begin_and_end<W: Wait>(
     ensures may { IsPassAt setup.now cell.now pass.new }
     ensures number { pass.new.number ≡ pass.old.number }
 {
-    let end = Ask::End { why: Why::Finished };
-    let first = ask_once(rt, setup, cell, pass, Ask::Begin);
-    let last = ask_once(rt, setup, cell, pass, end);
-    first.decision == Decision::Permit { value: 1 }
-        && last.decision == Decision::Permit { value: 0 }
+    let call = |pass: &mut Pass<Book<MemSink>>, ask: Ask|
+        requires { MayCall cell.now pass.now ask }
+        ensures { IsCalled pass.entry.now pass.exit.now ask result }
+    { call_cell(rt, cell, pass, ask) };
+    let mut turns = AtCell {
+        setup,
+        cell,
+        pass,
+        call,
+    };
+    let permitted = serve(&mut turns);
+    let AtCell {
+        setup: _,
+        cell: _,
+        pass: _,
+        call: _,
+    } = turns;
+    permitted
 }
 
 /// Whether the book has two events, and the log their lines.
@@ -58,7 +85,7 @@ fn a_session_begins_and_ends(rt: HostRuntime) -> Result<(), Fail> {
     let Ok((cell, mut passes)) = open_cell(rt.alloc(), book) else {
         return Err(Fail::from("memory"));
     };
-    let permitted = begin_and_end(&rt, &setup, &cell, &mut passes[0]);
+    let permitted = serve_at_cell(&rt, &setup, &cell, &mut passes[0]);
     let written = is_written(close_cell(cell, passes));
     assert!(rt; permitted && written);
     Ok(())
