@@ -62,7 +62,7 @@ use Rattle.session_asking.specs.declared.live.LoggedIn.{LoggedIn}
 use Rattle.session_asking.specs.declared.work.Outcome.{Outcome}
 use Rattle.session_asking.specs.Asking.{IsTurnOf, clock_acts, read_value, state_by}
 use Rattle.session_asking.specs.Known.{IsServed, IsStillOpen, Knows, NotesFiles, account_in, file_in, name_after}
-use Rattle.session_asking.specs.Serving.{HasExported, HasServed, IsNewUser, Leaves, Serves, Whose, WentOn, moment}
+use Rattle.session_asking.specs.Serving.{HandsWith, HasExported, HasServed, IsNewUser, Leaves, Serves, Whose, WentOn, moment}
 use Rattle.session_asking.specs.Work.{done_operations}
 use Rattle.session_asking.proofs.Answering.{IsAsked, IsDone, Steps-join, all_played, asked_by_message, is_reply, is_step, known_before, own_session, step_at}
 use Rattle.session_asking.proofs.FileLemmas.{names_after}
@@ -277,7 +277,7 @@ or_true true = refl
 or_true false = refl
 
 -- a session that was handed to its user is served on, with the account that the EXPORT names
-pub handed_on : (setup : Settings) (session : ℕ) (ask : Ask) (user : Option LoggedIn) (rights_old rights_new : Rights) (old new : List Event) (e : Event) → (joins : Joins setup rights_old.worker ask old new e) → IsServed setup rights_old old session user → e.session ≡ session → came_by_frame ask ≡ true → is_proper ask ≡ true → KeepsRights 1 rights_old rights_new → exports e ≡ true → (logged_in : LoggedIn) → IsNewUser logged_in e → IsServed setup rights_new new session (Some logged_in)
+handed_on : (setup : Settings) (session : ℕ) (ask : Ask) (user : Option LoggedIn) (rights_old rights_new : Rights) (old new : List Event) (e : Event) → (joins : Joins setup rights_old.worker ask old new e) → IsServed setup rights_old old session user → e.session ≡ session → came_by_frame ask ≡ true → is_proper ask ≡ true → KeepsRights 1 rights_old rights_new → exports e ≡ true → (logged_in : LoggedIn) → IsNewUser logged_in e → IsServed setup rights_new new session (Some logged_in)
 handed_on setup session ask user rights_old rights_new old new e joins served own request proper rights exported logged_in fresh =
     let is = export_event e exported in
     let h = hands setup rights_old.worker ask old new e joins exported in
@@ -301,6 +301,15 @@ handed_on setup session ask user rights_old rights_new old new e joins served ow
       serving = subst (λ j. IsServing setup j rights_new.worker session) (sym joins.grown) (subst (λ v. IsServing setup (before ++ e ∷ []) v session) (joins.its ∙ sym rights.worker) more.serving);
       known = subst (λ j. Knows setup j session (Some logged_in)) (sym joins.grown) (subst (λ n. Knows setup (before ++ e ∷ []) n (Some logged_in)) own known);
       left = omega (arith, left, made, count);
+    }
+
+-- an EXPORT is one ask more
+pub handed_with : (setup : Settings) (session : ℕ) (ask : Ask) (user : Option LoggedIn) (rights_old rights_new : Rights) (old new : List Event) (e : Event) → (joins : Joins setup rights_old.worker ask old new e) → IsServed setup rights_old old session user → e.session ≡ session → came_by_frame ask ≡ true → is_proper ask ≡ true → KeepsRights 1 rights_old rights_new → exports e ≡ true → HandsWith setup session old rights_new new e
+handed_with setup session ask user rights_old rights_new old new e joins served own request proper rights exported =
+    let more = went setup rights_old.worker session ask old new e joins served.serving request proper (export_event e exported).unended in
+    record {
+      served = handed_on setup session ask user rights_old rights_new old new e joins served own request proper rights exported;
+      asks = ap (λ j. ask_count j session) joins.grown ∙ more.asks ∙ ap (λ n. n + 1) (asks_before setup rights_old.worker session old joins.before joins.others served.serving);
     }
 
 -- an ask that was made, as the clauses of the calls say it

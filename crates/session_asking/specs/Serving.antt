@@ -88,11 +88,16 @@ pub record IsNewUser (user : LoggedIn) (e : Event) : Type 0 where
   pub account : user.account ≡ value_of e.decision
   pub files : (handle : ℕ) → name_in user.files.names handle ≡ None
 
+-- a session whose user's child is next has made one ask more, and that child may be served
+pub record HandsWith (setup : Settings) (session : ℕ) (old : List Event) (rights_new : Rights) (new : List Event) (e : Event) : Type 0 where
+  pub served : (logged_in : LoggedIn) → IsNewUser logged_in e → IsServed setup rights_new new session (Some logged_in)
+  pub asks : ask_count new session ≡ ask_count old session + 1
+
 -- what is left to a worker behind a message: a session that goes on, that is still to be ended, or whose user's child is next
 abbrev pub Leaves : Settings → ℕ → Turn → Rights → List Event → Rights → List Event → Option LoggedIn → Type 0
 Leaves setup session turns.GoesOn rights_old old rights_new new user = WentOn setup session rights_old old rights_new new user
 Leaves setup session (turns.Ends why) rights_old old rights_new new user = IsStillOpen setup rights_new new session
-Leaves setup session (turns.HandsOver e) rights_old old rights_new new user = (logged_in : LoggedIn) → IsNewUser logged_in e → IsServed setup rights_new new session (Some logged_in)
+Leaves setup session (turns.HandsOver e) rights_old old rights_new new user = HandsWith setup session old rights_new new e
 
 -- what is kept of what a session exported: a permitted EXPORT hands on its message's body, and nothing else changes it
 pub record HasReplied (turn : Turn) (body : List ℕ) (old new : List ℕ) : Type 0 where

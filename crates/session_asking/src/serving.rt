@@ -1,6 +1,6 @@
 //! Serving one message.
 
-ghost use Rattle.std.specs.Prelude.{None, ◌≡◌, ◌≢◌, ◌<◌, ◌≤◌, [], ◌∷◌, false, length};
+ghost use Rattle.std.specs.Prelude.{None, is_some, ◌≡◌, ◌≢◌, ◌<◌, ◌≤◌, [], ◌∷◌, false, length};
 ghost use Rattle.imsg_frame.specs.Message.{IsMessage, message_of};
 ghost use Rattle.outside.specs.Faults.{NoneFell};
 ghost use Rattle.policy_model.specs.declared.event.Event.{Event};
@@ -48,6 +48,7 @@ pub fn serve_message<A: Turns, P: Post, L: LiveChild, T: Texts>(
     ensures child { (live.new.session ≡ live.old.session) × (L.role live.new.child ≡ L.role live.old.child) × (L.faults live.old.child ≤ L.faults live.new.child) }
     ensures exported { HasReplied result message.now.body.now (exported_bytes replies.old.exported) (exported_bytes replies.new.exported) }
     ensures replies { (replies.new.texts.now ≡ replies.old.texts.now) × (replies.new.frames.width ≡ replies.old.frames.width) }
+    ensures user { is_some live.new.user ≡ is_some live.old.user }
     ensures once { (e : Event) → result ≡ Turn.HandsOver e → live.old.user ≡ None }
     ensures proper { IsProperTurn result }
     ensures fault { result ≡ Turn.Ends Why.LinkFault → 0 < L.faults live.new.child }

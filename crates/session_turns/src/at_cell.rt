@@ -43,7 +43,7 @@ pub struct AtCell<'a, C, P, F> {
 
 impl<'a, C: SeenCell, P: SeenPass, F: Fn(&mut P, Ask) -> Event> Turns for AtCell<'a, C, P, F> {
     ghost use Rattle.std.specs.Prelude.{◌≡◌};
-    ghost use Rattle.std.proofs.Common.{◌∙◌};
+    ghost use Rattle.std.proofs.Common.{◌∙◌, refl};
     ghost use Rattle.session_turns.specs.Passes.{IsCaller, IsPassAt, rights_of};
 
     ghost may = { λ t. IsPassAt t.setup.now (C.place t.cell.now) (P.facts t.pass.now)
@@ -60,6 +60,8 @@ impl<'a, C: SeenCell, P: SeenPass, F: Fn(&mut P, Ask) -> Event> Turns for AtCell
     fn ask(&mut self, ask: Ask) -> Event {
         (self.call)(self.pass, ask)
     }
+
+    ghost keeps_none = { λ a. (refl, refl) };
 
     ghost keeps_then = { λ a b c p q. (q.0 ∙ p.0, q.1 ∙ p.1) };
 }

@@ -37,5 +37,7 @@ pub trait Turns {
         ensures setup { setup self.new ≡ setup self.old }
         ensures keeps { keeps self.old self.new };
 
+    ghost keeps_none: { (a : Self) → keeps a a };
+
     ghost keeps_then: { (a b c : Self) → keeps a b → keeps b c → keeps a c };
 }

@@ -9,7 +9,7 @@ use Rattle.session_asking.specs.Serving.{whose}
 use Rattle.session_asking.specs.Work.{Does, done_operations, told, told_of}
 use Rattle.session_asking.proofs.Answering.{IsAsked, IsDone, known_before, own_session}
 use Rattle.session_asking.proofs.Knowing.{small_value}
-use Rattle.session_asking.proofs.Served.{handed_on, handed_state, has_exported, is_asked, leaves_after, served_lost, served_part, served_whole, still_open, turn_stays, unlogged}
+use Rattle.session_asking.proofs.Served.{handed_with, handed_state, has_exported, is_asked, leaves_after, served_lost, served_part, served_whole, still_open, turn_stays, unlogged}
 use Rattle.session_asking.proofs.Done.{has_room}
 use Rattle.session_asking.proofs.serving.serve_message.Goals as goal
 
@@ -83,7 +83,7 @@ returns-then-is_export-clause-leaves g c =
     let user = c.args.live.now.user in
     let message = message_of c.args.message.now in
     let is : IsAsked w message read.result ask.result user old new e s t = is_asked w message read.result ask.result user old new e s t (g.A.Turns.setup c.args.turns.now) c.parts.result.now rights.left c.requires.setup (c.parts.ensures.value ∙ c.setup.ensures.value) c.ask-event.ensures.joins c.requires.served ask.ensures.request c.requires.right read.ensures.exact ask.ensures.asks ask.ensures.clock in
-    handed_on service.setup w.session ask.result user rights (g.A.Turns.rights c.ask-event.new.self) old new e is.joins c.requires.served (own_session w message read.result ask.result user old new e s t is) ask.ensures.request ask.ensures.proper c.ask-event.ensures.rights (sym c.is_export.ensures ∙ c.if-is_export.true)
+    handed_with service.setup w.session ask.result user rights (g.A.Turns.rights c.ask-event.new.self) old new e is.joins c.requires.served (own_session w message read.result ask.result user old new e s t is) ask.ensures.request ask.ensures.proper c.ask-event.ensures.rights (sym c.is_export.ensures ∙ c.if-is_export.true)
 
 pub returns-then-is_export-clause-exported : goal.returns-then-is_export-clause-exported
 returns-then-is_export-clause-exported g c =
