@@ -1,0 +1,153 @@
+-- Inner: what serving a child did, turn by turn.
+use Rattle.std.specs.Prelude.{◌≡◌, ◌≢◌, ℕ, ◌+◌, ◌-◌, ◌*◌, ◌<◌, ◌≤◌, Bool, true, false, List, [], ◌∷◌, ◌++◌, Option, Some, None, option_to_list, is_some}
+use Rattle.std.specs.List.{AllByRecursion}
+use Rattle.imsg_frame.specs.Held.{Held}
+use Rattle.imsg_frame.specs.Message.{Message}
+use Rattle.outside.specs.Link.{Exchanged, Link}
+use Rattle.outside.specs.Scene.{Played}
+use Rattle.outside.specs.Told.{Goes}
+use Rattle.policy_model.specs.declared.event.Event.{Event}
+use Rattle.policy_model.specs.declared.event.Why.{Why}
+use Rattle.policy_model.specs.Asks.{exports}
+use Rattle.policy_model.specs.Journal.{ask_count}
+use Rattle.policy_model.specs.Settings.{Settings}
+use Rattle.request_catalogue.specs.declared.width.Width.{Width}
+use Rattle.request_catalogue.specs.Widths.{frame_max}
+use Rattle.child_keeper.specs.Tickets.{NamesAccount, user_role}
+use Rattle.service_model.specs.Answers.{answers}
+use Rattle.service_model.specs.Parts.{CameByMessage, EndsSession, EndsSo, GoesOn, IsRequestStep, LastSent, by_link, step_bytes}
+use Rattle.service_model.specs.Places.{Step, place_of, step_acts}
+use Rattle.service_model.specs.Service.{Service}
+use Rattle.service_model.specs.Users.{role_of, user_at}
+use Rattle.session_asking.specs.declared.asking.Turn.{Turn}
+use Rattle.session_asking.specs.declared.asking.Turn.TheVariants as turns
+use Rattle.session_asking.specs.declared.live.LoggedIn.{LoggedIn}
+use Rattle.session_asking.specs.Known.{IsServed, IsStillOpen}
+use Rattle.session_asking.specs.Serving.{IsNewUser, Moment, Steps, Whose, whose}
+use Rattle.session_turns.specs.Joins.{Rights}
+
+-- a reader of the frames of a session
+pub record IsForSessions (width : Width) (reader : Held) : Type 0 where
+  pub right : reader.width ≡ width
+  pub max : reader.max ≡ frame_max width
+
+-- a child was served, and goes on; held are the bytes taken and not yet framed
+pub record Proceeds (w : Whose) (before after : Moment) (held_old held_new : List ℕ) : Type 0 where
+  pub served : List Step
+  pub steps : Steps w.worker served before.seen after.seen
+  pub each : AllByRecursion (IsRequestStep w.service) served
+  pub on : AllByRecursion GoesOn served
+  pub acts : Goes (Played (step_acts served) [] []) before.scene after.scene
+  pub received : List ℕ
+  pub framed : held_old ++ received ≡ step_bytes w.service.setup.frames served ++ held_new
+  pub bytes : Goes (Exchanged received (answers w.service w.exported served)) before.link after.link
+
+-- the bytes that a link tells are still to come
+abbrev pub left_in : Option Link → List ℕ
+left_in None = []
+left_in (Some link) = link.left
+
+-- a child was served to the end of its session
+pub record Concludes (w : Whose) (why : Why) (before after : Moment) (held : List ℕ) : Type 0 where
+  pub served : List Step
+  pub final : Option Step
+  pub steps : Steps w.worker (served ++ option_to_list final) before.seen after.seen
+  pub each : AllByRecursion (IsRequestStep w.service) (served ++ option_to_list final)
+  pub on : AllByRecursion GoesOn served
+  pub acts : Goes (Played (step_acts (served ++ option_to_list final)) [] []) before.scene after.scene
+  pub received : List ℕ
+  pub rest : List ℕ
+  pub framed : held ++ received ≡ step_bytes w.service.setup.frames (served ++ option_to_list final) ++ rest
+  pub last : List ℕ
+  pub bytes : Goes (Exchanged received (answers w.service w.exported served ++ last)) before.link after.link
+  pub sent : LastSent (EndsSession why) (answers w.service w.exported (option_to_list final)) last
+  pub ended : EndsSession why ≢ by_link → EndsSo w.service.setup.frames (EndsSession why) final rest (left_in after.link)
+
+-- the step of an EXPORT that came by a message
+abbrev pub export_step : List Event → Event → Message → Step
+export_step front e message = record { place = place_of front e; message = Some message; acts = [] }
+
+-- a child was served up to a permitted EXPORT, for which nothing is done yet and which hands on a state
+pub record HandsOn (w : Whose) (e : Event) (state : List ℕ) (before after : Moment) (held : List ℕ) : Type 0 where
+  pub served : List Step
+  pub front : List Event
+  pub message : Message
+  pub body : message.body ≡ state
+  pub exported : exports e ≡ true
+  pub came : CameByMessage w.service (Some message) e.ask
+  pub session_is : e.session ≡ w.session
+  pub steps : Steps w.worker (served ++ export_step front e message ∷ []) before.seen after.seen
+  pub each : AllByRecursion (IsRequestStep w.service) served
+  pub on : AllByRecursion GoesOn served
+  pub acts : Goes (Played (step_acts served) [] []) before.scene after.scene
+  pub received : List ℕ
+  pub rest : List ℕ
+  pub framed : held ++ received ≡ step_bytes w.service.setup.frames (served ++ export_step front e message ∷ []) ++ rest
+  pub bytes : Goes (Exchanged received (answers w.service w.exported served)) before.link after.link
+  pub named : NamesAccount w.service.setup e
+  pub role : user_role w.service.setup e ≡ role_of e.session (user_at w.service.setup (place_of front e))
+
+-- one turn of serving a child: it goes on, its session ends, or another child is next; state is what was exported behind the turn
+abbrev pub TurnTaken : Whose → Turn → List ℕ → Moment → Moment → List ℕ → List ℕ → Type 0
+TurnTaken w turns.GoesOn state before after held_old held_new = Proceeds w before after held_old held_new
+TurnTaken w (turns.Ends why) state before after held_old held_new = Concludes w why before after held_old
+TurnTaken w (turns.HandsOver e) state before after held_old held_new = HandsOn w e state before after held_old
+
+-- a child was served to the end of its part
+abbrev pub PartTaken : Whose → Turn → List ℕ → Moment → Moment → List ℕ → Type 0
+PartTaken w turns.GoesOn state before after held = ⊥
+PartTaken w (turns.Ends why) state before after held = Concludes w why before after held
+PartTaken w (turns.HandsOver e) state before after held = HandsOn w e state before after held
+
+-- bytes were received behind those that are held, or the child's bytes ended in front of a whole message, or its link failed
+abbrev pub Receives : Width → Turn → List ℕ → List ℕ → Option Link → Option Link → Type 0
+Receives width turns.GoesOn held_old held_new link_old link_new = (received : List ℕ) × (held_old ++ received ≡ held_new) × Goes (Exchanged received []) link_old link_new
+Receives width (turns.Ends why) held_old held_new link_old link_new = Goes (Exchanged [] []) link_old link_new × (EndsSession why ≢ by_link → EndsSo width (EndsSession why) None held_old (left_in link_new))
+Receives width (turns.HandsOver e) held_old held_new link_old link_new = ⊥
+
+-- what is left to do for a session: its asks, and within one of them the bytes that the reader has room for, fewer than 65,537
+abbrev pub work_left : ℕ → ℕ → ℕ → ℕ → ℕ
+work_left requests max asks held = (requests + 1 - asks) * 65537 + (max - held)
+
+-- a turn after which the session goes on
+pub record Advances (requests max asks_old asks_new held_old held_new : ℕ) : Type 0 where
+  pub less : work_left requests max asks_new held_new < work_left requests max asks_old held_old
+
+-- a child whose turn goes on gave more bytes, for which there was room
+abbrev pub IsStillReading : Turn → ℕ → ℕ → ℕ → Type 0
+IsStillReading turns.GoesOn held_old held_new max = (held_old < held_new) × (held_new ≤ max)
+IsStillReading _ held_old held_new max = Unit {0}
+
+abbrev pub ends_part : Turn → Bool
+ends_part turns.GoesOn = false
+ends_part _ = true
+
+-- what was exported stays, but where a turn hands over
+abbrev pub KeepsState : Turn → List ℕ → List ℕ → Type 0
+KeepsState turn old new = ((e : Event) → turn ≢ turns.HandsOver e) → new ≡ old
+
+-- a worker's asks of a session that goes on are just those that the journal counts
+pub record CountsAsks (session : ℕ) (rights_old : Rights) (old : List Event) (rights_new : Rights) (new : List Event) : Type 0 where
+  pub worker : rights_new.worker ≡ rights_old.worker
+  pub made : rights_new.left + ask_count new session ≡ rights_old.left + ask_count old session
+
+-- a worker whose session is to be ended has made at most one ask more than the session may
+pub record EndsWithin (setup : Settings) (session : ℕ) (rights_old : Rights) (old : List Event) (rights_new : Rights) : Type 0 where
+  pub worker : rights_new.worker ≡ rights_old.worker
+  pub left : rights_old.left + ask_count old session ≤ rights_new.left + setup.requests + 1
+
+-- what is left to a worker behind a turn, or a part
+abbrev pub SpendsOn : Settings → ℕ → Turn → Rights → List Event → Rights → List Event → Option LoggedIn → Type 0
+SpendsOn setup session turns.GoesOn rights_old old rights_new new user = IsServed setup rights_new new session user × CountsAsks session rights_old old rights_new new
+SpendsOn setup session (turns.Ends why) rights_old old rights_new new user = IsStillOpen setup rights_new new session × EndsWithin setup session rights_old old rights_new
+SpendsOn setup session (turns.HandsOver e) rights_old old rights_new new user = ((logged_in : LoggedIn) → IsNewUser logged_in e → IsServed setup rights_new new session (Some logged_in)) × CountsAsks session rights_old old rights_new new
+
+-- a child is being served: how the worker stands now against where its serving began
+pub record IsUnderway (service : Service) (exported : List ℕ) (session : ℕ) (rights_old rights_new : Rights) (before now : Moment) (user_old user_new : Option LoggedIn) (held_old held_new : List ℕ) (same_service : Service) (same_exported : List ℕ) (same_session : ℕ) : Type 0 where
+  pub service_is : same_service ≡ service
+  pub exported_is : same_exported ≡ exported
+  pub session_is : same_session ≡ session
+  pub served : IsServed service.setup rights_new now.seen session user_new
+  pub counts : CountsAsks session rights_old before.seen rights_new now.seen
+  pub logged_in : is_some user_new ≡ is_some user_old
+  pub proceeds : Proceeds (whose service exported session rights_old.worker) before now held_old held_new
