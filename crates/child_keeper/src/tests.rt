@@ -4,9 +4,7 @@ ghost use Rattle.child_keeper.specs.Tickets.{NamesAccount};
 
 use super::*;
 use otp_hash::{Algo, Seed};
-use outside::{
-    Accepted, Act, Bytes, CallKind, Fail, Failed, MemPost, Post, Role, Script, Talk,
-};
+use outside::{Accepted, Act, Bytes, CallKind, Fail, Failed, MemPost, Post, Role, Script, Talk};
 use policy_model::{
     Account, Accounts, Ask, Decision, Event, Grants, Numbers, Setup, SetupParts, Text, plain_salt,
 };
