@@ -1,3 +1,7 @@
 pub mod Reading
 pub mod Turning
 pub mod Parts
+pub mod EndLemmas
+pub mod Children
+pub mod OpeningLemmas
+pub mod WorkerLemmas

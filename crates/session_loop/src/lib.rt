@@ -3,5 +3,10 @@
 #![tactic(auto)]
 
 mod child;
+mod ending;
+mod session;
+mod worker;
 
 pub use child::serve_child;
+pub use session::run_session;
+pub use worker::{WorkerEnd, serve_worker};
