@@ -12,9 +12,7 @@ use Rattle.service_model.specs.Answers.{answer_to, answers}
 use Rattle.service_model.specs.Parts.{EndsSession, HandsOver, IsAnswered, IsPart, Part, PartEnd, by_link, exported_by}
 use Rattle.service_model.specs.Service.{Service}
 use Rattle.service_model.specs.Sittings.{AreAnswered, AreParts, EndsFirst, Follows, IsSitting, Sitting, all_steps}
-use Rattle.service_model.specs.Stories.{parts_of}
 use Rattle.service_model.proofs.Ends.{link_requests}
-use Rattle.service_model.proofs.Lists.{All-append}
 use Rattle.service_model.proofs.Sittings.{passes_end, passing}
 use Rattle.service_model.proofs.Stories.{count-sittings}
 

@@ -13,7 +13,7 @@ use Rattle.policy_model.specs.Asks.{is_begin, is_lost, is_permit, came_by_frame,
 use Rattle.service_model.specs.Ends.{is_keeper_end, is_link_end, is_lost_end}
 use Rattle.service_model.specs.Places.{Step, step_places}
 use Rattle.policy_model.specs.Journal.{Place}
-use Rattle.service_model.specs.Parts.{EndsSession, EndsSo, HandsOver, IsPart, Part, exported_by, requests_of, why_of}
+use Rattle.service_model.specs.Parts.{EndsSession, EndsSo, IsPart, Part, exported_by, requests_of, why_of}
 use Rattle.service_model.specs.Service.{Service}
 use Rattle.service_model.specs.Sittings.{AreParts, Follows, IsSitting, Sitting, all_steps}
 use Rattle.service_model.proofs.Lists.{count-append, count-cons}

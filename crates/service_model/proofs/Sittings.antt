@@ -17,7 +17,7 @@ use Rattle.policy_model.specs.declared.event.Event.{Event}
 use Rattle.policy_model.specs.Asks.{is_lost, is_permit}
 use Rattle.service_model.specs.Places.{Step, step_acts, step_places}
 use Rattle.service_model.specs.Acts.{Operation, Accepts, operation_of, opening_operations, operations_by, operations_of}
-use Rattle.service_model.specs.Parts.{EndsSession, HandsOver, IsPart, IsRequestStep, Part, PartEnd, requests_of}
+use Rattle.service_model.specs.Parts.{IsRequestStep, Part, requests_of}
 use Rattle.service_model.specs.Service.{Service}
 use Rattle.service_model.specs.Sittings.{AreParts, EndsFirst, Follows, IsEnding, IsSitting, Sitting, all_steps, live_role}
 use Rattle.service_model.specs.Stories.{is_stop}

@@ -6,7 +6,7 @@ use Rattle.policy_model.specs.declared.event.Event.{Event}
 use Rattle.policy_model.specs.Asks.{opens}
 use Rattle.service_model.specs.Ends.{is_lost_end}
 use Rattle.service_model.specs.Service.{Service}
-use Rattle.service_model.specs.Places.{Step, step_acts, step_places}
+use Rattle.service_model.specs.Places.{step_acts, step_places}
 use Rattle.service_model.specs.Sittings.{IsSitting, Sitting, all_steps}
 use Rattle.service_model.specs.Stories.{ArePlanned, IsPlanned, is_stop}
 use Rattle.service_model.proofs.Ends.{lost_ends, lost_places, opened_once}

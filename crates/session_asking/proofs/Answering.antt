@@ -1,56 +1,48 @@
 -- What one message makes of a session: a step of its worker, with its acts and its answer.
-use Rattle.std.proofs.Common.{◌≡◌, ◌≢◌, ℕ, zero, suc, Bool, true, false, ◌&&◌, ◌||◌, ◌++◌, length, List, [], ◌∷◌, take, map, filter_map, Option, Some, None, Result, Ok, Err, refl, sym, ap, subst, ◌∙◌, arith, cond}
+use Rattle.std.proofs.Common.{◌≡◌, ◌≢◌, ℕ, zero, suc, Bool, true, false, ◌&&◌, ◌||◌, ◌++◌, List, [], ◌∷◌, map, filter_map, Option, Some, None, Result, Ok, Err, refl, sym, ap, subst, ◌∙◌, cond}
 use Rattle.std.specs.Prelude.{MatchResult, is_some}
 use Rattle.std.specs.Int.{w32, to_le_bytes}
 use Rattle.std.specs.List.{flat_map, list_any}
-use Rattle.std.proofs.lemmas.Bool.{and_parts}
-use Rattle.std.proofs.lemmas.List.{take_all, map-append}
+use Rattle.std.proofs.lemmas.List.{map-append}
 use Rattle.imsg_frame.specs.Message.{IsMessage, Message, composed_of, spelling_of}
 use Rattle.request_catalogue.specs.declared.kind.Kind.TheVariants as kinds
 use Rattle.request_catalogue.specs.declared.request.Bad.{Bad}
 use Rattle.request_catalogue.specs.declared.request.Request.{Request}
-use Rattle.request_catalogue.specs.declared.texts.Label.{Label}
 use Rattle.request_catalogue.specs.declared.width.Width.{Width}
-use Rattle.request_catalogue.specs.Catalogue.{RequestValue, value_of}
+use Rattle.request_catalogue.specs.Catalogue.{value_of}
 use Rattle.request_catalogue.specs.Reading.{request_of}
 use Rattle.request_catalogue.specs.Replies.{AnswerValue, Done, reply_kind_of, reply_of}
 use Rattle.request_catalogue.specs.Widths.{frame_max}
 use Rattle.outside.specs.declared.act.Act.{Act}
 use Rattle.outside.specs.declared.act.Act.TheVariants as doings
-use Rattle.outside.specs.Link.{Exchanged, Link}
 use Rattle.outside.specs.Scene.{Played, Scene}
 use Rattle.outside.specs.Told.{Goes}
-use Rattle.outside.proofs.Exchanges.{Exchanges-none}
-use Rattle.outside.proofs.Scenes.{Plays-none, Plays-then}
+use Rattle.outside.proofs.Scenes.{Plays-then}
 use Rattle.policy_model.specs.declared.account.Account.{Account}
 use Rattle.policy_model.specs.declared.event.Ask.{Ask}
 use Rattle.policy_model.specs.declared.event.Ask.TheVariants as asks
 use Rattle.policy_model.specs.declared.event.Decision.{Decision}
 use Rattle.policy_model.specs.declared.event.Decision.TheVariants as decisions
 use Rattle.policy_model.specs.declared.event.Event.{Event}
-use Rattle.policy_model.specs.declared.event.Why.{Why}
-use Rattle.policy_model.specs.declared.event.Why.TheVariants as whys
-use Rattle.policy_model.specs.Asks.{came_by_frame, ends_session, exports, is_export, is_login_denial, is_lost, is_permit, kind_of, shown_of}
-use Rattle.policy_model.specs.Journal.{Place, has_event, open_session_of}
+use Rattle.policy_model.specs.Asks.{came_by_frame, exports, is_export, is_login_denial, is_permit, kind_of, shown_of}
+use Rattle.policy_model.specs.Journal.{Place, open_session_of}
 use Rattle.policy_model.specs.Settings.{Settings}
 use Rattle.policy_model.proofs.Runs.{next_session, no_begin}
 use Rattle.policy_model.proofs.Verdicts.{session_of-other}
 use Rattle.service_model.specs.Acts.{Operation, ReadsFile, Receives, bytes_read, failed_device, if_permitted, operation_of, operations_by, operations_of, write_operations, written_by, written_bytes}
 use Rattle.service_model.specs.Answers.{answer_value, challenge_text, imported_state, info_text, list_head, outcome_value, permitted_value, reply_bytes, reply_to}
-use Rattle.service_model.specs.Parts.{EndsSession, IsRequestStep, by_link, why_of}
+use Rattle.service_model.specs.Parts.{IsRequestStep}
 use Rattle.service_model.specs.Places.{Step, place_of, worker_places}
 use Rattle.service_model.specs.Requests.{Asks, IsAskOf}
 use Rattle.service_model.specs.Service.{Service}
 use Rattle.service_model.specs.Users.{File, file_at, file_of, user_at}
 use Rattle.service_model.proofs.Places.{worker_places-own}
-use Rattle.session_turns.specs.Joins.{Joins, Rights}
-use Rattle.session_asking.specs.declared.asking.Turn.{Turn}
-use Rattle.session_asking.specs.declared.asking.Turn.TheVariants as turns
+use Rattle.session_turns.specs.Joins.{Joins}
 use Rattle.session_asking.specs.declared.live.LoggedIn.{LoggedIn}
 use Rattle.session_asking.specs.declared.work.Outcome.{Outcome}
-use Rattle.session_asking.specs.Asking.{IsTurnOf, clock_acts, read_value}
+use Rattle.session_asking.specs.Asking.{clock_acts, read_value}
 use Rattle.session_asking.specs.Known.{Knows, account_in, file_in, names_in}
-use Rattle.session_asking.specs.Serving.{Answers, HasServed, Serves, Steps, Whose, moment}
+use Rattle.session_asking.specs.Serving.{Steps, Whose, moment}
 use Rattle.session_asking.specs.Work.{Does, answered, done_operations, told, told_by, told_of}
 use Rattle.session_asking.proofs.Done.{nothing_done}
 use Rattle.session_asking.proofs.Knowing.{import_after, info_after, knows_others}

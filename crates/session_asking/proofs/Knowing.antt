@@ -1,10 +1,9 @@
 -- What is known of a session, behind the events of others and behind its own.
-use Rattle.std.proofs.Common.{◌≡◌, ◌≢◌, ℕ, ◌≤◌, Bool, true, false, ◌&&◌, ◌||◌, cond, eqb, List, [], ◌∷◌, ◌++◌, length, Option, Some, None, refl, sym, ap, subst, ◌∙◌, arith, nat_le}
+use Rattle.std.proofs.Common.{◌≡◌, ℕ, ◌≤◌, Bool, true, false, ◌&&◌, ◌||◌, cond, eqb, List, [], ◌∷◌, ◌++◌, length, Option, Some, None, refl, sym, ap, subst, ◌∙◌, arith, nat_le}
 use Rattle.std.specs.Prelude.{is_some, slice_get}
 use Rattle.std.specs.List.{find, list_all}
 use Rattle.std.proofs.lemmas.Bool.{and_parts, false≢true}
 use Rattle.std.proofs.lemmas.Bool.Decides.{nat_tests}
-use Rattle.request_catalogue.specs.declared.kind.Kind.{Kind}
 use Rattle.request_catalogue.specs.declared.kind.Kind.TheVariants as kinds
 use Rattle.request_catalogue.specs.declared.texts.Name.{Name}
 use Rattle.policy_model.specs.declared.account.Account.{Account}
@@ -15,7 +14,7 @@ use Rattle.policy_model.specs.declared.event.Decision.TheVariants.{Permit, Deny,
 use Rattle.policy_model.specs.declared.event.Event.{Event}
 use Rattle.policy_model.specs.declared.phase.Phase.{Phase}
 use Rattle.policy_model.specs.declared.phase.Phase.TheVariants as phases
-use Rattle.policy_model.specs.Asks.{accepts, came_by_frame, closes_file, exports, handle_of, is_open, is_permit, kind_of, opens_file, value_of}
+use Rattle.policy_model.specs.Asks.{accepts, came_by_frame, closes_file, exports, handle_of, is_permit, kind_of, opens_file, value_of}
 use Rattle.policy_model.specs.Handles.{handle_opening}
 use Rattle.policy_model.specs.Journal.{has_event}
 use Rattle.policy_model.specs.Legal.{IsNext}
@@ -24,7 +23,7 @@ use Rattle.policy_model.specs.Phases.{phase_of, table_row}
 use Rattle.policy_model.specs.Settings.{IsInRange, Settings, are_accounts, is_account, is_number}
 use Rattle.policy_model.specs.Verdict.{account_named, info_verdict, kind_verdict, own_verdict, sequence_of, table_verdict}
 use Rattle.session_laws.proofs.HandleLaws.{gives_least, opened_in_user}
-use Rattle.session_laws.proofs.Permits.{find_passes, permit_from, request_permit, row_permit}
+use Rattle.session_laws.proofs.Permits.{permit_from, request_permit, row_permit}
 use Rattle.session_laws.proofs.Permitted.{accepted_in_challenged, permitted_live}
 use Rattle.session_laws.proofs.PhaseLemmas.{phase_tests}
 use Rattle.session_laws.proofs.SessionEvents.{has_event-own}
@@ -32,7 +31,7 @@ use Rattle.session_laws.proofs.UserLemmas.{verified_user-own}
 use Rattle.service_model.specs.Users.{name_of_opening, name_opened}
 use Rattle.session_turns.specs.Joins.{SessionStays}
 use Rattle.session_asking.specs.declared.live.LoggedIn.{LoggedIn}
-use Rattle.session_asking.specs.Known.{Knows, NotesFiles, account_in, name_after, names_in}
+use Rattle.session_asking.specs.Known.{Knows, NotesFiles, name_after, names_in}
 use Rattle.session_asking.specs.Work.{IsSmall}
 use Rattle.session_asking.proofs.FileLemmas.{names_after}
 

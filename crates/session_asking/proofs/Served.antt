@@ -1,5 +1,5 @@
 -- What one message leaves: the step that was served, and the session that goes on, ends or changes its child.
-use Rattle.std.proofs.Common.{◌≡◌, ◌≢◌, ℕ, ◌+◌, ◌≤◌, ◌<◌, Bool, true, false, ◌&&◌, ◌||◌, cond, eqb, ◌++◌, length, List, [], ◌∷◌, take, map, Option, Some, None, Result, refl, sym, ap, subst, ◌∙◌, arith}
+use Rattle.std.proofs.Common.{◌≡◌, ℕ, ◌+◌, ◌<◌, Bool, true, false, ◌&&◌, ◌||◌, cond, eqb, ◌++◌, length, List, [], ◌∷◌, take, Option, Some, None, Result, refl, sym, ap, subst, ◌∙◌, arith}
 use Rattle.std.specs.Prelude.{IfOk, MatchResult, Ok, Err, is_some, slice_get}
 use Rattle.std.specs.List.{AllByRecursion, find}
 use Rattle.std.proofs.lemmas.Bool.{and_parts}
@@ -7,8 +7,6 @@ use Rattle.std.proofs.lemmas.List.{take_all}
 use Rattle.imsg_frame.specs.Message.{IsMessage, Message}
 use Rattle.request_catalogue.specs.declared.request.Bad.{Bad}
 use Rattle.request_catalogue.specs.declared.request.Request.{Request}
-use Rattle.request_catalogue.specs.declared.texts.Label.{Label}
-use Rattle.request_catalogue.specs.declared.texts.Name.{Name}
 use Rattle.request_catalogue.specs.declared.width.Width.{Width}
 use Rattle.request_catalogue.specs.Catalogue.{IsRequest, RequestValue, payload_of, value_of as request_value}
 use Rattle.request_catalogue.specs.Catalogue as requests
@@ -16,7 +14,6 @@ use Rattle.request_catalogue.specs.Reading.{request_of}
 use Rattle.request_catalogue.specs.Replies.{AnswerValue}
 use Rattle.request_catalogue.specs.Widths.{frame_max}
 use Rattle.outside.specs.declared.act.Act.{Act}
-use Rattle.outside.specs.declared.act.Role.{Role}
 use Rattle.outside.specs.Link.{Exchanged, Link}
 use Rattle.outside.specs.Scene.{Played, Scene}
 use Rattle.outside.specs.Told.{Goes}
@@ -33,11 +30,10 @@ use Rattle.policy_model.specs.declared.phase.Phase.TheVariants as phases
 use Rattle.policy_model.specs.Asks.{accepts, came_by_frame, closes_file, ends_session, exports, handle_of, is_export, is_lost, is_permit, is_proper, opens_file, shown_of, value_of}
 use Rattle.policy_model.specs.Handles.{handle_opening}
 use Rattle.policy_model.specs.Journal.{ask_count, has_event, open_session_of}
-use Rattle.policy_model.specs.Legal.{IsNext}
-use Rattle.policy_model.specs.Logins.{account_of, challenged_user, verified_user}
-use Rattle.policy_model.specs.Phases.{phase_of, table_row}
+use Rattle.policy_model.specs.Logins.{challenged_user, verified_user}
+use Rattle.policy_model.specs.Phases.{table_row}
 use Rattle.policy_model.specs.Runs.{IsOfWorker, IsServing}
-use Rattle.policy_model.specs.Settings.{Settings, account_number}
+use Rattle.policy_model.specs.Settings.{Settings}
 use Rattle.policy_model.specs.Verdict.{account_named, number_named}
 use Rattle.policy_model.proofs.Runs.{WentOnBy, goes_on, stays_open}
 use Rattle.session_laws.proofs.HandleLaws.{no_handles_before}
@@ -48,20 +44,19 @@ use Rattle.session_laws.proofs.Permitted.{exported_in_verified}
 use Rattle.session_laws.proofs.PhaseLemmas.{phase_tests}
 use Rattle.session_laws.proofs.SessionEvents.{has_event-own}
 use Rattle.session_laws.proofs.UserLemmas.{verified_user-own}
-use Rattle.child_keeper.specs.Tickets.{NamesAccount, session_role, user_role}
-use Rattle.service_model.specs.Acts.{Operation, operation_of}
+use Rattle.child_keeper.specs.Tickets.{session_role}
 use Rattle.service_model.specs.Answers.{answer_value, reply_bytes, reply_to}
-use Rattle.service_model.specs.Parts.{EndsSession, IsRequestStep, LastSent, by_link, why_of}
-use Rattle.service_model.specs.Places.{place_of, worker_places}
+use Rattle.service_model.specs.Parts.{why_of}
+use Rattle.service_model.specs.Places.{place_of}
 use Rattle.service_model.specs.Requests.{Asks}
-use Rattle.service_model.specs.Users.{File, name_of_opening, name_opened, role_of, user_at}
+use Rattle.service_model.specs.Users.{File, name_of_opening, name_opened, role_of}
 use Rattle.session_turns.specs.Joins.{Joins, KeepsRights, OthersJoined, Rights}
 use Rattle.session_asking.specs.declared.asking.Turn.{Turn}
 use Rattle.session_asking.specs.declared.asking.Turn.TheVariants as turns
 use Rattle.session_asking.specs.declared.live.LoggedIn.{LoggedIn}
 use Rattle.session_asking.specs.declared.work.Outcome.{Outcome}
 use Rattle.session_asking.specs.Asking.{IsTurnOf, clock_acts, read_value, state_by}
-use Rattle.session_asking.specs.Known.{IsServed, IsStillOpen, Knows, NotesFiles, account_in, file_in, name_after}
+use Rattle.session_asking.specs.Known.{IsServed, IsStillOpen, Knows, NotesFiles, file_in}
 use Rattle.session_asking.specs.Serving.{HandsWith, HasExported, HasServed, IsNewUser, Leaves, Serves, Whose, WentOn, moment}
 use Rattle.session_asking.specs.Work.{done_operations}
 use Rattle.session_asking.proofs.Answering.{IsAsked, IsDone, Steps-join, all_played, asked_by_message, is_reply, is_step, known_before, own_session, step_at}

@@ -1,5 +1,5 @@
 -- Inner: what is asked by a message, and what follows.
-use Rattle.std.specs.Prelude.{◌≡◌, ℕ, ◌≤◌, true, false, List, [], ◌∷◌, Option, Some, None, Result, Ok, Err}
+use Rattle.std.specs.Prelude.{◌≡◌, ℕ, ◌≤◌, true, false, List, [], ◌∷◌, Option, Result, Ok, Err}
 use Rattle.request_catalogue.specs.declared.request.Bad.{Bad}
 use Rattle.request_catalogue.specs.declared.request.Request.{Request}
 use Rattle.request_catalogue.specs.declared.width.Width.{Width}
@@ -12,8 +12,7 @@ use Rattle.outside.specs.declared.act.Act.TheVariants as acts
 use Rattle.policy_model.specs.declared.event.Ask.{Ask}
 use Rattle.policy_model.specs.declared.event.Ask.TheVariants as asks
 use Rattle.policy_model.specs.declared.event.Event.{Event}
-use Rattle.policy_model.specs.declared.event.Why.TheVariants as whys
-use Rattle.policy_model.specs.Asks.{ends_session, exports, is_proper_why}
+use Rattle.policy_model.specs.Asks.{ends_session, is_proper_why}
 use Rattle.service_model.specs.Parts.{why_of}
 use Rattle.session_asking.specs.declared.asking.Turn.{Turn}
 use Rattle.session_asking.specs.declared.asking.Turn.TheVariants as turns

@@ -1,5 +1,5 @@
 -- Inner: what serving one message did.
-use Rattle.std.specs.Prelude.{◌≡◌, ◌≢◌, true, ℕ, ◌+◌, ◌≤◌, List, [], ◌∷◌, ◌++◌, Option, Some, None}
+use Rattle.std.specs.Prelude.{◌≡◌, ◌≢◌, true, ℕ, ◌+◌, List, [], ◌∷◌, ◌++◌, Option, Some, None}
 use Rattle.imsg_frame.specs.Message.{Message}
 use Rattle.outside.specs.Link.{Exchanged, Link}
 use Rattle.outside.specs.Scene.{Played, Scene}
@@ -9,7 +9,7 @@ use Rattle.policy_model.specs.Asks.{exports, is_proper_why, value_of}
 use Rattle.policy_model.specs.Journal.{ask_count}
 use Rattle.policy_model.specs.Settings.{Settings}
 use Rattle.service_model.specs.Answers.{answer_to}
-use Rattle.service_model.specs.Parts.{CameByMessage, EndsSession, EndsSo, GoesOn, IsRequestStep, LastSent, PartEnd, by_link}
+use Rattle.service_model.specs.Parts.{CameByMessage, EndsSession, EndsSo, GoesOn, IsRequestStep, LastSent, by_link}
 use Rattle.service_model.specs.Places.{Step, place_of, step_places, worker_places}
 use Rattle.service_model.specs.Service.{Service}
 use Rattle.service_model.specs.Users.{role_of, user_at}

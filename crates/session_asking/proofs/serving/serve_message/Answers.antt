@@ -1,8 +1,6 @@
 use Rattle.std.proofs.Common.{ap, subst, ◌≡◌, sym, ◌∙◌, refl}
 use Rattle.imsg_frame.specs.Message.{message_of}
-use Rattle.outside.specs.Scene.{Scene}
 use Rattle.request_catalogue.specs.Replies.{answer_of}
-use Rattle.session_turns.specs.Joins.{Joins}
 use Rattle.session_asking.specs.Made.{exported_bytes}
 use Rattle.session_asking.specs.Known.{Knows, account_in, file_in}
 use Rattle.session_asking.specs.Serving.{whose}
