@@ -11,7 +11,7 @@ use Rattle.outside.specs.declared.act.Role.{Role}
 use Rattle.outside.specs.declared.act.Role.TheVariants.{Pre}
 use Rattle.outside.specs.declared.act.Talk.{Talk}
 use Rattle.outside.specs.Link.{Exchanged, Link}
-use Rattle.outside.specs.Scene.{Did, GivenBack, IsUnused, Played, Scene, bytes_at, came_count, is_coming, planned_bytes}
+use Rattle.outside.specs.Scene.{Did, IsUnused, Played, Scene, bytes_at, came_count, is_coming, planned_bytes}
 use Rattle.outside.specs.Told.{Goes}
 use Rattle.outside.proofs.Scenes.{Played-then, Plays-then}
 use Rattle.outside.proofs.Told.{Goes-then}
@@ -41,32 +41,8 @@ use Rattle.service_model.proofs.Steps.{acts-append, none_came_by, places-append}
 use Rattle.session_asking.specs.Serving.{Moment, Steps, Whose, whose}
 use Rattle.session_loop.specs.Child.{HandsOn, export_step, left_in}
 use Rattle.session_loop.specs.Sessions.{AfterChange, HasChildren, HasEnd, HasPart, HasSecond, IsPlannedPart}
-use Rattle.session_loop.proofs.EndLemmas.{Goes-weaker}
+use Rattle.session_loop.proofs.EndLemmas.{Goes-weaker, Returned, given_back}
 use Rattle.session_loop.proofs.Turning.{Steps-then}
-
--- what passed with a child that was given back
-record Returned (acts : List Act) (role : Role) (received given left : List ℕ) (before after : Scene) : Type 0 where
-  pub played : Played (acts ++ Finish role ∷ []) (record { role = role; taken = received; sent = given } ∷ []) (left ∷ []) before after
-  pub planned : received ++ left ≡ planned_bytes before role
-
-returned_told : (acts : List Act) (role : Role) (received given : List ℕ) (s t u : Scene) (k l : Link) → Played acts [] [] s t → Played (Finish role ∷ []) (record { role = role; taken = l.taken; sent = l.sent } ∷ []) (l.left ∷ []) t u → Exchanged received given k l → IsUnused k → k.left ≡ planned_bytes s role → Returned acts role received given l.left s u
-returned_told acts role received given s t u k l served finished passed unused planned =
-    let talk : Talk = record { role = role; taken = l.taken; sent = l.sent } in
-    let taken : l.taken ≡ received = passed.taken ∙ ap (λ xs. xs ++ received) unused.taken in
-    let sent : l.sent ≡ given = passed.sent ∙ ap (λ xs. xs ++ given) unused.sent in
-    let same : talk ≡ record { role = role; taken = received; sent = given } = rw (taken, sent) refl in
-    record {
-      played = subst (λ (x : Talk). Played (acts ++ Finish role ∷ []) (x ∷ []) (l.left ∷ []) s u) same (Played-then acts (Finish role ∷ []) [] (talk ∷ []) [] (l.left ∷ []) s t u served finished);
-      planned = sym passed.left ∙ planned;
-    }
-
-given_back : (acts : List Act) (role : Role) (received given : List ℕ) (s t u : Option Scene) (k l : Option Link) → Goes (Played acts [] []) s t → GivenBack role l t u → Goes (Exchanged received given) k l → IfSome k IsUnused → IfSome s (λ b. IfSome k (λ x. x.left ≡ planned_bytes b role)) → Goes (Returned acts role received given (left_in l)) s u
-given_back acts role received given s t None k l served finished passed unused planned = tt
-given_back acts role received given s t (Some u) k None served finished passed unused planned = absurd (let e = finished in cc)
-given_back acts role received given s None (Some u) k (Some l) served finished passed unused planned = absurd finished
-given_back acts role received given None (Some t) (Some u) k (Some l) served finished passed unused planned = absurd served
-given_back acts role received given (Some s) (Some t) (Some u) None (Some l) served finished passed unused planned = absurd passed
-given_back acts role received given (Some s) (Some t) (Some u) (Some k) (Some l) served finished passed unused planned = returned_told acts role received given s t u k l served finished passed unused planned
 
 -- a permitted EXPORT is a request, for which the first child is given back and the user's is started, and nothing is told
 export_request : (ask : Ask) → is_export ask ≡ true → came_by_frame ask ≡ true

@@ -6,9 +6,10 @@ use Rattle.outside.specs.declared.act.Act.TheVariants.{Finish, HangUp}
 use Rattle.outside.specs.declared.act.Role.{Role}
 use Rattle.outside.specs.declared.act.Talk.{Talk}
 use Rattle.outside.specs.Link.{Exchanged, Link}
-use Rattle.outside.specs.Scene.{Did, GivenBack, IsUnused, Played, Scene, planned_bytes}
+use Rattle.outside.specs.Scene.{GivenBack, IsUnused, Played, Scene, planned_bytes}
 use Rattle.outside.specs.Told.{Goes}
 use Rattle.outside.proofs.Scenes.{Played-then}
+use Rattle.outside.proofs.Told.{Goes-then}
 use Rattle.policy_model.specs.declared.event.Ask.TheVariants as asks
 use Rattle.policy_model.specs.declared.event.Decision.{Decision}
 use Rattle.policy_model.specs.declared.event.Decision.TheVariants as decisions
@@ -75,33 +76,29 @@ no_keeper width why final rest unread ended is = go final (subst (λ w. EndsSess
   go None ends = ends
   go (Some step) ends = no_keeper_by step.place.event.decision ends.1
 
--- what passed with a child that was given back, and what it had sent
-pub record Closed (acts : List Act) (role : Role) (received given left : List ℕ) (before after : Scene) : Type 0 where
-  pub played : Played (acts ++ Finish role ∷ HangUp ∷ []) (record { role = role; taken = received; sent = given } ∷ []) (left ∷ []) before after
+-- what passed with a child that was given back
+pub record Returned (acts : List Act) (role : Role) (received given left : List ℕ) (before after : Scene) : Type 0 where
+  pub played : Played (acts ++ Finish role ∷ []) (record { role = role; taken = received; sent = given } ∷ []) (left ∷ []) before after
   pub planned : received ++ left ≡ planned_bytes before role
 
-closed_told : (acts : List Act) (role : Role) (received given : List ℕ) (s t u v : Scene) (k l : Link) → Played acts [] [] s t → Played (Finish role ∷ []) (record { role = role; taken = l.taken; sent = l.sent } ∷ []) (l.left ∷ []) t u → Played (HangUp ∷ []) [] [] u v → Exchanged received given k l → IsUnused k → k.left ≡ planned_bytes s role → Closed acts role received given l.left s v
-closed_told acts role received given s t u v k l served finished hung passed unused planned =
+returned_told : (acts : List Act) (role : Role) (received given : List ℕ) (s t u : Scene) (k l : Link) → Played acts [] [] s t → Played (Finish role ∷ []) (record { role = role; taken = l.taken; sent = l.sent } ∷ []) (l.left ∷ []) t u → Exchanged received given k l → IsUnused k → k.left ≡ planned_bytes s role → Returned acts role received given l.left s u
+returned_told acts role received given s t u k l served finished passed unused planned =
     let talk : Talk = record { role = role; taken = l.taken; sent = l.sent } in
     let taken : l.taken ≡ received = passed.taken ∙ ap (λ xs. xs ++ received) unused.taken in
     let sent : l.sent ≡ given = passed.sent ∙ ap (λ xs. xs ++ given) unused.sent in
     let same : talk ≡ record { role = role; taken = received; sent = given } = rw (taken, sent) refl in
-    let all = Played-then (acts ++ Finish role ∷ []) (HangUp ∷ []) (talk ∷ []) [] (l.left ∷ []) [] s u v (Played-then acts (Finish role ∷ []) [] (talk ∷ []) [] (l.left ∷ []) s t u served finished) hung in
     record {
-      played = subst (λ (x : Talk). Played (acts ++ Finish role ∷ HangUp ∷ []) (x ∷ []) (l.left ∷ []) s v) same
-          (subst (λ (done : List Act). Played done (talk ∷ []) (l.left ∷ []) s v) (append_assoc acts (Finish role ∷ []) (HangUp ∷ [])) all);
+      played = subst (λ (x : Talk). Played (acts ++ Finish role ∷ []) (x ∷ []) (l.left ∷ []) s u) same (Played-then acts (Finish role ∷ []) [] (talk ∷ []) [] (l.left ∷ []) s t u served finished);
       planned = sym passed.left ∙ planned;
     }
 
--- a child was served and given back, and the connection was closed
-closed : (acts : List Act) (role : Role) (received given : List ℕ) (s t u v : Option Scene) (k l : Option Link) → Goes (Played acts [] []) s t → GivenBack role l t u → Did HangUp u v → Goes (Exchanged received given) k l → IfSome k IsUnused → IfSome s (λ b. IfSome k (λ x. x.left ≡ planned_bytes b role)) → Goes (Closed acts role received given (left_in l)) s v
-closed acts role received given s t u None k l served finished hung passed unused planned = tt
-closed acts role received given s t None (Some v) k l served finished hung passed unused planned = absurd hung
-closed acts role received given s t (Some u) (Some v) k None served finished hung passed unused planned = absurd (let e = finished in cc)
-closed acts role received given s None (Some u) (Some v) k (Some l) served finished hung passed unused planned = absurd finished
-closed acts role received given None (Some t) (Some u) (Some v) k (Some l) served finished hung passed unused planned = absurd served
-closed acts role received given (Some s) (Some t) (Some u) (Some v) None (Some l) served finished hung passed unused planned = absurd passed
-closed acts role received given (Some s) (Some t) (Some u) (Some v) (Some k) (Some l) served finished hung passed unused planned = closed_told acts role received given s t u v k l served finished hung passed unused planned
+pub given_back : (acts : List Act) (role : Role) (received given : List ℕ) (s t u : Option Scene) (k l : Option Link) → Goes (Played acts [] []) s t → GivenBack role l t u → Goes (Exchanged received given) k l → IfSome k IsUnused → IfSome s (λ b. IfSome k (λ x. x.left ≡ planned_bytes b role)) → Goes (Returned acts role received given (left_in l)) s u
+given_back acts role received given s t None k l served finished passed unused planned = tt
+given_back acts role received given s t (Some u) k None served finished passed unused planned = absurd (let e = finished in cc)
+given_back acts role received given s None (Some u) k (Some l) served finished passed unused planned = absurd finished
+given_back acts role received given None (Some t) (Some u) k (Some l) served finished passed unused planned = absurd served
+given_back acts role received given (Some s) (Some t) (Some u) None (Some l) served finished passed unused planned = absurd passed
+given_back acts role received given (Some s) (Some t) (Some u) (Some k) (Some l) served finished passed unused planned = returned_told acts role received given s t u k l served finished passed unused planned
 
 -- a weaker step
 pub Goes-weaker : {X : Type 0} (P Q : X → X → Type 0) → ((a b : X) → P a b → Q a b) → (a b : Option X) → Goes P a b → Goes Q a b
@@ -131,8 +128,9 @@ has_part w live why a b c v held concludes none ends opened closes unused planne
     let acts : List Act = Finish live ∷ HangUp ∷ [] in
     let no : why ≢ whys.KeeperFault = no_keeper width why concludes.final concludes.rest left concludes.ended in
     let end = ends.by live acts (finishes live why no) in
-    let all = closed (step_acts requests) live concludes.received given a.scene b.scene closes.between v a.link b.link concludes.acts closes.given_back closes.closed concludes.bytes unused planned in
-    let steps_acts : step_acts (requests ++ end.ending ∷ []) ≡ step_acts requests ++ acts = acts-append requests (end.ending ∷ []) ∙ ap (λ xs. step_acts requests ++ (xs ++ [])) end.acts in
+    let back = given_back (step_acts requests) live concludes.received given a.scene b.scene closes.between a.link b.link concludes.acts closes.given_back concludes.bytes unused planned in
+    let done : List Act = (step_acts requests ++ Finish live ∷ []) ++ HangUp ∷ [] in
+    let steps_acts : step_acts (requests ++ end.ending ∷ []) ≡ done = acts-append requests (end.ending ∷ []) ∙ ap (λ xs. step_acts requests ++ (xs ++ [])) end.acts ∙ sym (append_assoc (step_acts requests) (Finish live ∷ []) (HangUp ∷ [])) in
     record {
       part = part;
       role = refl;
@@ -141,9 +139,10 @@ has_part w live why a b c v held concludes none ends opened closes unused planne
       ending = end.ending;
       ends = subst (λ n. Rattle.service_model.specs.Sittings.IsEnding n live why end.ending) opened end.ends;
       steps = Steps-then w.worker requests (end.ending ∷ []) a.seen b.seen c concludes.steps end.steps;
-      played = subst (λ (done : List Act). Goes (Played done (talk_of part ∷ []) (left ∷ [])) a.scene v) (sym steps_acts)
-          (Goes-weaker (Closed (step_acts requests) live concludes.received given left) (Played (step_acts requests ++ acts) (talk_of part ∷ []) (left ∷ [])) (λ x y h. h.played) a.scene v all);
-      planned = Goes-weaker (Closed (step_acts requests) live concludes.received given left) (IsPlannedPart part) (λ x y h. h.planned) a.scene v all;
+      played = subst (λ (acts : List Act). Goes (Played acts (talk_of part ∷ []) (left ∷ [])) a.scene v) (sym steps_acts)
+          (Goes-then (Returned (step_acts requests) live concludes.received given left) (Played (HangUp ∷ []) [] []) (Played done (talk_of part ∷ []) (left ∷ []))
+          (λ x y z first second. Played-then (step_acts requests ++ Finish live ∷ []) (HangUp ∷ []) (talk_of part ∷ []) [] (left ∷ []) [] x y z first.played second) a.scene closes.between v back closes.closed);
+      planned = Goes-then (Returned (step_acts requests) live concludes.received given left) (Played (HangUp ∷ []) [] []) (IsPlannedPart part) (λ x y z first second. first.planned) a.scene closes.between v back closes.closed;
     }
 
 -- a session that is still open may be ended, and then its worker has made at most two asks more than the session may
