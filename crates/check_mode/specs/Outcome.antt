@@ -1,39 +1,15 @@
 -- What the mode `check` came to, and why.
-use Rattle.std.specs.Prelude.{◌≡◌, ℕ, Bool, true, false, List, [], length, Option, Result, Ok, Err, IfSome}
+use Rattle.std.specs.Prelude.{◌≡◌, ℕ, Bool, true, false, List, [], Option, Result, Ok, Err, IfSome}
 use Rattle.outside.specs.Files.{Contents}
 use Rattle.outside.specs.Link.{Exchanged, Link, SendsPart}
 use Rattle.outside.specs.Told.{Goes}
-use Rattle.file_front.specs.declared.front.FrontError.{FrontError}
-use Rattle.file_front.specs.declared.front.FrontError.TheVariants as front_errors
-use Rattle.file_front.specs.declared.list.ListError.{ListError}
-use Rattle.file_front.specs.declared.list.ListError.TheVariants as list_errors
-use Rattle.account_file.specs.declared.fault.SetupError.{SetupError}
-use Rattle.account_file.specs.declared.fault.SetupError.TheVariants as setup_errors
-use Rattle.account_file.specs.Entries.{SetupEntries}
+use Rattle.info_hooks.specs.declared.key.Key.{Key}
+use Rattle.service_reading.specs.Found.{service_in}
 use Rattle.check_mode.specs.declared.fault.CheckFault.{CheckFault}
 use Rattle.check_mode.specs.declared.fault.CheckFault.TheVariants as faults
 use Rattle.check_mode.specs.declared.finding.Finding.{Finding}
-use Rattle.check_mode.specs.declared.finding.Finding.TheVariants.{Right, SetupRefused, WordsMissing, WordsRefused}
-use Rattle.check_mode.specs.Findings.{finding_of, finding_status}
+use Rattle.check_mode.specs.Findings.{finding_status, told_by}
 use Rattle.check_mode.specs.Lines.{line_of}
-
--- why the setup's file was not read
-abbrev pub fault_of_front : FrontError → CheckFault
-fault_of_front front_errors.Failed = faults.ReadFailed
-fault_of_front front_errors.OutOfMemory = faults.OutOfMemory
-
--- what is found where a setup was not read
-abbrev pub told_by_error : SetupError → Result Finding CheckFault
-told_by_error (setup_errors.Refused fault) = Ok (SetupRefused fault)
-told_by_error setup_errors.OutOfMemory = Err faults.OutOfMemory
-
--- what a word list that was read, or not, says of its setup
-abbrev pub told_by : SetupEntries → Result (List (List ℕ)) ListError → Result Finding CheckFault
-told_by entries (Ok words) = Ok (Right (length entries.accounts) entries.counts.workers)
-told_by entries (Err list_errors.Missing) = Ok WordsMissing
-told_by entries (Err (list_errors.Refused fault)) = Ok (WordsRefused fault)
-told_by entries (Err list_errors.Failed) = Err faults.ReadFailed
-told_by entries (Err list_errors.OutOfMemory) = Err faults.OutOfMemory
 
 -- why nothing was found: a reading failed, or memory was wanted
 abbrev pub IsFileFault : Type 0 → CheckFault → Type 0
@@ -42,18 +18,18 @@ IsFileFault ReadFailed faults.OutOfMemory = Unit {0}
 IsFileFault ReadFailed faults.EndsFailed = ⊥
 
 -- the files, where they tell what stands in them, say this of the setup in the file of this name
-abbrev pub IsFinding : Option Contents → List ℕ → Finding → Type 0
-IsFinding contents name finding = IfSome contents (λ files. finding_of files name ≡ finding)
+abbrev pub IsFinding : List Key → Option Contents → List ℕ → Finding → Type 0
+IsFinding forms contents name finding = IfSome contents (λ files. told_by (service_in forms files name) ≡ Ok finding)
 
 -- what came of the mode, by what the files tell, what the ends told before and after, and whether a reading of a file and a call
 -- on the ends failed: what was found is told whole, or in part where the ends failed, or nothing is told
-abbrev pub IsOutcome : List ℕ → Option Contents → Option Link → Option Link → Type 0 → Type 0 → Result Finding CheckFault → Type 0
-IsOutcome name contents before after ReadFailed EndsFailed (Ok finding) =
-    IsFinding contents name finding × Goes (Exchanged [] (line_of finding)) before after
-IsOutcome name contents before after ReadFailed EndsFailed (Err faults.ReadFailed) = ReadFailed × (after ≡ before)
-IsOutcome name contents before after ReadFailed EndsFailed (Err faults.OutOfMemory) = after ≡ before
-IsOutcome name contents before after ReadFailed EndsFailed (Err faults.EndsFailed) =
-    EndsFailed × ((finding : Finding) × IsFinding contents name finding × SendsPart (line_of finding) before after)
+abbrev pub IsOutcome : List Key → List ℕ → Option Contents → Option Link → Option Link → Type 0 → Type 0 → Result Finding CheckFault → Type 0
+IsOutcome forms name contents before after ReadFailed EndsFailed (Ok finding) =
+    IsFinding forms contents name finding × Goes (Exchanged [] (line_of finding)) before after
+IsOutcome forms name contents before after ReadFailed EndsFailed (Err faults.ReadFailed) = ReadFailed × (after ≡ before)
+IsOutcome forms name contents before after ReadFailed EndsFailed (Err faults.OutOfMemory) = after ≡ before
+IsOutcome forms name contents before after ReadFailed EndsFailed (Err faults.EndsFailed) =
+    EndsFailed × ((finding : Finding) × IsFinding forms contents name finding × SendsPart (line_of finding) before after)
 
 -- whether the mode ended before its line
 abbrev pub ends_before_line : Result Finding CheckFault → Bool

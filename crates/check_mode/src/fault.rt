@@ -2,9 +2,7 @@
 
 ghost use Rattle.std.specs.Prelude.{◌≡◌};
 ghost use Rattle.check_mode.specs.declared.fault.CheckFault.TheVariants.{EndsFailed, OutOfMemory};
-ghost use Rattle.check_mode.specs.Outcome.{fault_of_front};
 
-use file_front::FrontError;
 use outside::Failed;
 use std::alloc::AllocError;
 
@@ -39,17 +37,6 @@ impl From<AllocError> for CheckFault {
 
     fn from(_: AllocError) -> Self {
         CheckFault::OutOfMemory
-    }
-}
-
-impl From<FrontError> for CheckFault {
-    ghost from_gives = { λ error fault. fault ≡ fault_of_front error };
-
-    fn from(error: FrontError) -> Self {
-        match error {
-            FrontError::Failed => CheckFault::ReadFailed,
-            FrontError::OutOfMemory => CheckFault::OutOfMemory,
-        }
     }
 }
 

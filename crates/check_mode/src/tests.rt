@@ -1,4 +1,8 @@
+ghost use Rattle.std.specs.Prelude.{◌≡◌, []};
+ghost use Rattle.info_hooks.specs.Texts.{info_bytes};
+
 use super::*;
+use info_hooks::{Card, Form, Hook, Hooks, InfoText};
 use outside::{Bytes, CallKind, Fail, MemFiles, MemStream, Word};
 use std::alloc::{AllocError, Global};
 use std::test::Fail as Fault;
@@ -72,15 +76,31 @@ fn file(alloc: Global, name: &str, bytes: &[u8]) -> Result<(Word, Bytes), AllocE
     Ok((name, Bytes::of(alloc, bytes)?))
 }
 
+/// Says nothing.
+fn say_nothing(_: &Card) -> InfoText
+    ensures { info_bytes result ≡ [] }
+{
+    InfoText::of(&[])
+}
+
+/// Information of the number 1, which says nothing.
+#[tactic(auto, unfolding(info_hooks::specs::Said::said))]
+fn one_hook(alloc: Global) -> Result<Hooks, Fault> {
+    let mut list = Vec::new(alloc);
+    list.push(Hook::new(1, Form::of(&[]), say_nothing))?;
+    Ok(Hooks::new(list).ok().ok_or("hooks")?)
+}
+
 /// What the mode found of the setup in the file `setup`, and what it sent.
 fn checked(
     alloc: Global,
     files: &[(Word, Bytes)],
     fails: &[Fail],
-) -> Result<(Result<Finding, CheckFault>, Bytes), AllocError> {
+) -> Result<(Result<Finding, CheckFault>, Bytes), Fault> {
+    let hooks = one_hook(alloc)?;
     let mut files = MemFiles::new(alloc, files, fails)?;
     let mut ends = MemStream::new(alloc, b"", &[1], fails)?;
-    let found = run_check(alloc, "setup", &mut files, &mut ends);
+    let found = run_check(alloc, "setup", &hooks, &mut files, &mut ends);
     Ok((found, Bytes::of(alloc, ends.sent())?))
 }
 
@@ -110,14 +130,14 @@ const ROWS: [(usize, &str, &str, u16, u8, &str); 14] = [
         "hold = 30000\ninfo = [1]",
         "",
         2_048,
-        5,
-        "refused setup info no-hook 0\n",
+        0,
+        "ok accounts 1 workers 1\n",
     ),
     (16, SECOND, "", 2_048, 5, "refused setup name twice 2\n"),
     (0, "socket", "", 2_048, 5, "refused setup file not-toml 0\n"),
     (
         9,
-        "hold = 1\ninfo = [7]",
+        "hold = 1\ninfo = [1, 7]",
         "",
         0,
         5,

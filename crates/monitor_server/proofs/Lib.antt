@@ -1,10 +1,4 @@
-pub mod Steps
-pub mod Serving
-pub mod Turns
-pub mod Closing
-pub mod Opening
-pub mod Stories
-pub mod Ran
-pub mod Logs
-pub mod Headline
+pub mod Apart
+pub mod Told
+pub mod Served
 pub mod Whole

@@ -1,5 +1,5 @@
--- The words of the commands.
-use Rattle.std.specs.Prelude.{◌≡◌, ◌≢◌, ◌⊎◌, ℕ, List, [], ◌∷◌, codes, Option, Some, None, option_and_then, Result, Ok, Err}
+-- Believed: the words of the commands.
+use Rattle.std.specs.Prelude.{◌≡◌, ◌≢◌, ◌⊎◌, ℕ, List, Option, Some, None, option_and_then, Result, Ok, Err}
 use Rattle.command_line.specs.Words.{plain_words}
 use Rattle.otp_mode.specs.Command.{command_parts}
 use Rattle.otp_mode.specs.Words.{OtpParts, otp_command}
@@ -10,14 +10,16 @@ use Rattle.audit_mode.specs.Commands as audits
 use Rattle.audit_mode.specs.Words.{AuditParts, audit_command}
 use Rattle.otp_extended.specs.Commands as renewals
 use Rattle.otp_extended.specs.Commands.{RenewParts, renew_command}
+use Rattle.serve_mode.specs.Commands.{source_of}
+use Rattle.serve_mode.specs.Words.{Source, serve_command}
 use Rattle.monitor_server.specs.declared.command.Command.{Command}
 use Rattle.monitor_server.specs.declared.command.Command.TheVariants as commands
 use Rattle.monitor_server.specs.declared.command.Unread.{Unread}
 use Rattle.monitor_server.specs.declared.command.Unread.TheVariants as unread
 
--- the words of the command that serves the plain setup
-abbrev pub serve_words : List (List ℕ)
-serve_words = codes "serve" ∷ []
+-- what the words ask the mode `serve` for, where none begins with a hyphen
+abbrev pub asks_serve : List (List ℕ) → Option Source
+asks_serve words = option_and_then serve_command (plain_words words)
 
 -- what the words ask the mode `otp` for, where none begins with a hyphen
 abbrev pub asks_otp : List (List ℕ) → Option OtpParts
@@ -39,23 +41,23 @@ asks_audit words = option_and_then audit_command (plain_words words)
 abbrev pub asks_renew : List (List ℕ) → Option RenewParts
 asks_renew words = option_and_then renew_command (plain_words words)
 
--- the words of a command: `serve`, or those of the modes `otp` and `check`, of the children's, and of `audit` and `renew`
+-- the words of a command: those of the modes `serve`, `otp` and `check`, of the children's, and of `audit` and `renew`
 abbrev pub IsCommand : List (List ℕ) → Type 0
-IsCommand words = (words ≡ serve_words) ⊎ ((parts : OtpParts) × (asks_otp words ≡ Some parts)) ⊎ ((setup : List ℕ) × (asks_check words ≡ Some setup)) ⊎ ((parts : ChildParts) × (asks_child words ≡ Some parts)) ⊎ ((parts : AuditParts) × (asks_audit words ≡ Some parts)) ⊎ ((parts : RenewParts) × (asks_renew words ≡ Some parts))
+IsCommand words = ((source : Source) × (asks_serve words ≡ Some source)) ⊎ ((parts : OtpParts) × (asks_otp words ≡ Some parts)) ⊎ ((setup : List ℕ) × (asks_check words ≡ Some setup)) ⊎ ((parts : ChildParts) × (asks_child words ≡ Some parts)) ⊎ ((parts : AuditParts) × (asks_audit words ≡ Some parts)) ⊎ ((parts : RenewParts) × (asks_renew words ≡ Some parts))
 
 -- what a mode's word and the words behind it are read as
 abbrev pub IsMeant : List (List ℕ) → Option Command → Type 0
-IsMeant words (Some commands.Serve) = words ≡ serve_words
+IsMeant words (Some (commands.Serve command)) = serve_command words ≡ Some (source_of command)
 IsMeant words (Some (commands.Password command)) = otp_command words ≡ Some (command_parts command)
 IsMeant words (Some (commands.Check setup)) = check_command words ≡ Some setup.now
 IsMeant words (Some (commands.Child command)) = child_command words ≡ Some (parts_of command)
 IsMeant words (Some (commands.Audit command)) = audit_command words ≡ Some (audits.command_parts command)
 IsMeant words (Some (commands.Renew command)) = renew_command words ≡ Some (renewals.command_parts command)
-IsMeant words None = (words ≢ serve_words) × (otp_command words ≡ None) × (check_command words ≡ None) × (child_command words ≡ None) × (audit_command words ≡ None) × (renew_command words ≡ None)
+IsMeant words None = (serve_command words ≡ None) × (otp_command words ≡ None) × (check_command words ≡ None) × (child_command words ≡ None) × (audit_command words ≡ None) × (renew_command words ≡ None)
 
 -- what the words of a command line are read as; want of memory comes only where none begins with a hyphen
 abbrev pub IsReading : List (List ℕ) → Result Command Unread → Type 0
-IsReading words (Ok commands.Serve) = words ≡ serve_words
+IsReading words (Ok (commands.Serve command)) = asks_serve words ≡ Some (source_of command)
 IsReading words (Ok (commands.Password command)) = asks_otp words ≡ Some (command_parts command)
 IsReading words (Ok (commands.Check setup)) = asks_check words ≡ Some setup.now
 IsReading words (Ok (commands.Child command)) = asks_child words ≡ Some (parts_of command)

@@ -1,10 +1,4 @@
-pub mod Asking
-pub mod Book
 pub mod Commands
 pub mod Headline
 pub mod Modes
-pub mod Ran
-pub mod Room
-pub mod Serving
-pub mod Session
-pub mod Frames
+pub mod Whole

@@ -1,9 +1,22 @@
--- What the modes beside `serve` promise, and what each mode leaves as it was.
-use Rattle.std.specs.Prelude.{◌≡◌, ◌≢◌, ◌⊎◌, ℕ, List, Option, Some, None, Result, Ok, Err}
+-- Believed: what each mode promises, and what it leaves as it was.
+use Rattle.std.specs.Prelude.{◌≡◌, ◌≢◌, ◌⊎◌, ℕ, List, [], Option, Some, None, Result, Ok, Err}
+use Rattle.info_hooks.specs.declared.key.Key.{Key}
+use Rattle.outside.specs.declared.faults.Faults.{Faults}
+use Rattle.outside.specs.declared.place.Place.{Place as SitePlace}
 use Rattle.outside.specs.Files.{Contents, SameFiles}
 use Rattle.outside.specs.Link.{Link}
-use Rattle.outside.specs.Told.{Goes}
+use Rattle.outside.specs.Scene.{Scene}
+use Rattle.outside.specs.Told.{Gains, Goes}
 use Rattle.policy_model.specs.declared.event.Event.{Event}
+use Rattle.service_model.specs.Service.{Service}
+use Rattle.service_reading.specs.declared.error.ServiceError.{ServiceError}
+use Rattle.service_reading.specs.declared.error.ServiceError.TheVariants as service_errors
+use Rattle.serve_mode.specs.declared.error.ServeError.{ServeError}
+use Rattle.serve_mode.specs.declared.error.ServeError.TheVariants as serve_errors
+use Rattle.serve_mode.specs.Errors as serves
+use Rattle.serve_mode.specs.Headline.{ServeHasCause, ServePromises}
+use Rattle.serve_mode.specs.Services.{IsServiceOf}
+use Rattle.serve_mode.specs.Words.{Plain, Source}
 use Rattle.otp_mode.specs.declared.fault.OtpFault.{OtpFault}
 use Rattle.otp_mode.specs.declared.fault.OtpFault.TheVariants as faults
 use Rattle.otp_mode.specs.Exact.{IsExact}
@@ -33,8 +46,35 @@ use Rattle.renew_mode.specs.Outcome as renews
 use Rattle.monitor_server.specs.declared.report.Detail.{Detail}
 use Rattle.monitor_server.specs.declared.report.Detail.TheVariants.{AuditNo, Missing, Nothing, RenewBad, SetupBad, WordsBad}
 use Rattle.monitor_server.specs.declared.report.FileKind.TheVariants.{Log, Setup, Words}
-use Rattle.monitor_server.specs.Commands.{asks_audit, asks_check, asks_child, asks_otp, asks_renew, serve_words}
+use Rattle.monitor_server.specs.Commands.{asks_audit, asks_check, asks_child, asks_otp, asks_renew, asks_serve}
 use Rattle.monitor_server.specs.Headline.{IsUnused}
+
+-- what is missing or refused of what a run serves by
+abbrev pub serve_detail : Result (Unit {0}) ServeError → Detail
+serve_detail (Err (serve_errors.Unread service_errors.SetupMissing)) = Missing Setup
+serve_detail (Err (serve_errors.Unread (service_errors.SetupRefused fault))) = SetupBad fault
+serve_detail (Err (serve_errors.Unread service_errors.WordsMissing)) = Missing Words
+serve_detail (Err (serve_errors.Unread (service_errors.WordsRefused fault))) = WordsBad fault
+serve_detail _ = Nothing
+
+-- the mode `serve` came to an end that is told by status and detail, with its causes; where somebody was served, the promises hold of
+-- the service that was served by; where the files tell, they hold of the one that these spell; and where nobody was served, neither
+-- the log nor a file changed, and the site didn't listen
+pub record ServeRan {P : Type 0} (source : Source) (forms : List Key) (status : ℕ) (detail : Detail) (journal : List Event) (posts : List P) (scene : P → Option Scene) (faults : P → Faults) (old new : Option Contents) (listens_old listens_new : Option (List SitePlace)) (held_old held_new : Option (List ℕ)) (ReadRose ReplaceRose ListenRose LogRose : Type 0) : Type 0 where
+  pub end : Result (Unit {0}) ServeError
+  pub status_is : status ≡ serves.status_of end
+  pub detail_is : detail ≡ serve_detail end
+  pub unread : (error : ServiceError) → end ≡ Err (serve_errors.Unread error) → serves.IsUnread source forms new ReadRose error
+  pub causes : ServeHasCause status journal posts scene faults ReadRose ListenRose LogRose ReplaceRose
+  pub served : (posts ≡ []) ⊎ ((service : Service) × ServePromises source service status journal posts scene faults old new listens_old listens_new held_old held_new ReadRose ReplaceRose ListenRose LogRose)
+  pub promises : (service : Service) → IsServiceOf source forms old new service → ServePromises source service status journal posts scene faults old new listens_old listens_new held_old held_new ReadRose ReplaceRose ListenRose LogRose
+  pub unlogged : posts ≡ [] → Gains held_old [] held_new
+  pub unlistened : posts ≡ [] → Gains listens_old [] listens_new
+  pub unchanged : posts ≡ [] → Goes SameFiles old new
+
+-- where the words are those of the mode `serve`, it ran
+pub record ServeMode {P : Type 0} (words : List (List ℕ)) (forms : List Key) (status : ℕ) (detail : Detail) (journal : List Event) (posts : List P) (scene : P → Option Scene) (faults : P → Faults) (old new : Option Contents) (listens_old listens_new : Option (List SitePlace)) (held_old held_new : Option (List ℕ)) (ReadRose ReplaceRose ListenRose LogRose : Type 0) : Type 0 where
+  pub ran : (source : Source) → asks_serve words ≡ Some source → ServeRan source forms status detail journal posts scene faults old new listens_old listens_new held_old held_new ReadRose ReplaceRose ListenRose LogRose
 
 -- where a fault of the mode `otp` lies
 abbrev pub fault_detail : OtpFault → Detail
@@ -71,15 +111,15 @@ checked_detail (Ok finding) = finding_detail finding
 checked_detail (Err _) = Nothing
 
 -- the mode `check` came to an outcome that the files and the ends account for, and that is told by status and detail
-pub record CheckRan (setup : List ℕ) (status : ℕ) (detail : Detail) (contents : Option Contents) (before after : Option Link) (ReadFailed EndsFailed : Type 0) : Type 0 where
+pub record CheckRan (forms : List Key) (setup : List ℕ) (status : ℕ) (detail : Detail) (contents : Option Contents) (before after : Option Link) (ReadFailed EndsFailed : Type 0) : Type 0 where
   pub outcome : Result Finding CheckFault
   pub status_is : status ≡ checks.status_of outcome
   pub detail_is : detail ≡ checked_detail outcome
-  pub cause : checks.IsOutcome setup contents before after ReadFailed EndsFailed outcome
+  pub cause : checks.IsOutcome forms setup contents before after ReadFailed EndsFailed outcome
 
 -- where the words are those of the mode `check`, it ran, unless memory was wanted
-pub record CheckMode (words : List (List ℕ)) (status : ℕ) (detail : Detail) (contents : Option Contents) (before after : Option Link) (ReadFailed EndsFailed : Type 0) : Type 0 where
-  pub ran : (setup : List ℕ) → asks_check words ≡ Some setup → (status ≡ 9) ⊎ CheckRan setup status detail contents before after ReadFailed EndsFailed
+pub record CheckMode (words : List (List ℕ)) (forms : List Key) (status : ℕ) (detail : Detail) (contents : Option Contents) (before after : Option Link) (ReadFailed EndsFailed : Type 0) : Type 0 where
+  pub ran : (setup : List ℕ) → asks_check words ≡ Some setup → (status ≡ 9) ⊎ CheckRan forms setup status detail contents before after ReadFailed EndsFailed
 
 -- the mode of a child came to an outcome that the ends account for, and that is told by the status
 pub record ChildRan (parts : ChildParts) (status : ℕ) (before after : Option Link) (EndsFailed : Type 0) : Type 0 where
@@ -132,22 +172,23 @@ pub record RenewRan (parts : RenewParts) (status : ℕ) (detail : Detail) (old n
 pub record RenewMode (words : List (List ℕ)) (status : ℕ) (detail : Detail) (old new : Option Contents) (before after : Option Link) (ReadFailed ReplaceFailed EndsFailed : Type 0) : Type 0 where
   pub ran : (parts : RenewParts) → asks_renew words ≡ Some parts → (status ≡ 9) ⊎ RenewRan parts status detail old new before after ReadFailed ReplaceFailed EndsFailed
 
--- no mode but `renew` changes a file, and that one at most the setup's that its words name; with other statuses than 0, 8 and 11 no file is changed
+-- no mode but `renew` and `serve` changes a file; `renew` at most the setup's that its words name, and with other statuses than 0, 8
+-- and 11 none; what `serve` changes its own promises tell
 pub record ChangesFiles (words : List (List ℕ)) (status : ℕ) (old new : Option Contents) : Type 0 where
-  pub same : asks_renew words ≡ None → Goes SameFiles old new
+  pub same : asks_serve words ≡ None → asks_renew words ≡ None → Goes SameFiles old new
   pub spares : (parts : RenewParts) → asks_renew words ≡ Some parts → Goes (renews.Spares parts.setup) old new
-  pub unwritten : status ≢ 0 → status ≢ 8 → status ≢ 11 → Goes SameFiles old new
+  pub unwritten : asks_serve words ≡ None → status ≢ 0 → status ≢ 8 → status ≢ 11 → Goes SameFiles old new
 
--- what a mode doesn't use it leaves as it was: all but `otp`, `check`, `audit` and `renew` the files, all but these and the children's the ends,
--- all but `serve` the site, the log and the posts; `otp` leaves the files where the words name no list; with 3 nothing was received or
--- sent, with 9 only by `renew`, and with 4 and 5 only by `check`; the detail tells of 4, 5, 14 and 15 alone
+-- what a mode doesn't use it leaves as it was: all but `serve`, `otp`, `check`, `audit` and `renew` the files, all but `otp`, `check`,
+-- `audit`, `renew` and the children's the ends, all but `serve` the site, the log and the posts; `serve` leaves the files where it
+-- serves by the plain setup, and `otp` where the words name no list; with 3 nothing was received or sent, with 9 only by `renew`,
+-- and with 4 and 5 only by `check`; the detail tells of 4, 5, 14 and 15 alone
 pub record LeavesRest {F S E K P : Type 0} (words : List (List ℕ)) (status : ℕ) (detail : Detail) (files_old files_new : F) (site_old site_new : S) (ends_old ends_new : E) (log_old log_new : K) (journal : List Event) (posts : List P) : Type 0 where
-  pub files : asks_otp words ≡ None → asks_check words ≡ None → asks_audit words ≡ None → asks_renew words ≡ None → files_new ≡ files_old
+  pub files : asks_serve words ≡ None → asks_otp words ≡ None → asks_check words ≡ None → asks_audit words ≡ None → asks_renew words ≡ None → files_new ≡ files_old
+  pub plain_setup : asks_serve words ≡ Some Plain → files_new ≡ files_old
   pub ends : asks_otp words ≡ None → asks_check words ≡ None → asks_child words ≡ None → asks_audit words ≡ None → asks_renew words ≡ None → ends_new ≡ ends_old
-  pub site : words ≢ serve_words → site_new ≡ site_old
-  pub unserved : words ≢ serve_words → IsUnused log_old log_new journal posts
-  pub unbegun : status ≡ 6 → IsUnused log_old log_new journal posts
-  pub unremembered : status ≡ 9 → IsUnused log_old log_new journal posts
+  pub site : asks_serve words ≡ None → site_new ≡ site_old
+  pub unserved : asks_serve words ≡ None → IsUnused log_old log_new journal posts
   pub unread : (parts : OtpParts) → asks_otp words ≡ Some parts → parts.list ≡ None → files_new ≡ files_old
   pub silent : (status ≡ 3) ⊎ (status ≡ 9) × (asks_renew words ≡ None) → ends_new ≡ ends_old
   pub unprinted : asks_check words ≡ None → (status ≡ 4) ⊎ (status ≡ 5) → ends_new ≡ ends_old

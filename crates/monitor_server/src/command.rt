@@ -1,8 +1,8 @@
 //! What the words of a command line ask for.
 
-ghost use Rattle.std.specs.Prelude.{◌≡◌, ◌≢◌, ◌∷◌, false, map, true};
+ghost use Rattle.std.specs.Prelude.{◌≡◌, ◌∷◌, map};
 ghost use Rattle.monitor_server.specs.declared.command.Unread.TheVariants.{OutOfMemory};
-ghost use Rattle.monitor_server.specs.Commands.{IsMeant, IsReading, serve_words};
+ghost use Rattle.monitor_server.specs.Commands.{IsMeant, IsReading};
 
 use audit_mode::{AuditCommand, read_audit_command};
 use check_mode::read_check_command;
@@ -11,13 +11,14 @@ use command_line::read_command_line;
 use otp_extended::{RenewCommand, read_renew_command};
 use otp_mode::{OtpCommand, read_otp_command};
 use outside::Word;
+use serve_mode::{ServeCommand, read_serve_command};
 use std::alloc::{AllocError, Global};
 
 /// What the words of a command line ask for.
 #[derive(Clone, Copy)]
 pub enum Command<'a> {
-    /// To serve the connections of the plain setup.
-    Serve,
+    /// To serve the connections of a setup.
+    Serve(ServeCommand<'a>),
     /// To print a one-time password.
     Password(OtpCommand<'a>),
     /// To check the setup in the file of this name.
@@ -61,8 +62,8 @@ pub fn read_command<'a>(alloc: Global, words: &'a [Word]) -> Result<Command<'a>,
 fn command_of<'a>(mode: &str, further: &[&'a str]) -> Option<Command<'a>>
     ensures { IsMeant (mode.now ∷ map (λ word. word.now) further.now) result }
 {
-    if is_serve(mode, further) {
-        return Some(Command::Serve);
+    if let Some(command) = read_serve_command(mode, further) {
+        return Some(Command::Serve(command));
     }
     if let Some(command) = read_otp_command(mode, further) {
         return Some(Command::Password(command));
@@ -80,12 +81,4 @@ fn command_of<'a>(mode: &str, further: &[&'a str]) -> Option<Command<'a>>
         Some(command) => Some(Command::Renew(command)),
         None => None,
     }
-}
-
-/// Whether the words are the one word `serve`.
-fn is_serve(mode: &str, further: &[&str]) -> bool
-    ensures yes { result ≡ true → mode.now ∷ map (λ word. word.now) further.now ≡ serve_words }
-    ensures no { result ≡ false → mode.now ∷ map (λ word. word.now) further.now ≢ serve_words }
-{
-    mode == "serve" && further.is_empty()
 }

@@ -1,4 +1,4 @@
-//! The modes that serve nobody.
+//! The modes.
 
 ghost use Rattle.std.specs.Prelude.{◌≡◌, ◌⊎◌, None};
 ghost use Rattle.outside.specs.Files.{SameFiles};
@@ -9,7 +9,9 @@ ghost use Rattle.audit_mode.specs.Commands as audits;
 ghost use Rattle.otp_extended.specs.Commands as renewals;
 ghost use Rattle.monitor_server.specs.declared.report.Detail.TheVariants.{Nothing};
 ghost use Rattle.monitor_server.specs.Headline.{IsUnused};
-ghost use Rattle.monitor_server.specs.Modes.{AuditRan, CheckRan, ChildRan, PasswordRan, RenewRan, audit_detail, fault_detail, finding_detail, renew_detail};
+ghost use Rattle.serve_mode.specs.Commands as serves;
+ghost use Rattle.serve_mode.specs.Words.{Plain};
+ghost use Rattle.monitor_server.specs.Modes.{AuditRan, CheckRan, ChildRan, PasswordRan, RenewRan, ServeRan, audit_detail, fault_detail, finding_detail, renew_detail, serve_detail};
 
 use crate::report::{Detail, FileKind, Report, unused};
 use audit_check::Audit;
@@ -18,9 +20,64 @@ use check_mode::{Finding, run_check};
 use child_mode::{ChildCommand, run_child_mode};
 use otp_extended::{RenewCommand, RenewalFault, Renewed};
 use otp_mode::{OtpCommand, OtpFault, run_otp};
-use outside::{Files, Sink, Stream};
+use outside::{Files, Sink, Site, Stream};
 use renew_mode::{RenewError, run_renew};
+use serve_mode::{ServeCommand, ServeError, Served, run_serve};
+use service_reading::{Information, ServiceError};
 use std::alloc::Global;
+use std::sync::Wait;
+use std::thread::Threads;
+
+/// Serves the connections of a setup.
+pub(crate) fn serve_setup<
+    F: Files,
+    S: Site,
+    K: Sink,
+    I: Information + Sync,
+    R: Threads + Wait + Sync,
+>(
+    rt: &R,
+    alloc: Global,
+    command: &ServeCommand<'_>,
+    files: &mut F,
+    site: &mut S,
+    log: K,
+    information: &I,
+) -> Report<S::Post, K>
+    ensures serve { ServeRan (serves.source_of command.now) (I.forms information.now) result.status result.detail result.journal.items result.posts.items S.Post.scene S.Post.faults (F.contents files.old) (F.contents files.new) (S.listens site.old) (S.listens site.new) (K.held log) (K.held result.log) (Rose (F.read_faults files.old) (F.read_faults files.new)) (Rose (F.replace_faults files.old) (F.replace_faults files.new)) (Rose (S.listen_faults site.old) (S.listen_faults site.new)) (Rose (K.faults log) (K.faults result.log)) }
+    ensures plain { serves.source_of command.now ≡ Plain → files.new ≡ files.old }
+{
+    let Served {
+        end,
+        journal,
+        log,
+        posts,
+    } = run_serve(rt, alloc, command, files, site, log, information);
+    Report {
+        status: serve_mode::status(end),
+        detail: serve_detail(end),
+        journal,
+        log,
+        posts,
+    }
+}
+
+/// What is missing or refused of what a run serves by.
+fn serve_detail(end: Result<(), ServeError>) -> Detail
+    ensures { result ≡ serve_detail end }
+{
+    match end {
+        Err(ServeError::Unread(ServiceError::SetupMissing)) => Detail::Missing {
+            file: FileKind::Setup,
+        },
+        Err(ServeError::Unread(ServiceError::SetupRefused(fault))) => Detail::SetupBad(fault),
+        Err(ServeError::Unread(ServiceError::WordsMissing)) => Detail::Missing {
+            file: FileKind::Words,
+        },
+        Err(ServeError::Unread(ServiceError::WordsRefused(fault))) => Detail::WordsBad(fault),
+        _ => Detail::Nothing,
+    }
+}
 
 /// Prints a one-time password: the pass phrase is read from the ends, and a word list from its file.
 pub(crate) fn print_password<F: Files, P, K, E: Stream>(
@@ -60,19 +117,20 @@ fn detail_of(fault: OtpFault) -> Detail
 }
 
 /// Says whether a setup is right: it and its word list are read from their files.
-pub(crate) fn check_setup<F: Files, P, K, E: Stream>(
+pub(crate) fn check_setup<F: Files, I: Information, P, K, E: Stream>(
     alloc: Global,
     setup: &str,
+    information: &I,
     files: &mut F,
     log: K,
     ends: &mut E,
 ) -> Report<P, K>
-    ensures check { CheckRan setup.now result.status result.detail (F.contents files.new) (E.link ends.old) (E.link ends.new) (Rose (F.read_faults files.old) (F.read_faults files.new)) (Rose (E.faults ends.old) (E.faults ends.new)) }
+    ensures check { CheckRan (I.forms information.now) setup.now result.status result.detail (F.contents files.new) (E.link ends.old) (E.link ends.new) (Rose (F.read_faults files.old) (F.read_faults files.new)) (Rose (E.faults ends.old) (E.faults ends.new)) }
     ensures unused { IsUnused log result.log result.journal.items result.posts.items }
     ensures silent { (result.status ≡ 3) ⊎ (result.status ≡ 9) → ends.new ≡ ends.old }
     ensures files { Goes SameFiles (F.contents files.old) (F.contents files.new) }
 {
-    match run_check(alloc, setup, files, ends) {
+    match run_check(alloc, setup, information, files, ends) {
         Ok(finding) => unused(alloc, finding.status(), detail_of_finding(finding), log),
         Err(fault) => unused(alloc, fault.status(), Detail::Nothing, log),
     }

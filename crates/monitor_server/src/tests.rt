@@ -1,52 +1,39 @@
-ghost use Rattle.std.specs.Prelude.{◌<◌, ◌≤◌, All, IfOk, length};
+ghost use Rattle.std.specs.Prelude.{◌≡◌, ◌<◌, ◌≤◌, [], All, IfOk, length};
+ghost use Rattle.info_hooks.specs.Texts.{info_bytes};
 ghost use Rattle.outside.specs.MemPost.{faults_of, scene_of};
 ghost use Rattle.outside.specs.Scene.{IsFresh};
 
 use super::{Detail, FileKind, Report, otplogd};
 use account_file::{SetupFault, SetupKey, SetupRule};
 use audit_check::AuditWhy;
+use info_hooks::{Card, Form, Hook, Hooks, InfoText};
 use otp_words::{DictFault, DictRule};
 use outside::{
-    Accepted, Act, Bytes, CallKind, Fail, MemFiles, MemPost, MemSink, MemSite, MemStream, Role,
-    Script, Word,
+    Accepted, Act, Bytes, MemFiles, MemPost, MemSink, MemSite, MemStream, Role, Script, Word,
 };
 use std::alloc::{AllocError, Global};
+use std::sync::Wait;
 use std::test::Fail as Fault;
+use std::thread::Threads;
 
 mod offline;
-mod polite;
 
 /// The child before the login of the first session.
 const PRE: Role = Role::Pre { session: 1 };
-
-/// WRITE of `hi` to the client's connection.
-const WRITE_HI: &[u8] = b"\x08\0\0\0\x1e\0\0\0\0\0\0\0\0\0\0\0\0\0\0\0\0\0\0\0\0\0\0\0hi";
-
-/// FINISH.
-const FINISH: &[u8] = b"\x0d\0\0\0\x10\0\0\0\0\0\0\0\0\0\0\0";
 
 /// WRITE of `hi` and FINISH.
 const SMALLEST: &[u8] = b"\x08\0\0\0\x1e\0\0\0\0\0\0\0\0\0\0\0\0\0\0\0\0\0\0\0\0\0\0\0hi\
     \x0d\0\0\0\x10\0\0\0\0\0\0\0\0\0\0\0";
 
-/// The reply to the WRITE, done.
-const WROTE: &[u8] = b"\x08\x01\0\0\x11\0\0\0\0\0\0\0\x01\0\0\0\0";
-
 /// The replies to both, done.
 const BOTH_DONE: &[u8] = b"\x08\x01\0\0\x11\0\0\0\0\0\0\0\x01\0\0\0\0\
     \x0d\x01\0\0\x11\0\0\0\0\0\0\0\x01\0\0\0\0";
 
-const OPENED: &str = "1 w0 s1 open permit\n";
-
 const SMALLEST_LOG: &str = "1 w0 s1 open permit\n2 w0 s1 write 0 0 2 permit\n\
     3 w0 s1 finish permit\n4 w0 s1 end finished permit\n";
 
-fn fail(call: CallKind, number: u32, sent: usize) -> Fail {
-    Fail { call, number, sent }
-}
-
 /// A post with one connection, whose child sends these bytes in pieces of these lengths.
-fn post(alloc: Global, pre: &[u8], cuts: &[usize], fails: &[Fail]) -> Result<MemPost, AllocError>
+fn post(alloc: Global, pre: &[u8], cuts: &[usize]) -> Result<MemPost, AllocError>
     requires some_cut { 0 < length cuts.now }
     requires each_cut { All (λ c. 1 ≤ c) cuts.now }
     ensures { IfOk result (IsFresh scene_of faults_of) }
@@ -56,27 +43,44 @@ fn post(alloc: Global, pre: &[u8], cuts: &[usize], fails: &[Fail]) -> Result<Mem
         pre: Bytes::of(alloc, pre)?,
         user: Bytes::of(alloc, b"")?,
     };
-    MemPost::new(alloc, vec![in alloc; script]?, cuts, &[0], 100, fails)
+    MemPost::new(alloc, vec![in alloc; script]?, cuts, &[0], 100, &[])
+}
+
+/// Says nothing.
+fn say_nothing(_card: &Card) -> InfoText
+    ensures { info_bytes result ≡ [] }
+{
+    InfoText::of(b"")
+}
+
+/// One hook, of number 1, that says nothing.
+#[tactic(auto, unfolding(info_hooks::specs::Said::said))]
+fn one_hook(alloc: Global) -> Result<Hooks, Fault> {
+    let mut list = Vec::new(alloc);
+    list.push(Hook::new(1, Form::of(&[]), say_nothing))?;
+    Ok(Hooks::new(list).ok().ok_or("hooks")?)
 }
 
 /// A run of `serve` with one such post.
-fn serve(
+fn serve<R: Threads + Wait + Sync>(
+    rt: &R,
     alloc: Global,
     pre: &[u8],
     cuts: &[usize],
-    fails: &[Fail],
-    log_fails: &[Fail],
+    hooks: &Hooks,
 ) -> Result<Report<MemPost, MemSink>, AllocError>
     requires some_cut { 0 < length cuts.now }
     requires each_cut { All (λ c. 1 ≤ c) cuts.now }
 {
-    let posts = vec![in alloc; post(alloc, pre, cuts, fails)?]?;
+    let posts = vec![in alloc; post(alloc, pre, cuts)?]?;
     let mut site = MemSite::new(alloc, posts)?;
     let words = [Word::of(alloc, "serve".as_bytes())?];
     let mut files = MemFiles::new(alloc, &[], &[])?;
     let mut ends = MemStream::new(alloc, b"", &[100], &[])?;
-    let log = MemSink::new(alloc, log_fails)?;
-    Ok(otplogd(alloc, &words, &mut files, &mut site, log, &mut ends))
+    let log = MemSink::new(alloc, &[])?;
+    Ok(otplogd(
+        rt, alloc, &words, &mut files, &mut site, log, &mut ends, hooks,
+    ))
 }
 
 /// The text of the log, as bytes.
@@ -97,6 +101,7 @@ fn sent_to_child(report: &Report<MemPost, MemSink>) -> Option<&[u8]> {
 #[test]
 fn the_smallest_run_succeeds(rt: HostRuntime) -> Result<(), Fault> {
     let alloc = rt.alloc();
+    let hooks = one_hook(alloc)?;
     let acts = vec![in alloc;
         Act::Accept {
             outcome: Accepted::Came
@@ -113,204 +118,13 @@ fn the_smallest_run_succeeds(rt: HostRuntime) -> Result<(), Fault> {
         Act::HangUp,
     ]?;
     for cuts in [[100, 100, 100], [1, 1, 1], [15, 2, 100]] {
-        let report = serve(alloc, SMALLEST, &cuts, &[], &[])?;
+        let report = serve(&rt, alloc, SMALLEST, &cuts, &hooks)?;
         assert_eq!(rt; report.status, 0);
         assert_eq!(rt; report.journal.len(), 4);
         assert_eq!(rt; log_of(&report), SMALLEST_LOG.as_bytes());
         assert_eq!(rt; sent_to_child(&report), Some(BOTH_DONE));
         assert_eq!(rt; report.posts.len(), 1);
         assert_eq!(rt; report.posts[0].acts(), acts.as_slice());
-    }
-    Ok(())
-}
-
-/// What is held is served before more is received: the child may wait for its replies.
-#[test]
-fn the_smallest_run_in_one_piece_is_received_once(rt: HostRuntime) -> Result<(), Fault> {
-    let second = fail(CallKind::Recv, 2, 0);
-    let report = serve(rt.alloc(), SMALLEST, &[100], &[second], &[])?;
-    assert_eq!(rt; report.status, 0);
-    assert_eq!(rt; log_of(&report), SMALLEST_LOG.as_bytes());
-    assert_eq!(rt; sent_to_child(&report), Some(BOTH_DONE));
-    Ok(())
-}
-
-/// What one child sends, what it is sent, and the log behind the opening's line.
-struct Case {
-    pre: &'static [u8],
-    sent: &'static [u8],
-    log: &'static str,
-}
-
-const CASES: [Case; 11] = [
-    // FINISH with flags 1, 2 and 3.
-    Case {
-        pre: b"\x0d\0\0\0\x10\0\x01\0\0\0\0\0\0\0\0\0",
-        sent: b"\0\x01\0\0\x16\0\0\0\0\0\0\0\x01\0\0\0\x01\x02\x01\0\0\0",
-        log: "2 w0 s1 bad 2 1 deny 2 1\n3 w0 s1 end violation 2 permit\n",
-    },
-    Case {
-        pre: b"\x0d\0\0\0\x10\0\x02\0\0\0\0\0\0\0\0\0",
-        sent: b"\0\x01\0\0\x16\0\0\0\0\0\0\0\x01\0\0\0\x01\x03\x02\0\0\0",
-        log: "2 w0 s1 bad 3 2 deny 3 2\n3 w0 s1 end violation 3 permit\n",
-    },
-    Case {
-        pre: b"\x0d\0\0\0\x10\0\x03\0\0\0\0\0\0\0\0\0",
-        sent: b"\0\x01\0\0\x16\0\0\0\0\0\0\0\x01\0\0\0\x01\x02\x03\0\0\0",
-        log: "2 w0 s1 bad 2 3 deny 2 3\n3 w0 s1 end violation 2 permit\n",
-    },
-    // WRITE of `a` to handle 5.
-    Case {
-        pre: b"\x08\0\0\0\x1d\0\0\0\0\0\0\0\0\0\0\0\x05\0\0\0\0\0\0\0\0\0\0\0a",
-        sent: b"\x08\x01\0\0\x16\0\0\0\0\0\0\0\x01\0\0\0\x01\x11\x05\0\0\0",
-        log: "2 w0 s1 write 5 0 1 deny 17 5\n3 w0 s1 end child-ended permit\n",
-    },
-    // BANNER, which the narrow table doesn't permit.
-    Case {
-        pre: b"\x01\0\0\0\x10\0\0\0\0\0\0\0\0\0\0\0",
-        sent: b"\x01\x01\0\0\x16\0\0\0\0\0\0\0\x01\0\0\0\x01\x06\x01\0\0\0",
-        log: "2 w0 s1 banner deny 6 1\n3 w0 s1 end violation 6 permit\n",
-    },
-    // An unknown kind, 14.
-    Case {
-        pre: b"\x0e\0\0\0\x10\0\0\0\0\0\0\0\0\0\0\0",
-        sent: b"\0\x01\0\0\x16\0\0\0\0\0\0\0\x01\0\0\0\x01\x04\x0e\0\0\0",
-        log: "2 w0 s1 bad 4 14 deny 4 14\n3 w0 s1 end violation 4 permit\n",
-    },
-    // Nothing, a part of a header, and one whole WRITE.
-    Case {
-        pre: b"",
-        sent: b"",
-        log: "2 w0 s1 end child-ended permit\n",
-    },
-    Case {
-        pre: b"\x08\0\0\0\x1e\0\0",
-        sent: b"",
-        log: "2 w0 s1 end truncated permit\n",
-    },
-    Case {
-        pre: WRITE_HI,
-        sent: WROTE,
-        log: "2 w0 s1 write 0 0 2 permit\n3 w0 s1 end child-ended permit\n",
-    },
-    // Headers whose length is 15 and 16,385.
-    Case {
-        pre: b"\x08\0\0\0\x0f\0\0\0\0\0\0\0\0\0\0\0",
-        sent: b"",
-        log: "2 w0 s1 end bad-frame 15 permit\n",
-    },
-    Case {
-        pre: b"\x08\0\0\0\x01\x40\0\0\0\0\0\0\0\0\0\0",
-        sent: b"",
-        log: "2 w0 s1 end bad-frame 16385 permit\n",
-    },
-];
-
-#[test]
-fn each_kind_of_bytes_has_its_answer_and_its_lines(rt: HostRuntime) -> Result<(), Fault> {
-    for case in &CASES {
-        let report = serve(rt.alloc(), case.pre, &[100], &[], &[])?;
-        assert_eq!(rt; report.status, 0);
-        assert_eq!(rt; sent_to_child(&report), Some(case.sent));
-        let opening = log_of(&report).strip_prefix(OPENED.as_bytes());
-        assert_eq!(rt; opening, Some(case.log.as_bytes()), "{}", case.log);
-    }
-    Ok(())
-}
-
-/// A call that fails once, and how the run ends then.
-struct Failing {
-    fail: Fail,
-    status: u8,
-    events: usize,
-    sent: Option<&'static [u8]>,
-    log: &'static str,
-}
-
-const FAULTS: [Failing; 6] = [
-    Failing {
-        fail: Fail {
-            call: CallKind::Accept,
-            number: 1,
-            sent: 0,
-        },
-        status: 10,
-        events: 0,
-        sent: None,
-        log: "",
-    },
-    Failing {
-        fail: Fail {
-            call: CallKind::Start,
-            number: 1,
-            sent: 0,
-        },
-        status: 0,
-        events: 2,
-        sent: None,
-        log: "1 w0 s1 open permit\n2 w0 s1 end keeper-fault permit\n",
-    },
-    Failing {
-        fail: Fail {
-            call: CallKind::Recv,
-            number: 1,
-            sent: 0,
-        },
-        status: 0,
-        events: 2,
-        sent: Some(b""),
-        log: "1 w0 s1 open permit\n2 w0 s1 end link-fault permit\n",
-    },
-    // Three bytes of the first reply go out.
-    Failing {
-        fail: Fail {
-            call: CallKind::Send,
-            number: 1,
-            sent: 3,
-        },
-        status: 0,
-        events: 3,
-        sent: Some(b"\x08\x01\0"),
-        log: "1 w0 s1 open permit\n2 w0 s1 write 0 0 2 permit\n3 w0 s1 end link-fault permit\n",
-    },
-    // The connection fails: the WRITE is answered by device 1.
-    Failing {
-        fail: Fail {
-            call: CallKind::ConnSend,
-            number: 1,
-            sent: 0,
-        },
-        status: 0,
-        events: 4,
-        sent: Some(
-            b"\x08\x01\0\0\x12\0\0\0\0\0\0\0\x01\0\0\0\x02\x01\
-            \x0d\x01\0\0\x11\0\0\0\0\0\0\0\x01\0\0\0\0",
-        ),
-        log: SMALLEST_LOG,
-    },
-    // The third line is cut after five bytes: FINISH is not answered.
-    Failing {
-        fail: Fail {
-            call: CallKind::Append,
-            number: 3,
-            sent: 5,
-        },
-        status: 7,
-        events: 4,
-        sent: Some(WROTE),
-        log: "1 w0 s1 open permit\n2 w0 s1 write 0 0 2 permit\n3 w0 ",
-    },
-];
-
-#[test]
-fn each_call_fails_once(rt: HostRuntime) -> Result<(), Fault> {
-    for case in &FAULTS {
-        let fails = [case.fail];
-        let report = serve(rt.alloc(), SMALLEST, &[100], &fails, &fails)?;
-        assert_eq!(rt; report.status, case.status);
-        assert_eq!(rt; report.journal.len(), case.events);
-        assert_eq!(rt; sent_to_child(&report), case.sent);
-        assert_eq!(rt; log_of(&report), case.log.as_bytes(), "{}", case.log);
     }
     Ok(())
 }
@@ -352,7 +166,7 @@ tries = 1
 hold = 1
 ";
 
-const UNSERVED: [Unserved; 12] = [
+const UNSERVED: [Unserved; 15] = [
     // No post is there for the one worker.
     Unserved {
         line: "serve",
@@ -360,6 +174,39 @@ const UNSERVED: [Unserved; 12] = [
         file: ("", b""),
         status: 6,
         detail: Detail::Nothing,
+        sent: b"",
+    },
+    Unserved {
+        line: "serve setup",
+        input: b"",
+        file: ("other", b""),
+        status: 4,
+        detail: Detail::Missing {
+            file: FileKind::Setup,
+        },
+        sent: b"",
+    },
+    Unserved {
+        line: "serve setup",
+        input: b"",
+        file: ("setup", b"launcher = \"l\"\n"),
+        status: 5,
+        detail: Detail::SetupBad(SetupFault {
+            key: SetupKey::Socket,
+            rule: SetupRule::Missing,
+            account: 0,
+        }),
+        sent: b"",
+    },
+    Unserved {
+        line: "serve setup",
+        input: b"",
+        file: ("setup", ITS_OWN_LIST),
+        status: 5,
+        detail: Detail::WordsBad(DictFault {
+            line: 1,
+            rule: DictRule::Length,
+        }),
         sent: b"",
     },
     Unserved {
@@ -475,7 +322,12 @@ const UNSERVED: [Unserved; 12] = [
 ];
 
 /// What came of words that serve nobody: status, detail, the bytes sent to the ends, the posts.
-fn run_unserved(alloc: Global, row: &Unserved) -> Result<(u8, Detail, Bytes, usize), AllocError> {
+fn run_unserved<R: Threads + Wait + Sync>(
+    rt: &R,
+    alloc: Global,
+    row: &Unserved,
+    hooks: &Hooks,
+) -> Result<(u8, Detail, Bytes, usize), AllocError> {
     let name = Word::of(alloc, row.file.0.as_bytes())?;
     let pairs = vec![in alloc; (name, Bytes::of(alloc, row.file.1)?)]?;
     let mut files = MemFiles::new(alloc, pairs.as_slice(), &[])?;
@@ -484,12 +336,14 @@ fn run_unserved(alloc: Global, row: &Unserved) -> Result<(u8, Detail, Bytes, usi
     let words = words_of(alloc, row.line)?;
     let log = MemSink::new(alloc, &[])?;
     let report = otplogd(
+        rt,
         alloc,
         words.as_slice(),
         &mut files,
         &mut site,
         log,
         &mut ends,
+        hooks,
     );
     let sent = Bytes::of(alloc, ends.sent())?;
     Ok((report.status, report.detail, sent, report.posts.len()))
@@ -497,8 +351,9 @@ fn run_unserved(alloc: Global, row: &Unserved) -> Result<(u8, Detail, Bytes, usi
 
 #[test]
 fn other_words_serve_nobody(rt: HostRuntime) -> Result<(), Fault> {
+    let hooks = one_hook(rt.alloc())?;
     for row in &UNSERVED {
-        let (status, detail, sent, posts) = run_unserved(rt.alloc(), row)?;
+        let (status, detail, sent, posts) = run_unserved(&rt, rt.alloc(), row, &hooks)?;
         assert_eq!(rt; status, row.status, "{}", row.line);
         assert_eq!(rt; detail, row.detail, "{}", row.line);
         assert_eq!(rt; sent.as_slice(), row.sent, "{}", row.line);
@@ -514,7 +369,7 @@ fly
 help
 --help
 serve -x
-serve setup
+serve a b
 Serve
 check
 check -x
@@ -540,24 +395,36 @@ fn words_that_are_no_command(rt: HostRuntime) -> Result<(), Fault> {
     let alloc = rt.alloc();
     let mut files = MemFiles::new(alloc, &[], &[])?;
     let mut ends = MemStream::new(alloc, PHRASE, &[100], &[])?;
+    let hooks = one_hook(alloc)?;
     let mut site: MemSite<MemPost> = MemSite::new(alloc, Vec::new(alloc))?;
     for line in NO_COMMANDS.split('\n') {
         let words = words_of(alloc, line)?;
         let log = MemSink::new(alloc, &[])?;
         let report = otplogd(
+            &rt,
             alloc,
             words.as_slice(),
             &mut files,
             &mut site,
             log,
             &mut ends,
+            &hooks,
         );
         assert_eq!(rt; report.status, 2, "{line}");
         assert_eq!(rt; report.detail, Detail::Nothing);
         assert_eq!(rt; report.posts.len(), 0);
     }
     let log = MemSink::new(alloc, &[])?;
-    let report = otplogd(alloc, &[], &mut files, &mut site, log, &mut ends);
+    let report = otplogd(
+        &rt,
+        alloc,
+        &[],
+        &mut files,
+        &mut site,
+        log,
+        &mut ends,
+        &hooks,
+    );
     assert_eq!(rt; report.status, 2);
     assert_eq!(rt; ends.sent(), b"".as_slice());
     Ok(())

@@ -52,7 +52,7 @@ impl fmt::Display for Complaint {
 fn status_text(status: u8) -> &'static str {
     match status {
         2 => {
-            "call it as otplogd serve, otplogd check SETUP, otplogd audit SETUP LOG, \
+            "call it as otplogd serve [SETUP], otplogd check SETUP, otplogd audit SETUP LOG, \
             otplogd renew SETUP NAME or otplogd otp md5|sha1 N SEED [WORDS]"
         }
         3 => "a file could not be read",

@@ -4,8 +4,11 @@
 #![tactic(auto)]
 
 mod complaint;
+mod information;
 
 use complaint::Complaint;
+use info_hooks::{Hook, Hooks};
+use information::{chain_form, person_form, say_chain, say_person};
 use monitor_server::{Detail, otplogd};
 use outside::Word;
 use outside_real::{RealEnds, RealFiles, RealSink, RealSite, fill_standard_streams};
@@ -53,17 +56,29 @@ fn main(rt: HostRuntime) -> ExitCode {
     let Ok(words) = words_of(alloc, args) else {
         return complain(&rt, NO_MEMORY, Detail::Nothing);
     };
+    let hooks = vec![in alloc;
+        Hook::new(1, person_form(), say_person),
+        Hook::new(2, chain_form(), say_chain),
+    ];
+    let Ok(hooks) = hooks else {
+        return complain(&rt, NO_MEMORY, Detail::Nothing);
+    };
+    let Ok(information) = Hooks::new(hooks) else {
+        return complain(&rt, NO_MEMORY, Detail::Nothing);
+    };
     let log = RealSink::new(rt.stderr());
     let mut ends = RealEnds::new(rt.stdin(), rt.stdout());
     let mut files = RealFiles::new(rt, alloc);
     let mut site = RealSite::new(rt, alloc);
     let report = otplogd(
+        &rt,
         alloc,
         words.as_slice(),
         &mut files,
         &mut site,
         log,
         &mut ends,
+        &information,
     );
     if report.posts.is_empty() && report.status != 0 {
         return complain(&rt, report.status, report.detail);

@@ -1,9 +1,12 @@
-use super::{Detail, otplogd};
+use super::{Detail, one_hook, otplogd};
 use audit_check::AuditWhy;
+use info_hooks::Hooks;
 use otp_extended::RenewFault;
 use outside::{Bytes, MemFiles, MemPost, MemSink, MemSite, MemStream, Word};
 use std::alloc::{AllocError, Global};
+use std::sync::Wait;
 use std::test::Fail as Fault;
+use std::thread::Threads;
 
 /// A setup with alice, whose stored password is that of `This is a test.` with the seed `test` and the
 /// number 1 by MD5 (RFC 2289, appendix C).
@@ -68,31 +71,33 @@ fn files_of(alloc: Global) -> Result<MemFiles, AllocError> {
     MemFiles::new(alloc, pairs.as_slice(), &[])
 }
 
-/// What words come to.
+/// Three words and an input, and what they come to.
 #[derive(Clone, Copy)]
 struct Told {
+    words: [&'static str; 3],
+    input: &'static str,
     status: u8,
     detail: Detail,
     sent: &'static str,
 }
 
-/// Whether three words with an input come to this.
-fn comes(
+/// Whether the words with the input come to this.
+fn comes<R: Threads + Wait + Sync>(
+    rt: &R,
     alloc: Global,
     files: &mut MemFiles,
-    words: [&str; 3],
-    input: &str,
-    told: Told,
+    hooks: &Hooks,
+    told: &Told,
 ) -> Result<bool, AllocError> {
     let words = [
-        Word::of(alloc, words[0].as_bytes())?,
-        Word::of(alloc, words[1].as_bytes())?,
-        Word::of(alloc, words[2].as_bytes())?,
+        Word::of(alloc, told.words[0].as_bytes())?,
+        Word::of(alloc, told.words[1].as_bytes())?,
+        Word::of(alloc, told.words[2].as_bytes())?,
     ];
-    let mut ends = MemStream::new(alloc, input.as_bytes(), &[100], &[])?;
+    let mut ends = MemStream::new(alloc, told.input.as_bytes(), &[100], &[])?;
     let mut site: MemSite<MemPost> = MemSite::new(alloc, Vec::new(alloc))?;
     let log = MemSink::new(alloc, &[])?;
-    let report = otplogd(alloc, &words, files, &mut site, log, &mut ends);
+    let report = otplogd(rt, alloc, &words, files, &mut site, log, &mut ends, hooks);
     let sent = ends.sent() == told.sent.as_bytes();
     Ok(report.status == told.status && report.detail == told.detail && sent)
 }
@@ -103,34 +108,46 @@ fn comes(
 fn a_log_is_audited_and_an_account_renewed(rt: HostRuntime) -> Result<(), Fault> {
     let alloc = rt.alloc();
     let mut files = files_of(alloc)?;
-    let audit = ["audit", "setup", "log"];
-    let renew = ["renew", "setup", "alice"];
-    let yes = Told {
-        status: 0,
-        detail: Detail::Nothing,
-        sent: "yes 7\n",
-    };
+    let hooks = one_hook(alloc)?;
     let renewed = Told {
+        words: ["renew", "setup", "alice"],
+        input: RESPONSE,
         status: 0,
         detail: Detail::Nothing,
         sent: "renewed alice 99\n",
     };
-    let spent = Told {
-        status: 15,
-        detail: Detail::RenewBad(RenewFault::SameSeed),
-        sent: "",
+    let legal = Told {
+        words: ["audit", "setup", "log"],
+        input: "",
+        status: 0,
+        detail: Detail::Nothing,
+        sent: "yes 7\n",
     };
-    let no = Told {
-        status: 14,
-        detail: Detail::AuditNo {
-            line: 3,
-            why: AuditWhy::Event,
+    let steps = [
+        legal,
+        renewed,
+        Told {
+            status: 15,
+            detail: Detail::RenewBad(RenewFault::SameSeed),
+            sent: "",
+            ..renewed
         },
-        sent: "no 3 event\n",
-    };
-    assert!(rt; comes(alloc, &mut files, audit, "", yes)?);
-    assert!(rt; comes(alloc, &mut files, renew, RESPONSE, renewed)?);
-    assert!(rt; comes(alloc, &mut files, renew, RESPONSE, spent)?);
-    assert!(rt; comes(alloc, &mut files, audit, "", no)?);
+        Told {
+            status: 14,
+            detail: Detail::AuditNo {
+                line: 3,
+                why: AuditWhy::Event,
+            },
+            sent: "no 3 event\n",
+            ..legal
+        },
+    ];
+    for told in &steps {
+        assert!(rt;
+            comes(&rt, alloc, &mut files, &hooks, told)?,
+            "{}",
+            told.sent
+        );
+    }
     Ok(())
 }

@@ -1,0 +1,68 @@
+-- All that a run promises, from what its workers did and what its book keeps.
+use Rattle.std.proofs.Common.{◌≡◌, ℕ, ◌≤◌, Bool, true, List, length, Option, Some, sym, subst}
+use Rattle.monitor_book.specs.declared.opened.Opened.{Opened}
+use Rattle.monitor_book.specs.Kept.{BookParts, IsBook}
+use Rattle.monitor_book.specs.Lines.{LogMatches}
+use Rattle.outside.specs.declared.faults.Faults.{Faults}
+use Rattle.outside.specs.Scene.{Scene}
+use Rattle.outside.specs.Told.{Rose}
+use Rattle.policy_laws.proofs.Alike.{strangers_see_no_accounts}
+use Rattle.policy_model.specs.declared.event.Event.{Event}
+use Rattle.policy_model.specs.Journal.{has_lost}
+use Rattle.policy_model.specs.Runs.{IsRun}
+use Rattle.policy_model.specs.Settings.{Settings}
+use Rattle.service_model.specs.Service.{Service}
+use Rattle.session_core.specs.Parts.{setup_of}
+use Rattle.session_core.proofs.ReplayLemmas.{consequences}
+use Rattle.session_turns.specs.Passes.{opened_of}
+use Rattle.monitor_run.specs.Headline.{RunPromises}
+use Rattle.monitor_run.specs.Ran.{RunEnded}
+use Rattle.monitor_run.proofs.Headline.{answered_whole, conversations_match, fault_ends_are_counted, no_accept_failed, operations_match, runs_to_quota, sessions_in_order, some_accept_failed}
+
+-- what the book of a run keeps, by what was fixed of it
+pub record BookSays (setup : Settings) (journal : List Event) (held_old held_new : Option (List ℕ)) (log_old log_new : ℕ) : Type 0 where
+  pub run : IsRun setup journal
+  pub lines : LogMatches setup journal held_old held_new
+  pub rose : has_lost journal ≡ true → Rose log_old log_new
+
+pub book_says : (setup : Settings) (book : BookParts) (held : Option (List ℕ)) (faults : ℕ) → IsBook book → Some (record { setup = setup; held = held; faults = faults }) ≡ Some (opened_of book) → BookSays setup book.journal held book.held faults book.faults
+book_says setup book held faults is told =
+    let same : record { setup = setup; held = held; faults = faults } ≡ opened_of book = once _ _ told in
+    subst (λ (o : Opened). BookSays o.setup book.journal o.held book.held o.faults book.faults) (sym same) (record { run = is.history.run; lines = is.logged.lines; rose = is.logged.rose })
+  where
+    once : (a b : Opened) → Some a ≡ Some b → a ≡ b
+    once a b e = cc
+
+-- the setup of a book is that which was fixed of it
+pub book_setup : (opened : Opened) (book : BookParts) → Some opened ≡ Some (opened_of book) → opened.setup ≡ setup_of book.core
+book_setup opened book told = cc
+
+pub run_promises : {P : Type 0} (service : Service) (failed : Bool) (journal : List Event) (posts : List P) (scene : P → Option Scene) (faults : P → Faults) (held_old held_new : Option (List ℕ)) (log_old log_new : ℕ) → RunEnded service failed journal posts scene faults → BookSays service.setup journal held_old held_new log_old log_new → length journal ≤ 1048576 → length posts ≡ service.setup.workers → RunPromises service failed journal posts scene faults held_old held_new log_old log_new
+run_promises service failed journal posts scene faults held_old held_new log_old log_new ended says few one_each =
+    let conversations = conversations_match service failed journal posts scene faults ended in
+    record {
+      legal = record { legal = says.run.legal; proper = says.run.proper; workers = says.run.workers; few = few };
+      sessions = sessions_in_order service failed journal posts scene faults ended;
+      operations = operations_match service scene journal posts conversations;
+      conversations = conversations;
+      log = says.lines;
+      consequences = consequences service.setup journal says.run.legal;
+      unseen = record { alike = λ other_setup other same legal. strangers_see_no_accounts service.setup other_setup journal other (sym same) says.run.legal legal };
+      quota = runs_to_quota service failed journal posts scene faults ended;
+      fault_ends = fault_ends_are_counted service failed journal posts scene faults ended few;
+      one_each = one_each;
+      lost = says.rose;
+      accept_failed = some_accept_failed service failed journal posts scene faults ended;
+      accepted = no_accept_failed service failed journal posts scene faults ended;
+      whole = answered_whole service failed journal posts scene faults ended;
+    }
+
+-- the same under the names of what was handed out
+pub run_told : {P : Type 0} {service service' : Service} {failed failed' : Bool} {journal journal' : List Event} {posts posts' : List P} {scene : P → Option Scene} {faults : P → Faults} {held held_new held_new' : Option (List ℕ)} {log log_new log_new' : ℕ} → service' ≡ service → failed' ≡ failed → journal' ≡ journal → posts' ≡ posts → held_new' ≡ held_new → log_new' ≡ log_new → RunPromises service failed journal posts scene faults held held_new log log_new → RunPromises service' failed' journal' posts' scene faults held held_new' log log_new'
+run_told {P} {service} {service'} {failed} {failed'} {journal} {journal'} {posts} {posts'} {scene} {faults} {held} {held_new} {held_new'} {log} {log_new} {log_new'} s f j p h l is =
+    subst (λ s. RunPromises s failed' journal' posts' scene faults held held_new' log log_new') (sym s)
+    (subst (λ b. RunPromises service b journal' posts' scene faults held held_new' log log_new') (sym f)
+    (subst (λ es. RunPromises service failed es posts' scene faults held held_new' log log_new') (sym j)
+    (subst (λ ps. RunPromises service failed journal ps scene faults held held_new' log log_new') (sym p)
+    (subst (λ o. RunPromises service failed journal posts scene faults held o log log_new') (sym h)
+    (subst (λ n. RunPromises service failed journal posts scene faults held held_new log n) (sym l) is)))))

@@ -1,0 +1,139 @@
+-- Believed: what is promised of a run, in its parts.
+use Rattle.std.specs.Prelude.{◌≡◌, ℕ, ◌<◌, ◌≤◌, Bool, true, false, ◌&&◌, ◌==◌, List, [], length, count_by, slice_get, Option, Some, None, IfSome}
+use Rattle.std.specs.List.{AllByRecursion, last_or, list_any}
+use Rattle.monitor_book.specs.Lines.{LogMatches}
+use Rattle.outside.specs.Told.{Rose}
+use Rattle.outside.specs.declared.faults.Faults.{Faults}
+use Rattle.outside.specs.Scene.{Scene}
+use Rattle.outside.specs.declared.act.Act.{Act}
+use Rattle.outside.specs.declared.act.Act.TheVariants.{Accept}
+use Rattle.outside.specs.declared.act.Accepted.TheVariants as accepted
+use Rattle.policy_laws.specs.Strangers.{StrangersSeeNoAccounts}
+use Rattle.policy_model.specs.declared.event.Ask.{Ask}
+use Rattle.policy_model.specs.declared.event.Event.{Event}
+use Rattle.policy_model.specs.Asks.{is_lost, opens}
+use Rattle.policy_model.specs.Journal.{has_lost}
+use Rattle.policy_model.specs.Legal.{IsLegal}
+use Rattle.policy_model.specs.Runs.{IsOfWorker, IsProperEvent}
+use Rattle.policy_model.specs.Settings.{Settings}
+use Rattle.service_model.specs.Ends.{is_fault_end, is_keeper_end, is_link_end}
+use Rattle.service_model.specs.Service.{Service}
+use Rattle.service_model.specs.Sittings.{AreAnswered, AreSittingsOf, Sitting}
+use Rattle.service_model.specs.Stories.{IsStory, LastAccept, NoAcceptBehindLoss, is_stop, story_acts}
+use Rattle.session_core.specs.Replayed.{HasConsequences}
+
+-- ---- the journal is legal
+
+-- each event is the policy's on those before it, or is lost with all later ones; each ask is proper, each worker the setup's
+pub record JournalIsLegal (setup : Settings) (journal : List Event) : Type 0 where
+  pub legal : IsLegal setup journal
+  pub proper : AllByRecursion IsProperEvent journal
+  pub workers : AllByRecursion (IsOfWorker setup) journal
+  pub few : length journal ≤ 1048576
+
+-- a worker's events are its sessions, one after the other; at most one lost opening stands behind them
+pub record SessionsInOrder (service : Service) (journal : List Event) : Type 0 where
+  pub in_order : (worker : ℕ) → (sittings : List Sitting) × AreSittingsOf service journal worker sittings
+
+-- ---- the operations and the bytes
+
+-- it holds of each worker and of what its post tells, where it tells
+abbrev pub EachScene : {P : Type 0} → (P → Option Scene) → List P → (ℕ → Scene → Type 0) → Type 0
+EachScene {P} scene posts Holds = (worker : ℕ) (post : P) → slice_get posts worker ≡ Some post → IfSome (scene post) (Holds worker)
+
+-- the operations done are those of the sessions, and nothing else but a last accept, which stands behind no loss
+pub record OperationsMatch {P : Type 0} (service : Service) (scene : P → Option Scene) (journal : List Event) (posts : List P) : Type 0 where
+  pub done : EachScene scene posts (λ worker s. (sittings : List Sitting) × (last : LastAccept) × AreSittingsOf service journal worker sittings × NoAcceptBehindLoss sittings last × (s.acts ≡ story_acts sittings last))
+
+-- the same sessions have the bytes that passed, and those that were left unread
+pub record ConversationsMatch {P : Type 0} (service : Service) (scene : P → Option Scene) (journal : List Event) (posts : List P) : Type 0 where
+  pub held : EachScene scene posts (λ worker s. (sittings : List Sitting) × (last : LastAccept) × AreSittingsOf service journal worker sittings × IsStory sittings last s)
+
+-- ---- what follows of the policy
+
+-- a stranger's session of this run, and one of any other, that put the same to the policy were shown the same, whatever accounts stand behind the names
+pub record ShowsNoAccounts (setup : Settings) (journal : List Event) : Type 0 where
+  pub alike : (other_setup : Settings) (other : List Event) → other_setup.requests ≡ setup.requests → IsLegal other_setup other → StrangersSeeNoAccounts journal other
+
+-- ---- the length of the run
+
+abbrev pub openings_by : List Event → ℕ → ℕ
+openings_by journal worker = count_by (λ e. e.worker == worker && opens e) journal
+
+abbrev pub lost_by : List Event → ℕ → Bool
+lost_by journal worker = list_any (λ e. e.worker == worker && is_lost e.decision) journal
+
+-- a worker that no accept stopped and of which no decision was lost has served as many sessions as the setup says
+pub record RunsToQuota {P : Type 0} (setup : Settings) (scene : P → Option Scene) (journal : List Event) (posts : List P) : Type 0 where
+  pub quota : EachScene scene posts (λ worker s. list_any is_stop s.acts ≡ false → lost_by journal worker ≡ false → openings_by journal worker ≡ setup.connections)
+
+-- ---- accepts that failed
+
+abbrev pub is_failed_accept : Act → Bool
+is_failed_accept (Accept accepted.Failed) = true
+is_failed_accept _ = false
+
+abbrev pub is_fault : Option Act → Bool
+is_fault None = false
+is_fault (Some act) = is_failed_accept act
+
+-- the last thing asked of a post was an accept, and it failed
+abbrev pub ends_by_accept_fault : Scene → Bool
+ends_by_accept_fault scene = is_fault (last_or None scene.acts)
+
+-- a worker's last accept failed, and its post counts that
+pub record SomeAcceptFailed {P : Type 0} (scene : P → Option Scene) (faults : P → Faults) (posts : List P) : Type 0 where
+  pub worker : ℕ
+  pub post : P
+  pub stands : slice_get posts worker ≡ Some post
+  pub counted : 0 < (faults post).accept
+  pub told : IfSome (scene post) (λ s. ends_by_accept_fault s ≡ true)
+
+-- no worker's last accept failed
+pub record NoAcceptFailed {P : Type 0} (scene : P → Option Scene) (posts : List P) : Type 0 where
+  pub told : EachScene scene posts (λ worker s. ends_by_accept_fault s ≡ false)
+
+-- ---- the ends by a fault
+
+abbrev pub ends_by : (Ask → Bool) → List Event → ℕ → ℕ
+ends_by test journal worker = count_by (λ e. e.worker == worker && test e.ask) journal
+
+-- of a worker's ends at most as many are by a fault of a link or of a start as its post counts
+pub record FaultEndsAreCounted {P : Type 0} (faults : P → Faults) (journal : List Event) (posts : List P) : Type 0 where
+  pub link : (worker : ℕ) (post : P) → slice_get posts worker ≡ Some post → ends_by is_link_end journal worker ≤ (faults post).link
+  pub keeper : (worker : ℕ) (post : P) → slice_get posts worker ≡ Some post → ends_by is_keeper_end journal worker ≤ (faults post).keeper
+
+-- ---- completeness
+
+-- no count of a post is above 0 but those of connections and of users' files, whose faults are themselves answered
+pub record IsFaultless {P : Type 0} (faults : P → Faults) (post : P) : Type 0 where
+  pub no_accept_fault : (faults post).accept ≡ 0
+  pub no_keeper_fault : (faults post).keeper ≡ 0
+  pub no_link_fault : (faults post).link ≡ 0
+
+pub record AreFaultless {P : Type 0} (faults : P → Faults) (posts : List P) : Type 0 where
+  pub each : (worker : ℕ) (post : P) → slice_get posts worker ≡ Some post → IsFaultless faults post
+
+-- each session ended by what its child did, and each of its requests is answered
+pub record IsAnsweredWhole {P : Type 0} (service : Service) (scene : P → Option Scene) (journal : List Event) (posts : List P) : Type 0 where
+  pub ended : list_any (λ e. is_fault_end e.ask) journal ≡ false
+  pub answered : EachScene scene posts (λ worker s. (sittings : List Sitting) × (last : LastAccept) × AreSittingsOf service journal worker sittings × IsStory sittings last s × AllByRecursion (λ sitting. AreAnswered service [] sitting.parts) sittings)
+
+-- ---- all of it
+
+-- all that is promised of a run that has served by a service: what its journal, its posts and its log are, and whether an accept failed
+pub record RunPromises {P : Type 0} (service : Service) (failed : Bool) (journal : List Event) (posts : List P) (scene : P → Option Scene) (faults : P → Faults) (held_old held_new : Option (List ℕ)) (log_old log_new : ℕ) : Type 0 where
+  pub legal : JournalIsLegal service.setup journal
+  pub sessions : SessionsInOrder service journal
+  pub operations : OperationsMatch service scene journal posts
+  pub conversations : ConversationsMatch service scene journal posts
+  pub log : LogMatches service.setup journal held_old held_new
+  pub consequences : HasConsequences service.setup journal
+  pub unseen : ShowsNoAccounts service.setup journal
+  pub quota : RunsToQuota service.setup scene journal posts
+  pub fault_ends : FaultEndsAreCounted faults journal posts
+  pub one_each : length posts ≡ service.setup.workers
+  pub lost : has_lost journal ≡ true → Rose log_old log_new
+  pub accept_failed : failed ≡ true → SomeAcceptFailed scene faults posts
+  pub accepted : failed ≡ false → NoAcceptFailed scene posts
+  pub whole : AreFaultless faults posts → has_lost journal ≡ false → IsAnsweredWhole service scene journal posts

@@ -1,0 +1,4 @@
+pub mod Workers
+pub mod Prepared
+pub mod Ran
+pub mod Headline

@@ -1,0 +1,481 @@
+-- All that serving by a service promises, where somebody was served and where nobody was.
+use Rattle.std.proofs.Common.{◌≡◌, ◌≢◌, ◌⊎◌, ℕ, ◌≤◌, Bool, true, false, List, [], ◌∷◌, ◌++◌, length, Option, Some, None, Result, Ok, Err, refl, sym, ap, subst, ◌∙◌, arith, inl, inr, append-nil}
+use Rattle.std.specs.Prelude.{IfSome, ◌==◌, slice_get, is_some}
+use Rattle.std.specs.List.{list_any}
+use Rattle.info_hooks.specs.declared.key.Key.{Key}
+use Rattle.monitor_book.specs.Lines.{LogMatches}
+use Rattle.monitor_run.specs.Headline.{JournalIsLegal, RunPromises}
+use Rattle.otp_ledger.specs.Accounts.{LedgerParts}
+use Rattle.otp_ledger.specs.Standing.{StandsFor}
+use Rattle.outside.specs.declared.faults.Faults.{Faults}
+use Rattle.outside.specs.declared.place.Place.{Place as SitePlace}
+use Rattle.outside.specs.Files.{Contents, MayBeReplaced, Replaced, SameFiles}
+use Rattle.outside.specs.Scene.{Scene}
+use Rattle.outside.specs.Told.{Gains, Goes, Rose}
+use Rattle.outside.proofs.Told.{Goes-then, Rose-within}
+use Rattle.policy_laws.proofs.Alike.{strangers_see_no_accounts}
+use Rattle.policy_model.specs.declared.event.Event.{Event}
+use Rattle.policy_model.specs.Journal.{has_lost, kept_events}
+use Rattle.policy_model.specs.Settings.{Settings}
+use Rattle.policy_model.proofs.Legal.{IsLegal-none}
+use Rattle.service_model.specs.Places.{worker_places}
+use Rattle.service_model.specs.Service.{Service}
+use Rattle.service_reading.specs.declared.error.ServiceError.{ServiceError}
+use Rattle.service_reading.specs.declared.error.ServiceError.TheVariants as unread
+use Rattle.service_reading.specs.Errors.{IsServiceError}
+use Rattle.service_reading.specs.Found.{service_in}
+use Rattle.session_core.proofs.ReplayLemmas.{consequences}
+use Rattle.serve_mode.specs.declared.error.ServeError.{ServeError}
+use Rattle.serve_mode.specs.declared.error.ServeError.TheVariants as errors
+use Rattle.serve_mode.specs.Errors.{IsUnread, error_status, run_end, status_of, unread_status}
+use Rattle.serve_mode.specs.Headline.{AccountsMatch, AreAccountsWritten, ListensAt, NoFault, ServeHasCause, ServePromises, is_run_status, is_unserved_status, serve_statuses, setup_place}
+use Rattle.serve_mode.specs.Services.{IsServiceOf}
+use Rattle.serve_mode.specs.Steps.{WritesBack, WritesNamed}
+use Rattle.serve_mode.specs.Words.{Named, Plain, Source}
+use Rattle.serve_mode.proofs.Once.{service_still}
+
+-- ---- the end of a run
+
+-- what a run's end tells
+record EndTells (end : Result (Unit {0}) ServeError) (written : Result (Unit {0}) ServeError) (lost failed : Bool) : Type 0 where
+  pub listed : list_any (λ s. s == status_of end) serve_statuses ≡ true
+  pub served : is_unserved_status (status_of end) ≡ false
+  pub six : status_of end ≢ 6
+  pub three : status_of end ≢ 3
+  pub lost_is : lost ≡ true → (status_of end ≡ 7) ⊎ (status_of end ≡ 9)
+  pub seven : status_of end ≡ 7 → lost ≡ true
+  pub ten : status_of end ≡ 10 → failed ≡ true
+  pub eight : status_of end ≡ 8 → written ≡ Err errors.ReplaceFailed
+  pub zero : status_of end ≡ 0 → (lost ≡ false) × (failed ≡ false) × (written ≡ Ok tt)
+  pub printed : is_run_status (status_of end) ≡ true → written ≢ Err errors.OutOfMemory
+  pub unprinted : is_run_status (status_of end) ≡ false → written ≡ Err errors.OutOfMemory
+  pub well : lost ≡ false → failed ≡ false → written ≢ Err errors.ReplaceFailed → (status_of end ≡ 0) ⊎ (status_of end ≡ 9)
+
+-- no memory was found for the accounts
+at_no_memory : (end written : Result (Unit {0}) ServeError) (lost failed : Bool) → status_of end ≡ 9 → written ≡ Err errors.OutOfMemory → EndTells end written lost failed
+at_no_memory end written lost failed is oom = record {
+  listed = subst (λ n. list_any (λ s. s == n) serve_statuses ≡ true) (sym is) refl;
+  served = ap is_unserved_status is;
+  six = λ e. omega (arith, is, e);
+  three = λ e. omega (arith, is, e);
+  lost_is = λ h. inr is;
+  seven = λ e. absurd (omega (arith, is, e));
+  ten = λ e. absurd (omega (arith, is, e));
+  eight = λ e. absurd (omega (arith, is, e));
+  zero = λ e. absurd (omega (arith, is, e));
+  printed = λ e. absurd (let f : true ≡ false = sym e ∙ ap is_run_status is in cc);
+  unprinted = λ e. oom;
+  well = λ h k r. inr is;
+}
+
+-- a decision was lost
+at_loss : (end written : Result (Unit {0}) ServeError) (lost failed : Bool) → status_of end ≡ 7 → lost ≡ true → written ≢ Err errors.OutOfMemory → EndTells end written lost failed
+at_loss end written lost failed is some printed = record {
+  listed = subst (λ n. list_any (λ s. s == n) serve_statuses ≡ true) (sym is) refl;
+  served = ap is_unserved_status is;
+  six = λ e. omega (arith, is, e);
+  three = λ e. omega (arith, is, e);
+  lost_is = λ h. inl is;
+  seven = λ e. some;
+  ten = λ e. absurd (omega (arith, is, e));
+  eight = λ e. absurd (omega (arith, is, e));
+  zero = λ e. absurd (omega (arith, is, e));
+  printed = λ e. printed;
+  unprinted = λ e. absurd (let f : true ≡ false = sym (ap is_run_status is) ∙ e in cc);
+  well = λ h k r. absurd (let f : true ≡ false = sym some ∙ h in cc);
+}
+
+-- an accept failed
+at_accept : (end written : Result (Unit {0}) ServeError) (lost failed : Bool) → status_of end ≡ 10 → lost ≡ false → failed ≡ true → written ≢ Err errors.OutOfMemory → EndTells end written lost failed
+at_accept end written lost failed is kept some printed = record {
+  listed = subst (λ n. list_any (λ s. s == n) serve_statuses ≡ true) (sym is) refl;
+  served = ap is_unserved_status is;
+  six = λ e. omega (arith, is, e);
+  three = λ e. omega (arith, is, e);
+  lost_is = λ h. absurd (let f : false ≡ true = sym kept ∙ h in cc);
+  seven = λ e. absurd (omega (arith, is, e));
+  ten = λ e. some;
+  eight = λ e. absurd (omega (arith, is, e));
+  zero = λ e. absurd (omega (arith, is, e));
+  printed = λ e. printed;
+  unprinted = λ e. absurd (let f : true ≡ false = sym (ap is_run_status is) ∙ e in cc);
+  well = λ h k r. absurd (let f : true ≡ false = sym some ∙ k in cc);
+}
+
+-- the accounts were not written
+at_replace : (end written : Result (Unit {0}) ServeError) (lost failed : Bool) → status_of end ≡ 8 → lost ≡ false → written ≡ Err errors.ReplaceFailed → EndTells end written lost failed
+at_replace end written lost failed is kept unwritten = record {
+  listed = subst (λ n. list_any (λ s. s == n) serve_statuses ≡ true) (sym is) refl;
+  served = ap is_unserved_status is;
+  six = λ e. omega (arith, is, e);
+  three = λ e. omega (arith, is, e);
+  lost_is = λ h. absurd (let f : false ≡ true = sym kept ∙ h in cc);
+  seven = λ e. absurd (omega (arith, is, e));
+  ten = λ e. absurd (omega (arith, is, e));
+  eight = λ e. unwritten;
+  zero = λ e. absurd (omega (arith, is, e));
+  printed = λ e h. absurd (let f : ◌≡◌ {A = Result (Unit {0}) ServeError} (Err errors.ReplaceFailed) (Err errors.OutOfMemory) = sym unwritten ∙ h in cc);
+  unprinted = λ e. absurd (let f : true ≡ false = sym (ap is_run_status is) ∙ e in cc);
+  well = λ h k r. absurd (r unwritten);
+}
+
+-- all went well
+at_success : (end written : Result (Unit {0}) ServeError) (lost failed : Bool) → status_of end ≡ 0 → lost ≡ false → failed ≡ false → written ≡ Ok tt → EndTells end written lost failed
+at_success end written lost failed is kept none done = record {
+  listed = subst (λ n. list_any (λ s. s == n) serve_statuses ≡ true) (sym is) refl;
+  served = ap is_unserved_status is;
+  six = λ e. omega (arith, is, e);
+  three = λ e. omega (arith, is, e);
+  lost_is = λ h. absurd (let f : false ≡ true = sym kept ∙ h in cc);
+  seven = λ e. absurd (omega (arith, is, e));
+  ten = λ e. absurd (omega (arith, is, e));
+  eight = λ e. absurd (omega (arith, is, e));
+  zero = λ e. (kept, none, done);
+  printed = λ e h. absurd (let f : ◌≡◌ {A = Result (Unit {0}) ServeError} (Ok tt) (Err errors.OutOfMemory) = sym done ∙ h in cc);
+  unprinted = λ e. absurd (let f : true ≡ false = sym (ap is_run_status is) ∙ e in cc);
+  well = λ h k r. inl is;
+}
+
+-- what writing back comes to
+abbrev IsWritten : Result (Unit {0}) ServeError → Type 0
+IsWritten written = (written ≡ Ok tt) ⊎ (written ≡ Err errors.OutOfMemory) ⊎ (written ≡ Err errors.ReplaceFailed)
+
+named_end : (name : List ℕ) (setup : Settings) (ledger : LedgerParts) (old new : Option Contents) (ReplaceRose : Type 0) (written : Result (Unit {0}) ServeError) → WritesNamed name setup ledger old new ReplaceRose written → IsWritten written
+named_end name setup ledger old new ReplaceRose (Ok done) w = inl refl
+named_end name setup ledger old new ReplaceRose (Err errors.OutOfMemory) w = inr (inl refl)
+named_end name setup ledger old new ReplaceRose (Err errors.ReplaceFailed) w = inr (inr refl)
+named_end name setup ledger old new ReplaceRose (Err (errors.Unread error)) w = absurd w
+named_end name setup ledger old new ReplaceRose (Err errors.ListenFailed) w = absurd w
+named_end name setup ledger old new ReplaceRose (Err errors.LogLost) w = absurd w
+named_end name setup ledger old new ReplaceRose (Err errors.AcceptFailed) w = absurd w
+
+written_end : (source : Source) (setup : Settings) (ledger : LedgerParts) (old new : Option Contents) (ReplaceRose : Type 0) (written : Result (Unit {0}) ServeError) → WritesBack source setup ledger old new ReplaceRose written → IsWritten written
+written_end Plain setup ledger old new ReplaceRose written w = inl w.0
+written_end (Named name) setup ledger old new ReplaceRose written w = named_end name setup ledger old new ReplaceRose written w
+
+-- the same for each way of writing back, of losing and of accepting
+end_tells : (written : Result (Unit {0}) ServeError) (lost failed : Bool) → IsWritten written → EndTells (run_end written lost failed) written lost failed
+end_tells written lost failed (inr (inl oom)) = subst (λ w. EndTells (run_end w lost failed) w lost failed) (sym oom) (at_no_memory (Err errors.OutOfMemory) (Err errors.OutOfMemory) lost failed refl refl)
+end_tells written lost failed (inl done) = subst (λ w. EndTells (run_end w lost failed) w lost failed) (sym done) (go lost failed) where
+  go : (lost failed : Bool) → EndTells (run_end (Ok tt) lost failed) (Ok tt) lost failed
+  go true failed = at_loss (Err errors.LogLost) (Ok tt) true failed refl refl (λ e. absurd cc)
+  go false true = at_accept (Err errors.AcceptFailed) (Ok tt) false true refl refl refl (λ e. absurd cc)
+  go false false = at_success (Ok tt) (Ok tt) false false refl refl refl refl
+end_tells written lost failed (inr (inr not)) = subst (λ w. EndTells (run_end w lost failed) w lost failed) (sym not) (go lost failed) where
+  go : (lost failed : Bool) → EndTells (run_end (Err errors.ReplaceFailed) lost failed) (Err errors.ReplaceFailed) lost failed
+  go true failed = at_loss (Err errors.LogLost) (Err errors.ReplaceFailed) true failed refl refl (λ e. absurd cc)
+  go false true = at_accept (Err errors.AcceptFailed) (Err errors.ReplaceFailed) false true refl refl refl (λ e. absurd cc)
+  go false false = at_replace (Err errors.ReplaceFailed) (Err errors.ReplaceFailed) false false refl refl refl
+
+-- that the accounts were not replaced has its cause
+replace_rose : (source : Source) (setup : Settings) (ledger : LedgerParts) (old new : Option Contents) (ReplaceRose : Type 0) (written : Result (Unit {0}) ServeError) → WritesBack source setup ledger old new ReplaceRose written → written ≡ Err errors.ReplaceFailed → ReplaceRose
+replace_rose Plain setup ledger old new ReplaceRose written w is = absurd (let f : ◌≡◌ {A = Result (Unit {0}) ServeError} (Ok tt) (Err errors.ReplaceFailed) = sym w.0 ∙ is in cc)
+replace_rose (Named name) setup ledger old new ReplaceRose written w is = (subst (WritesNamed name setup ledger old new ReplaceRose) is w).2
+
+-- ---- the accounts
+
+same_then : (old mid new : Option Contents) (step : Contents → Contents → Type 0) → ((a b c : Contents) → SameFiles a b → step b c → step a c) → Goes SameFiles old mid → Goes step mid new → Goes step old new
+same_then old mid new step through kept goes = Goes-then SameFiles step step through old mid new kept goes
+
+replaced_through : (name bytes : List ℕ) (a b c : Contents) → SameFiles a b → Replaced name bytes b c → Replaced name bytes a c
+replaced_through name bytes a b c kept r = record { file = r.file; others = λ other ne. r.others other ne ∙ kept.same other }
+
+same_through : (a b c : Contents) → SameFiles a b → SameFiles b c → SameFiles a c
+same_through a b c p q = record { same = λ name. q.same name ∙ p.same name }
+
+maybe_through : (name bytes : List ℕ) (a b c : Contents) → SameFiles a b → MayBeReplaced name bytes b c → MayBeReplaced name bytes a c
+maybe_through name bytes a b c kept m = record { either = go m.either } where
+  go : SameFiles b c ⊎ Replaced name bytes b c → SameFiles a c ⊎ Replaced name bytes a c
+  go (inl same) = inl (same_through a b c kept same)
+  go (inr replaced) = inr (replaced_through name bytes a b c kept replaced)
+
+accounts_named : (name : List ℕ) (setup : Settings) (ledger : LedgerParts) (end written : Result (Unit {0}) ServeError) (lost failed : Bool) (journal : List Event) (old mid new : Option Contents) (ReplaceRose : Type 0) → EndTells end written lost failed → StandsFor ledger (kept_events journal) → Goes SameFiles old mid → WritesNamed name setup ledger mid new ReplaceRose written → IsWritten written → AreAccountsWritten name setup (status_of end) journal old new ReplaceRose
+accounts_named name setup ledger end written lost failed journal old mid new ReplaceRose tells stands kept w (inl done) =
+    let did = subst (WritesNamed name setup ledger mid new ReplaceRose) done w in
+    let goes = same_then old mid new (Replaced name did.0) (replaced_through name did.0) kept did.2 in
+    record {
+      bytes = did.0;
+      spells = λ _. did.1.by_journal (kept_events journal) stands;
+      written = λ _. goes;
+      tried = λ _. inl goes;
+      failed = λ e. absurd (let f : ◌≡◌ {A = Result (Unit {0}) ServeError} (Ok tt) (Err errors.ReplaceFailed) = sym done ∙ tells.eight e in cc);
+      unwritten = λ e. absurd (let f : ◌≡◌ {A = Result (Unit {0}) ServeError} (Ok tt) (Err errors.OutOfMemory) = sym done ∙ tells.unprinted e in cc);
+    }
+accounts_named name setup ledger end written lost failed journal old mid new ReplaceRose tells stands kept w (inr (inl oom)) =
+    let did = subst (WritesNamed name setup ledger mid new ReplaceRose) oom w in
+    record {
+      bytes = [];
+      spells = λ e. absurd (tells.printed e oom);
+      written = λ e. absurd (tells.printed (ap is_run_status e) oom);
+      tried = λ h. absurd (ran h);
+      failed = λ e. absurd (tells.printed (ap is_run_status e) oom);
+      unwritten = λ _. same_then old mid new SameFiles same_through kept did;
+    } where
+      ran : (status_of end ≡ 7) ⊎ (status_of end ≡ 10) → ⊥
+      ran (inl e) = tells.printed (ap is_run_status e) oom
+      ran (inr e) = tells.printed (ap is_run_status e) oom
+accounts_named name setup ledger end written lost failed journal old mid new ReplaceRose tells stands kept w (inr (inr not)) =
+    let did = subst (WritesNamed name setup ledger mid new ReplaceRose) not w in
+    let goes = same_then old mid new (MayBeReplaced name did.0) (maybe_through name did.0) kept did.3 in
+    record {
+      bytes = did.0;
+      spells = λ _. did.1.by_journal (kept_events journal) stands;
+      written = λ e. absurd (let f : ◌≡◌ {A = Result (Unit {0}) ServeError} (Err errors.ReplaceFailed) (Ok tt) = sym not ∙ (tells.zero e).2 in cc);
+      tried = λ _. inr (did.2, goes);
+      failed = λ _. (did.2, goes);
+      unwritten = λ e. absurd (let f : ◌≡◌ {A = Result (Unit {0}) ServeError} (Err errors.ReplaceFailed) (Err errors.OutOfMemory) = sym not ∙ tells.unprinted e in cc);
+    }
+
+accounts_match : (source : Source) (setup : Settings) (ledger : LedgerParts) (end written : Result (Unit {0}) ServeError) (lost failed : Bool) (journal : List Event) (old mid new : Option Contents) (ReplaceRose : Type 0) → EndTells end written lost failed → StandsFor ledger (kept_events journal) → Goes SameFiles old mid → WritesBack source setup ledger mid new ReplaceRose written → IsWritten written → AccountsMatch source setup (status_of end) journal old new ReplaceRose
+accounts_match Plain setup ledger end written lost failed journal old mid new ReplaceRose tells stands kept w is = same_then old mid new SameFiles same_through kept w.1
+accounts_match (Named name) setup ledger end written lost failed journal old mid new ReplaceRose tells stands kept w is = accounts_named name setup ledger end written lost failed journal old mid new ReplaceRose tells stands kept w is
+
+-- ---- where somebody was served
+
+module _ {P : Type 0} (source : Source) (service : Service) (ledger : LedgerParts) (written : Result (Unit {0}) ServeError) (failed : Bool) (journal : List Event) (posts : List P) (scene : P → Option Scene) (faults : P → Faults) (old mid new : Option Contents) (held_old held_new : Option (List ℕ)) (log_old log_new : ℕ) (ReadRose ReplaceRose ListenRose : Type 0) (ran : RunPromises service failed journal posts scene faults held_old held_new log_old log_new) (writes : WritesBack source service.setup ledger mid new ReplaceRose written) where
+  tells : EndTells (run_end written (has_lost journal) failed) written (has_lost journal) failed
+  tells = end_tells written (has_lost journal) failed (written_end source service.setup ledger mid new ReplaceRose written writes)
+
+  pub served_causes : 1 ≤ service.setup.workers → ServeHasCause (status_of (run_end written (has_lost journal) failed)) journal posts scene faults ReadRose ListenRose (Rose log_old log_new) ReplaceRose
+  served_causes some = record {
+    listed = tells.listed;
+    unserved = λ h. absurd (let f : true ≡ false = sym h ∙ tells.served in cc);
+    unbegun = λ none. absurd (let f : length posts ≡ 0 = ap length none in omega (arith, f, ran.one_each, some));
+    read_fault = λ e. absurd (tells.three e);
+    listen_fault = λ e. absurd (tells.six e);
+    lost = tells.lost_is;
+    log_lost = λ e. (tells.seven e, ran.lost (tells.seven e));
+    accept_fault = λ e. ran.accept_failed (tells.ten e);
+    replace_fault = λ e. replace_rose source service.setup ledger mid new ReplaceRose written writes (tells.eight e);
+  }
+
+  -- without a fault nothing was lost, no accept failed and the accounts were replaced
+  none_lost : NoFault ReadRose ReplaceRose ListenRose (Rose log_old log_new) faults posts → has_lost journal ≡ false
+  none_lost none = go (has_lost journal) refl where
+    go : (b : Bool) → has_lost journal ≡ b → b ≡ false
+    go true is = absurd (none.log (ran.lost is))
+    go false is = refl
+
+  none_failed : NoFault ReadRose ReplaceRose ListenRose (Rose log_old log_new) faults posts → failed ≡ false
+  none_failed none = go failed refl where
+    go : (b : Bool) → failed ≡ b → b ≡ false
+    go true is = absurd (let some = ran.accept_failed is in omega (arith, some.counted, (none.each.each some.worker some.post some.stands).no_accept_fault))
+    go false is = refl
+
+  pub served_promises : (listens_old listens_new : Option (List SitePlace)) → 1 ≤ service.setup.workers → StandsFor ledger (kept_events journal) → Goes SameFiles old mid → Gains listens_old (setup_place service.setup ∷ []) listens_new
+      → ServePromises source service (status_of (run_end written (has_lost journal) failed)) journal posts scene faults old new listens_old listens_new held_old held_new ReadRose ReplaceRose ListenRose (Rose log_old log_new)
+  served_promises listens_old listens_new some stands kept listens = record {
+    legal = ran.legal;
+    sessions = ran.sessions;
+    listens = listened posts ran.one_each;
+    operations = ran.operations;
+    conversations = ran.conversations;
+    log = ran.log;
+    consequences = ran.consequences;
+    unseen = ran.unseen;
+    quota = ran.quota;
+    fault_ends = ran.fault_ends;
+    success = λ e. let z = tells.zero e in record { kept = z.0; accepted = ran.accepted z.1; quota = ran.quota; one_each = ran.one_each };
+    accounts = accounts_match source service.setup ledger (run_end written (has_lost journal) failed) written (has_lost journal) failed journal old mid new ReplaceRose tells stands kept writes (written_end source service.setup ledger mid new ReplaceRose written writes);
+    complete = record {
+      succeeds = λ none. tells.well (none_lost none) (none_failed none) (λ e. none.replace (replace_rose source service.setup ledger mid new ReplaceRose written writes e));
+      answered = λ none e. ran.whole none.each (tells.zero e).0;
+    };
+  } where
+    listened : (posts : List P) → length posts ≡ service.setup.workers → ListensAt service.setup posts listens_old listens_new
+    listened [] none = absurd (omega (arith, none, some))
+    listened (post ∷ posts) one_each = listens
+
+-- ---- where nobody was served
+
+no_post : {P : Type 0} {X : Type 0} (posts : List P) (worker : ℕ) (post : P) → posts ≡ [] → slice_get posts worker ≡ Some post → X
+no_post posts worker post none is = absurd (let e : None ≡ Some post = sym (ap (λ ps. slice_get ps worker) none) ∙ is in cc)
+
+log_unchanged : (setup : Settings) (held_old held_new : Option (List ℕ)) → Gains held_old [] held_new → LogMatches setup [] held_old held_new
+log_unchanged setup held_old None gains = tt
+log_unchanged setup None (Some after) gains = absurd gains
+log_unchanged setup (Some before) (Some after) gains = record { lines = (0, gains ∙ sym (append-nil (before ++ []))) }
+
+module _ {P : Type 0} (source : Source) (service : Service) (status : ℕ) (journal : List Event) (posts : List P) (scene : P → Option Scene) (faults : P → Faults) (events : journal ≡ []) (none : posts ≡ []) where
+  legal : JournalIsLegal service.setup journal
+  legal = subst (JournalIsLegal service.setup) (sym events) (record { legal = IsLegal-none service.setup; proper = tt; workers = tt; few = omega arith })
+
+  pub unserved_promises : (old new : Option Contents) (listens_old listens_new : Option (List SitePlace)) (held_old held_new : Option (List ℕ)) (ReadRose ReplaceRose ListenRose LogRose : Type 0)
+      → is_run_status status ≡ false → Goes SameFiles old new → Gains listens_old [] listens_new → Gains held_old [] held_new → (NoFault ReadRose ReplaceRose ListenRose LogRose faults posts → status ≡ 9)
+      → ServePromises source service status journal posts scene faults old new listens_old listens_new held_old held_new ReadRose ReplaceRose ListenRose LogRose
+  unserved_promises old new listens_old listens_new held_old held_new ReadRose ReplaceRose ListenRose LogRose not_run kept listens log nine = record {
+    legal = legal;
+    sessions = record { in_order = λ worker. ([], record { places = ap (λ j. worker_places j worker) events; each = tt; alone = tt }) };
+    listens = subst (λ ps. ListensAt service.setup ps listens_old listens_new) (sym none) listens;
+    operations = record { done = λ worker post is. no_post posts worker post none is };
+    conversations = record { held = λ worker post is. no_post posts worker post none is };
+    log = subst (λ j. LogMatches service.setup j held_old held_new) (sym events) (log_unchanged service.setup held_old held_new log);
+    consequences = consequences service.setup journal legal.legal;
+    unseen = record { alike = λ other_setup other same legal'. strangers_see_no_accounts service.setup other_setup journal other (sym same) legal.legal legal' };
+    quota = record { quota = λ worker post is. no_post posts worker post none is };
+    fault_ends = record { link = λ worker post is. no_post posts worker post none is; keeper = λ worker post is. no_post posts worker post none is };
+    success = λ e. absurd (run e);
+    accounts = accounts source;
+    complete = record { succeeds = λ h. inr (nine h); answered = λ h e. absurd (run e) };
+  } where
+    run : status ≡ 0 → ⊥
+    run e = let f : true ≡ false = sym (ap is_run_status e) ∙ not_run in absurd cc
+
+    not : (n : ℕ) → is_run_status n ≡ true → status ≡ n → ⊥
+    not n is e = let f : true ≡ false = sym is ∙ ap is_run_status (sym e) ∙ not_run in absurd cc
+
+    accounts : (source : Source) → AccountsMatch source service.setup status journal old new ReplaceRose
+    accounts Plain = kept
+    accounts (Named name) = record {
+      bytes = [];
+      spells = λ e. absurd (let f : true ≡ false = sym e ∙ not_run in cc);
+      written = λ e. absurd (run e);
+      tried = λ h. absurd (either h);
+      failed = λ e. absurd (not 8 refl e);
+      unwritten = λ _. kept;
+    } where
+      either : (status ≡ 7) ⊎ (status ≡ 10) → ⊥
+      either (inl e) = not 7 refl e
+      either (inr e) = not 10 refl e
+
+  pub unserved_causes : (ReadRose ListenRose LogRose ReplaceRose : Type 0) → list_any (λ s. s == status) serve_statuses ≡ true → is_run_status status ≡ false → (status ≡ 3 → ReadRose) → (status ≡ 6 → ListenRose) → ServeHasCause status journal posts scene faults ReadRose ListenRose LogRose ReplaceRose
+  unserved_causes ReadRose ListenRose LogRose ReplaceRose listed not_run read listen = record {
+    listed = listed;
+    unserved = λ _. none;
+    unbegun = λ _. events;
+    read_fault = read;
+    listen_fault = listen;
+    lost = λ h. absurd (let e : false ≡ true = sym (ap has_lost events) ∙ h in cc);
+    log_lost = λ e. absurd (not 7 refl e);
+    accept_fault = λ e. absurd (not 10 refl e);
+    replace_fault = λ e. absurd (not 8 refl e);
+  } where
+    not : (n : ℕ) → is_run_status n ≡ true → status ≡ n → ⊥
+    not n is e = let f : true ≡ false = sym is ∙ ap is_run_status (sym e) ∙ not_run in absurd cc
+
+-- ---- why nobody was served
+
+-- nothing was read to serve with: a status of it, and its cause
+pub record UnreadTells (error : ServiceError) : Type 0 where
+  pub listed : list_any (λ s. s == unread_status error) serve_statuses ≡ true
+  pub not_run : is_run_status (unread_status error) ≡ false
+  pub six : unread_status error ≢ 6
+
+pub unread_tells : (error : ServiceError) → UnreadTells error
+unread_tells unread.Failed = record { listed = refl; not_run = refl; six = λ e. omega (arith, e) }
+unread_tells unread.OutOfMemory = record { listed = refl; not_run = refl; six = λ e. omega (arith, e) }
+unread_tells unread.SetupMissing = record { listed = refl; not_run = refl; six = λ e. omega (arith, e) }
+unread_tells unread.WordsMissing = record { listed = refl; not_run = refl; six = λ e. omega (arith, e) }
+unread_tells (unread.SetupRefused fault) = record { listed = refl; not_run = refl; six = λ e. omega (arith, e) }
+unread_tells (unread.WordsRefused fault) = record { listed = refl; not_run = refl; six = λ e. omega (arith, e) }
+
+-- it is 3 only where a reading failed
+pub read_failed : (source : Source) (forms : List Key) (contents : Option Contents) (ReadRose : Type 0) (error : ServiceError) → IsUnread source forms contents ReadRose error → unread_status error ≡ 3 → ReadRose
+read_failed Plain forms contents ReadRose error why three = absurd (let f : 9 ≡ 3 = sym (ap unread_status why) ∙ three in omega (arith, f))
+read_failed (Named name) forms contents ReadRose unread.Failed why three = why
+read_failed (Named name) forms contents ReadRose unread.OutOfMemory why three = absurd (omega (arith, three))
+read_failed (Named name) forms contents ReadRose unread.SetupMissing why three = absurd (omega (arith, three))
+read_failed (Named name) forms contents ReadRose unread.WordsMissing why three = absurd (omega (arith, three))
+read_failed (Named name) forms contents ReadRose (unread.SetupRefused fault) why three = absurd (omega (arith, three))
+read_failed (Named name) forms contents ReadRose (unread.WordsRefused fault) why three = absurd (omega (arith, three))
+
+-- and where the files spell a service, without a fault of reading, it is 9
+pub unread_nine : (source : Source) (forms : List Key) (old new : Option Contents) (ReadRose : Type 0) (service : Service) (error : ServiceError) → IsUnread source forms new ReadRose error → Goes SameFiles old new → IsServiceOf source forms old new service → ¬ ReadRose → unread_status error ≡ 9
+unread_nine Plain forms old new ReadRose service error why kept is none = ap unread_status why
+unread_nine (Named name) forms old new ReadRose service error why kept is none = go error why where
+  told : (error : ServiceError) → IfSome new (λ files. service_in forms files name ≡ Err error) → ⊥
+  told error said = at old new is.told is.still kept said where
+    at : (old new : Option Contents) → old ≡ Some is.files → is_some new ≡ true → Goes SameFiles old new → IfSome new (λ files. service_in forms files name ≡ Err error) → ⊥
+    at old None told still kept said = absurd cc
+    at None (Some later) told still kept said = kept
+    at (Some files) (Some later) told still kept said =
+        let same : files ≡ is.files = cc in
+        let both = sym said ∙ service_still forms files later name kept ∙ ap (λ (c : Contents). service_in forms c name) same ∙ is.found in
+        absurd cc
+
+  go : (error : ServiceError) → IsServiceError forms new name ReadRose error → unread_status error ≡ 9
+  go unread.Failed why = absurd (none why)
+  go unread.OutOfMemory why = refl
+  go unread.SetupMissing why = absurd (told unread.SetupMissing why)
+  go unread.WordsMissing why = absurd (told unread.WordsMissing why)
+  go (unread.SetupRefused fault) why = absurd (told (unread.SetupRefused fault) why)
+  go (unread.WordsRefused fault) why = absurd (told (unread.WordsRefused fault) why)
+
+-- a run that could not begin
+pub record NotServedTells (error : ServeError) (ListenRose : Type 0) : Type 0 where
+  pub listed : list_any (λ s. s == error_status error) serve_statuses ≡ true
+  pub not_run : is_run_status (error_status error) ≡ false
+  pub three : error_status error ≢ 3
+  pub six : error_status error ≡ 6 → ListenRose
+  pub nine : ¬ ListenRose → error_status error ≡ 9
+
+pub not_served_tells : (error : ServeError) (ListenRose : Type 0) → (error ≡ errors.OutOfMemory) ⊎ ((error ≡ errors.ListenFailed) × ListenRose) → NotServedTells error ListenRose
+not_served_tells error ListenRose (inl oom) = subst (λ e. NotServedTells e ListenRose) (sym oom) (record { listed = refl; not_run = refl; three = λ e. omega (arith, e); six = λ e. absurd (omega (arith, e)); nine = λ _. refl })
+not_served_tells error ListenRose (inr (failed, rose)) = subst (λ e. NotServedTells e ListenRose) (sym failed) (record { listed = refl; not_run = refl; three = λ e. omega (arith, e); six = λ _. rose; nine = λ none. absurd (none rose) })
+
+-- ---- under the names of what was handed out
+
+pub promised : {P : Type 0} {source : Source} {service service' : Service} {end end' : Result (Unit {0}) ServeError} {journal : List Event} {posts : List P} {scene : P → Option Scene} {faults : P → Faults} {old new : Option Contents} {listens_old listens_new : Option (List SitePlace)} {held_old held_new : Option (List ℕ)} {ReadRose ReplaceRose ListenRose LogRose : Type 0} → service' ≡ service → end' ≡ end → ServePromises source service (status_of end) journal posts scene faults old new listens_old listens_new held_old held_new ReadRose ReplaceRose ListenRose LogRose → ServePromises source service' (status_of end') journal posts scene faults old new listens_old listens_new held_old held_new ReadRose ReplaceRose ListenRose LogRose
+promised {P} {source} {service} {service'} {end} {end'} {journal} {posts} {scene} {faults} {old} {new} {listens_old} {listens_new} {held_old} {held_new} {ReadRose} {ReplaceRose} {ListenRose} {LogRose} s e is =
+    subst (λ x. ServePromises source x (status_of end') journal posts scene faults old new listens_old listens_new held_old held_new ReadRose ReplaceRose ListenRose LogRose) (sym s)
+    (subst (λ x. ServePromises source service (status_of x) journal posts scene faults old new listens_old listens_new held_old held_new ReadRose ReplaceRose ListenRose LogRose) (sym e) is)
+
+pub caused : {P : Type 0} {end end' : Result (Unit {0}) ServeError} {journal : List Event} {posts : List P} {scene : P → Option Scene} {faults : P → Faults} {ReadRose ListenRose LogRose ReplaceRose : Type 0} → end' ≡ end → ServeHasCause (status_of end) journal posts scene faults ReadRose ListenRose LogRose ReplaceRose → ServeHasCause (status_of end') journal posts scene faults ReadRose ListenRose LogRose ReplaceRose
+caused {P} {end} {end'} {journal} {posts} {scene} {faults} {ReadRose} {ListenRose} {LogRose} {ReplaceRose} e is = subst (λ x. ServeHasCause (status_of x) journal posts scene faults ReadRose ListenRose LogRose ReplaceRose) (sym e) is
+
+-- a fault of replacing that was counted behind a moment was counted behind an earlier one
+pub writes_more : (source : Source) (setup : Settings) (ledger : LedgerParts) (old new : Option Contents) (first mid last : ℕ) (written : Result (Unit {0}) ServeError) → first ≤ mid → WritesBack source setup ledger old new (Rose mid last) written → WritesBack source setup ledger old new (Rose first last) written
+writes_more Plain setup ledger old new first mid last written low w = w
+writes_more (Named name) setup ledger old new first mid last written low w = go written w where
+  go : (written : Result (Unit {0}) ServeError) → WritesNamed name setup ledger old new (Rose mid last) written → WritesNamed name setup ledger old new (Rose first last) written
+  go (Ok done) w = w
+  go (Err errors.OutOfMemory) w = w
+  go (Err errors.ReplaceFailed) w = (w.0, w.1, Rose-within first mid last last low w.2 (omega arith), w.3)
+  go (Err (errors.Unread error)) w = absurd w
+  go (Err errors.ListenFailed) w = absurd w
+  go (Err errors.LogLost) w = absurd w
+  go (Err errors.AcceptFailed) w = absurd w
+
+-- where the files tell behind a run, they told before its accounts were written
+pub told_before : (source : Source) (setup : Settings) (ledger : LedgerParts) (old new : Option Contents) (ReplaceRose : Type 0) (written : Result (Unit {0}) ServeError) → WritesBack source setup ledger old new ReplaceRose written → is_some new ≡ true → is_some old ≡ true
+told_before source setup ledger None None ReplaceRose written w some = some
+told_before source setup ledger (Some old) new ReplaceRose written w some = refl
+told_before source setup ledger None (Some new) ReplaceRose written w some = absurd (go source w) where
+  go : (source : Source) → WritesBack source setup ledger None (Some new) ReplaceRose written → ⊥
+  go Plain w = w.1
+  go (Named name) w = at written w where
+    at : (written : Result (Unit {0}) ServeError) → WritesNamed name setup ledger None (Some new) ReplaceRose written → ⊥
+    at (Ok done) w = w.2
+    at (Err errors.OutOfMemory) w = w
+    at (Err errors.ReplaceFailed) w = w.3
+    at (Err (errors.Unread error)) w = w
+    at (Err errors.ListenFailed) w = w
+    at (Err errors.LogLost) w = w
+    at (Err errors.AcceptFailed) w = w
+
+-- a run that was served doesn't end by what could not be read
+pub served_read : (source : Source) (setup : Settings) (ledger : LedgerParts) (old new : Option Contents) (ReplaceRose : Type 0) (written : Result (Unit {0}) ServeError) (lost failed : Bool) (error : ServiceError) → WritesBack source setup ledger old new ReplaceRose written → run_end written lost failed ≡ Err (errors.Unread error) → ⊥
+served_read source setup ledger old new ReplaceRose written lost failed error w is = at (written_end source setup ledger old new ReplaceRose written w) where
+  go : (written : Result (Unit {0}) ServeError) (lost failed : Bool) → run_end written lost failed ≡ Err (errors.Unread error) → IsWritten written → ⊥
+  go (Ok done) true failed is w = absurd cc
+  go (Ok done) false true is w = absurd cc
+  go (Ok done) false false is w = absurd cc
+  go (Err errors.OutOfMemory) lost failed is w = absurd cc
+  go (Err errors.ReplaceFailed) true failed is w = absurd cc
+  go (Err errors.ReplaceFailed) false true is w = absurd cc
+  go (Err errors.ReplaceFailed) false false is w = absurd cc
+  go (Err (errors.Unread other)) lost failed is (inl e) = absurd cc
+  go (Err (errors.Unread other)) lost failed is (inr (inl e)) = absurd cc
+  go (Err (errors.Unread other)) lost failed is (inr (inr e)) = absurd cc
+  go (Err errors.ListenFailed) lost failed is (inl e) = absurd cc
+  go (Err errors.ListenFailed) lost failed is (inr (inl e)) = absurd cc
+  go (Err errors.ListenFailed) lost failed is (inr (inr e)) = absurd cc
+  go (Err errors.LogLost) lost failed is (inl e) = absurd cc
+  go (Err errors.LogLost) lost failed is (inr (inl e)) = absurd cc
+  go (Err errors.LogLost) lost failed is (inr (inr e)) = absurd cc
+  go (Err errors.AcceptFailed) lost failed is (inl e) = absurd cc
+  go (Err errors.AcceptFailed) lost failed is (inr (inl e)) = absurd cc
+  go (Err errors.AcceptFailed) lost failed is (inr (inr e)) = absurd cc
+
+  at : IsWritten written → ⊥
+  at w = go written lost failed is w

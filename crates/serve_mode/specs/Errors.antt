@@ -1,0 +1,45 @@
+-- Believed: why nobody was served, or the run ended other than well.
+use Rattle.std.specs.Prelude.{◌≡◌, ℕ, Bool, true, false, List, Option, Result, Ok, Err}
+use Rattle.info_hooks.specs.declared.key.Key.{Key}
+use Rattle.outside.specs.Files.{Contents}
+use Rattle.service_reading.specs.declared.error.ServiceError.{ServiceError}
+use Rattle.service_reading.specs.declared.error.ServiceError.TheVariants as unread
+use Rattle.service_reading.specs.Errors.{IsServiceError}
+use Rattle.serve_mode.specs.declared.error.ServeError.{ServeError}
+use Rattle.serve_mode.specs.declared.error.ServeError.TheVariants as errors
+use Rattle.serve_mode.specs.Words.{Named, Plain, Source}
+
+-- the exit status where nothing was read to serve with
+abbrev pub unread_status : ServiceError → ℕ
+unread_status unread.Failed = 3
+unread_status unread.OutOfMemory = 9
+unread_status unread.SetupMissing = 4
+unread_status unread.WordsMissing = 4
+unread_status (unread.SetupRefused fault) = 5
+unread_status (unread.WordsRefused fault) = 5
+
+-- the exit status of an error
+abbrev pub error_status : ServeError → ℕ
+error_status (errors.Unread error) = unread_status error
+error_status errors.OutOfMemory = 9
+error_status errors.ListenFailed = 6
+error_status errors.LogLost = 7
+error_status errors.AcceptFailed = 10
+error_status errors.ReplaceFailed = 8
+
+-- the exit status of a program that ends by what came of the mode
+abbrev pub status_of : Result (Unit {0}) ServeError → ℕ
+status_of (Ok done) = 0
+status_of (Err error) = error_status error
+
+-- how a run ends: the first of these, that the accounts found no memory, that a decision was lost, that an accept failed, and that the accounts were not written
+abbrev pub run_end : Result (Unit {0}) ServeError → Bool → Bool → Result (Unit {0}) ServeError
+run_end (Err errors.OutOfMemory) lost failed = Err errors.OutOfMemory
+run_end written true failed = Err errors.LogLost
+run_end written false true = Err errors.AcceptFailed
+run_end written false false = written
+
+-- why nothing was read to serve with: of the plain setup only memory may be wanted
+abbrev pub IsUnread : Source → List Key → Option Contents → Type 0 → ServiceError → Type 0
+IsUnread Plain forms contents ReadFailed error = error ≡ unread.OutOfMemory
+IsUnread (Named name) forms contents ReadFailed error = IsServiceError forms contents name ReadFailed error

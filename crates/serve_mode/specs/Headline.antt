@@ -1,0 +1,116 @@
+-- Believed: what is promised of the mode `serve`, beside what is promised of a run.
+use Rattle.std.specs.Prelude.{◌≡◌, ◌⊎◌, ℕ, Bool, true, false, ◌==◌, List, [], ◌∷◌, length, Option, Ok}
+use Rattle.std.specs.List.{list_any}
+use Rattle.account_file.specs.Entries.{entries_of}
+use Rattle.account_file.specs.Setups.{setup_of}
+use Rattle.account_writer.specs.CurrentSetup.{setup_after}
+use Rattle.monitor_book.specs.Lines.{LogMatches}
+use Rattle.monitor_run.specs.Headline.{AreFaultless, ConversationsMatch, FaultEndsAreCounted, IsAnsweredWhole, JournalIsLegal, NoAcceptFailed, OperationsMatch, RunsToQuota, SessionsInOrder, ShowsNoAccounts, SomeAcceptFailed}
+use Rattle.outside.specs.declared.faults.Faults.{Faults}
+use Rattle.outside.specs.declared.place.Place.{Place as SitePlace}
+use Rattle.outside.specs.Files.{Contents, MayBeReplaced, Replaced, SameFiles}
+use Rattle.outside.specs.Scene.{Scene}
+use Rattle.outside.specs.Told.{Gains, Goes}
+use Rattle.policy_model.specs.declared.event.Event.{Event}
+use Rattle.policy_model.specs.Journal.{has_lost, kept_events}
+use Rattle.policy_model.specs.Settings.{Settings}
+use Rattle.service_model.specs.Service.{Service}
+use Rattle.session_core.specs.Replayed.{HasConsequences}
+use Rattle.serve_mode.specs.Words.{Named, Plain, Source}
+
+-- ---- where it listens
+
+-- where the workers of a setup serve
+abbrev pub setup_place : Settings → SitePlace
+setup_place setup = record { socket = setup.socket; launcher = setup.launcher; vault = setup.vault; workers = setup.workers }
+
+-- the places where posts serve: the setup's, and none where there are no posts
+abbrev pub served_places : {P : Type 0} → Settings → List P → List SitePlace
+served_places setup [] = []
+served_places setup (post ∷ posts) = setup_place setup ∷ []
+
+-- the site listened once, at the setup's place, where there are posts, and else nowhere
+abbrev pub ListensAt : {P : Type 0} → Settings → List P → Option (List SitePlace) → Option (List SitePlace) → Type 0
+ListensAt setup posts before after = Gains before (served_places setup posts) after
+
+-- ---- the accounts
+
+-- these statuses, of which the first is success, are those of a run that printed the accounts
+abbrev pub is_run_status : ℕ → Bool
+is_run_status status = list_any (λ s. s == status) (0 ∷ 7 ∷ 8 ∷ 10 ∷ [])
+
+-- the file of this name was replaced by one that spells the setup after the events that were kept, or, where the replacing failed, maybe not; with other statuses than those of a run no file changed
+pub record AreAccountsWritten (name : List ℕ) (setup : Settings) (status : ℕ) (journal : List Event) (old new : Option Contents) (ReplaceRose : Type 0) : Type 0 where
+  pub bytes : List ℕ
+  pub spells : is_run_status status ≡ true → setup_of bytes ≡ Ok (entries_of (setup_after setup (kept_events journal)))
+  pub written : status ≡ 0 → Goes (Replaced name bytes) old new
+  pub tried : (status ≡ 7) ⊎ (status ≡ 10) → Goes (Replaced name bytes) old new ⊎ (ReplaceRose × Goes (MayBeReplaced name bytes) old new)
+  pub failed : status ≡ 8 → ReplaceRose × Goes (MayBeReplaced name bytes) old new
+  pub unwritten : is_run_status status ≡ false → Goes SameFiles old new
+
+-- what becomes of the files: by the plain setup nothing
+abbrev pub AccountsMatch : Source → Settings → ℕ → List Event → Option Contents → Option Contents → Type 0 → Type 0
+AccountsMatch Plain setup status journal old new ReplaceRose = Goes SameFiles old new
+AccountsMatch (Named name) setup status journal old new ReplaceRose = AreAccountsWritten name setup status journal old new ReplaceRose
+
+-- ---- the statuses and their causes
+
+-- those of `serve`
+abbrev pub serve_statuses : List ℕ
+serve_statuses = 0 ∷ 3 ∷ 4 ∷ 5 ∷ 6 ∷ 7 ∷ 8 ∷ 9 ∷ 10 ∷ []
+
+-- with these nobody was served
+abbrev pub is_unserved_status : ℕ → Bool
+is_unserved_status status = list_any (λ s. s == status) (3 ∷ 4 ∷ 5 ∷ 6 ∷ [])
+
+-- what comes only for its cause, and what comes exactly for it; rose says that a count rose in this call
+pub record ServeHasCause {P : Type 0} (status : ℕ) (journal : List Event) (posts : List P) (scene : P → Option Scene) (faults : P → Faults) (ReadRose ListenRose LogRose ReplaceRose : Type 0) : Type 0 where
+  pub listed : list_any (λ s. s == status) serve_statuses ≡ true
+  pub unserved : is_unserved_status status ≡ true → posts ≡ []
+  pub unbegun : posts ≡ [] → journal ≡ []
+  pub read_fault : status ≡ 3 → ReadRose
+  pub listen_fault : status ≡ 6 → ListenRose
+  pub lost : has_lost journal ≡ true → (status ≡ 7) ⊎ (status ≡ 9)
+  pub log_lost : status ≡ 7 → (has_lost journal ≡ true) × LogRose
+  pub accept_fault : status ≡ 10 → SomeAcceptFailed scene faults posts
+  pub replace_fault : status ≡ 8 → ReplaceRose
+
+-- success: nothing was lost, no accept failed, and each worker that nothing stopped served all its connections
+pub record SucceedsWhole {P : Type 0} (setup : Settings) (journal : List Event) (posts : List P) (scene : P → Option Scene) : Type 0 where
+  pub kept : has_lost journal ≡ false
+  pub accepted : NoAcceptFailed scene posts
+  pub quota : RunsToQuota setup scene journal posts
+  pub one_each : length posts ≡ setup.workers
+
+-- ---- completeness
+
+-- no call of the files, of the site, of a post and of the log failed, as their counts tell
+pub record NoFault {P : Type 0} (ReadRose ReplaceRose ListenRose LogRose : Type 0) (faults : P → Faults) (posts : List P) : Type 0 where
+  pub read : ¬ ReadRose
+  pub replace : ¬ ReplaceRose
+  pub listen : ¬ ListenRose
+  pub log : ¬ LogRose
+  pub each : AreFaultless faults posts
+
+-- without a fault a run succeeds, unless memory is wanted, and each session ends by what its child did and has all its answers
+pub record IsComplete {P : Type 0} (service : Service) (status : ℕ) (journal : List Event) (posts : List P) (scene : P → Option Scene) (NoFaultRose : Type 0) : Type 0 where
+  pub succeeds : NoFaultRose → (status ≡ 0) ⊎ (status ≡ 9)
+  pub answered : NoFaultRose → status ≡ 0 → IsAnsweredWhole service scene journal posts
+
+-- ---- all of it
+
+-- all that is promised of serving by a service
+pub record ServePromises {P : Type 0} (source : Source) (service : Service) (status : ℕ) (journal : List Event) (posts : List P) (scene : P → Option Scene) (faults : P → Faults) (old new : Option Contents) (listens_old listens_new : Option (List SitePlace)) (held_old held_new : Option (List ℕ)) (ReadRose ReplaceRose ListenRose LogRose : Type 0) : Type 0 where
+  pub legal : JournalIsLegal service.setup journal
+  pub sessions : SessionsInOrder service journal
+  pub listens : ListensAt service.setup posts listens_old listens_new
+  pub operations : OperationsMatch service scene journal posts
+  pub conversations : ConversationsMatch service scene journal posts
+  pub log : LogMatches service.setup journal held_old held_new
+  pub consequences : HasConsequences service.setup journal
+  pub unseen : ShowsNoAccounts service.setup journal
+  pub quota : RunsToQuota service.setup scene journal posts
+  pub fault_ends : FaultEndsAreCounted faults journal posts
+  pub success : status ≡ 0 → SucceedsWhole service.setup journal posts scene
+  pub accounts : AccountsMatch source service.setup status journal old new ReplaceRose
+  pub complete : IsComplete service status journal posts scene (NoFault ReadRose ReplaceRose ListenRose LogRose faults posts)

@@ -1,0 +1,6 @@
+pub mod Words
+pub mod Commands
+pub mod Services
+pub mod Errors
+pub mod Headline
+pub mod Steps

@@ -1,0 +1,42 @@
+-- Inner: the steps of serving: what was read, that nobody was served, what was written back.
+use Rattle.std.specs.Prelude.{◌≡◌, ◌⊎◌, ℕ, List, [], Option, Result, Ok, Err}
+use Rattle.info_hooks.specs.declared.key.Key.{Key}
+use Rattle.monitor_run.specs.Prepared.{LogStays}
+use Rattle.otp_ledger.specs.Accounts.{LedgerParts}
+use Rattle.otp_words.specs.Dictionaries.{plain_words}
+use Rattle.account_writer.specs.CurrentSetup.{IsSetupAfter}
+use Rattle.outside.specs.declared.place.Place.{Place as SitePlace}
+use Rattle.outside.specs.Files.{Contents, MayBeReplaced, Replaced, SameFiles}
+use Rattle.outside.specs.Told.{Gains, Goes}
+use Rattle.policy_model.specs.Settings.{Settings, plain_settings}
+use Rattle.service_model.specs.Service.{Service}
+use Rattle.service_reading.specs.Found.{IsServiceIn}
+use Rattle.serve_mode.specs.declared.error.ServeError.{ServeError}
+use Rattle.serve_mode.specs.declared.error.ServeError.TheVariants as errors
+use Rattle.serve_mode.specs.Words.{Named, Plain, Source}
+
+-- the service of a setup, of words and of what can be said
+abbrev pub service_by : Settings → List (List ℕ) → List Key → Service
+service_by setup words forms = record { setup = setup; words = words; forms = forms }
+
+-- this setup and these words were read
+abbrev pub IsReadFrom : Source → List Key → Option Contents → Settings → List (List ℕ) → Type 0
+IsReadFrom Plain forms contents setup words = (setup ≡ plain_settings) × (words ≡ plain_words)
+IsReadFrom (Named name) forms contents setup words = IsServiceIn forms contents name setup words
+
+-- memory was wanted, or the site could not listen; the log stays, and the site listened nowhere
+pub record IsNotServed (error : ServeError) (listens_old listens_new : Option (List SitePlace)) (held_old held_new : Option (List ℕ)) (log_old log_new : ℕ) (ListenRose : Type 0) : Type 0 where
+  pub why : (error ≡ errors.OutOfMemory) ⊎ ((error ≡ errors.ListenFailed) × ListenRose)
+  pub listens : Gains listens_old [] listens_new
+  pub log : LogStays held_old held_new log_old log_new
+
+-- what was done to write the accounts that a ledger knows back to where the setup came from
+abbrev pub WritesNamed : List ℕ → Settings → LedgerParts → Option Contents → Option Contents → Type 0 → Result (Unit {0}) ServeError → Type 0
+WritesNamed name setup ledger old new ReplaceRose (Ok done) = (bytes : List ℕ) × IsSetupAfter setup ledger bytes × Goes (Replaced name bytes) old new
+WritesNamed name setup ledger old new ReplaceRose (Err errors.OutOfMemory) = Goes SameFiles old new
+WritesNamed name setup ledger old new ReplaceRose (Err errors.ReplaceFailed) = (bytes : List ℕ) × IsSetupAfter setup ledger bytes × ReplaceRose × Goes (MayBeReplaced name bytes) old new
+WritesNamed name setup ledger old new ReplaceRose (Err error) = ⊥
+
+abbrev pub WritesBack : Source → Settings → LedgerParts → Option Contents → Option Contents → Type 0 → Result (Unit {0}) ServeError → Type 0
+WritesBack Plain setup ledger old new ReplaceRose written = (written ≡ Ok tt) × Goes SameFiles old new
+WritesBack (Named name) setup ledger old new ReplaceRose written = WritesNamed name setup ledger old new ReplaceRose written

@@ -1,0 +1,60 @@
+//! The accounts, written back.
+
+ghost use Rattle.std.specs.Prelude.{◌≡◌, ◌≤◌};
+ghost use Rattle.outside.specs.Told.{Rose};
+ghost use Rattle.serve_mode.specs.Commands.{source_of};
+ghost use Rattle.serve_mode.specs.Steps.{WritesBack, WritesNamed};
+ghost use Rattle.serve_mode.specs.Words.{Plain};
+
+use crate::command::ServeCommand;
+use crate::error::ServeError;
+use account_writer::write_accounts;
+use outside::{Files, Word};
+use policy_model::Setup;
+use session_core::Core;
+use std::alloc::Global;
+
+/// Replaces the file of a name by one that spells the setup with the accounts as they are known.
+fn write_named<F: Files>(
+    alloc: Global,
+    name: &str,
+    setup: &Setup,
+    core: &Core,
+    files: &mut F,
+) -> Result<(), ServeError>
+    requires { core.now.ledger.setup ≡ setup.now }
+    ensures written { WritesNamed name.now setup.now core.now.ledger (F.contents files.old) (F.contents files.new)
+        (Rose (F.replace_faults files.old) (F.replace_faults files.new)) result }
+    ensures read_faults { F.read_faults files.new ≡ F.read_faults files.old }
+{
+    let Ok(name) = Word::of(alloc, name.as_bytes()) else {
+        return Err(ServeError::OutOfMemory);
+    };
+    let Ok(bytes) = write_accounts(alloc, setup, core.ledger()) else {
+        return Err(ServeError::OutOfMemory);
+    };
+    if files.replace(&name, bytes.as_slice()).is_err() {
+        return Err(ServeError::ReplaceFailed);
+    }
+    Ok(())
+}
+
+/// Writes the accounts, as they are known, to where the setup came from.
+pub(crate) fn write_back<F: Files>(
+    alloc: Global,
+    command: &ServeCommand<'_>,
+    setup: &Setup,
+    core: &Core,
+    files: &mut F,
+) -> Result<(), ServeError>
+    requires { core.now.ledger.setup ≡ setup.now }
+    ensures written { WritesBack (source_of command.now) setup.now core.now.ledger (F.contents files.old) (F.contents files.new)
+        (Rose (F.replace_faults files.old) (F.replace_faults files.new)) result }
+    ensures plain { source_of command.now ≡ Plain → files.new ≡ files.old }
+    ensures read_faults { F.read_faults files.new ≡ F.read_faults files.old }
+{
+    match command {
+        ServeCommand::Plain => Ok(()),
+        ServeCommand::Named(name) => write_named(alloc, name, setup, core, files),
+    }
+}

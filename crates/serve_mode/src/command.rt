@@ -1,0 +1,27 @@
+//! The words of the mode.
+
+ghost use Rattle.std.specs.Prelude.{◌≡◌, ◌∷◌, map, option_map};
+ghost use Rattle.serve_mode.specs.Commands.{source_of};
+ghost use Rattle.serve_mode.specs.Words.{serve_command};
+
+/// The setup that is to be served by.
+#[derive(Clone, Copy)]
+pub enum ServeCommand<'a> {
+    /// The plain setup, with the plain word list.
+    Plain,
+    /// The setup in the file of this name.
+    Named(&'a str),
+}
+
+/// Reads the words of a command line: the mode's word, and those behind it. `None` exactly where they
+/// are neither `serve` nor `serve SETUP`.
+pub fn read_serve_command<'a>(mode: &str, further: &[&'a str]) -> Option<ServeCommand<'a>>
+    ensures { option_map source_of result
+        ≡ serve_command (mode.now ∷ map (λ word. word.now) further.now) }
+{
+    match further {
+        [] if mode == "serve" => Some(ServeCommand::Plain),
+        [name] if mode == "serve" => Some(ServeCommand::Named(name)),
+        _ => None,
+    }
+}

@@ -1,0 +1,18 @@
+//! The mode `serve`: a setup and its word list are read, their workers serve, and the accounts are
+//! written back. Believe `specs/Headline.antt` and the files that it names.
+#![tactic(auto)]
+
+mod accounts;
+mod command;
+mod error;
+mod house;
+mod reading;
+mod run;
+mod serving;
+
+pub use command::{ServeCommand, read_serve_command};
+pub use error::{ServeError, status};
+pub use run::{Served, run_serve};
+
+#[cfg(test)]
+mod tests;

@@ -1,0 +1,63 @@
+//! What a run serves by, read.
+
+ghost use Rattle.std.specs.Prelude.{◌≡◌, ◌≤◌, [], Err, IfOk, None};
+ghost use Rattle.outside.specs.Files.{SameFiles};
+ghost use Rattle.outside.specs.Told.{Goes, Rose};
+ghost use Rattle.service_reading.specs.declared.error.ServiceError.{ServiceError};
+ghost use Rattle.serve_mode.specs.Commands.{source_of};
+ghost use Rattle.serve_mode.specs.Errors.{IsUnread};
+ghost use Rattle.serve_mode.specs.Steps.{IsReadFrom};
+ghost use Rattle.serve_mode.specs.Words.{Plain};
+
+use crate::command::ServeCommand;
+use crate::house::House;
+use otp_words::Dictionary;
+use outside::Files;
+use policy_model::Setup;
+use service_reading::{Information, ServiceError, ServiceParts, read_service};
+use std::alloc::{AllocError, Global};
+
+/// The plain setup and the plain word list.
+fn plain_parts(alloc: Global) -> Result<ServiceParts, AllocError>
+    ensures { IfOk result (λ parts. IsReadFrom Plain [] None parts.setup parts.dictionary) }
+{
+    Ok(ServiceParts {
+        setup: Setup::plain(alloc)?,
+        dictionary: Dictionary::plain(alloc)?,
+    })
+}
+
+/// Reads what a run serves by.
+///
+/// # Errors
+///
+/// As of [`read_service`]; for the plain setup there isn't the memory.
+pub(crate) fn read_house<'a, F: Files, I: Information>(
+    alloc: Global,
+    command: &ServeCommand<'_>,
+    files: &mut F,
+    information: &'a I,
+) -> Result<House<'a, I>, ServiceError>
+    ensures read { IfOk result (λ house. IsReadFrom (source_of command.now) (I.forms information.now) (F.contents files.new) house.setup house.dictionary) }
+    ensures information { IfOk result (λ house. house.information.now ≡ information.now) }
+    ensures error { (error : ServiceError) → result ≡ Err error → IsUnread (source_of command.now) (I.forms information.now) (F.contents files.new)
+        (Rose (F.read_faults files.old) (F.read_faults files.new)) error }
+    ensures plain { source_of command.now ≡ Plain → files.new ≡ files.old }
+    ensures kept { Goes SameFiles (F.contents files.old) (F.contents files.new) }
+    ensures read_faults { F.read_faults files.old ≤ F.read_faults files.new }
+    ensures replace_faults { F.replace_faults files.old ≤ F.replace_faults files.new }
+{
+    let parts = match command {
+        ServeCommand::Plain => match plain_parts(alloc) {
+            Ok(parts) => parts,
+            Err(AllocError) => return Err(ServiceError::OutOfMemory),
+        },
+        ServeCommand::Named(name) => read_service(alloc, files, name, information)?,
+    };
+    let ServiceParts { setup, dictionary } = parts;
+    Ok(House {
+        setup,
+        dictionary,
+        information,
+    })
+}

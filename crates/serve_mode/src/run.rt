@@ -1,0 +1,121 @@
+//! The mode.
+
+ghost use Rattle.std.specs.Prelude.{◌≡◌, ◌⊎◌, [], Err};
+ghost use Rattle.monitor_run.specs.Prepared.{LogStays};
+ghost use Rattle.outside.specs.Files.{SameFiles};
+ghost use Rattle.outside.specs.Told.{Gains, Goes, Rose};
+ghost use Rattle.service_model.specs.Service.{Service};
+ghost use Rattle.service_reading.specs.declared.error.ServiceError.{ServiceError};
+ghost use Rattle.serve_mode.specs.Commands.{source_of};
+ghost use Rattle.serve_mode.specs.declared.error.ServeError.TheVariants.{Unread};
+ghost use Rattle.serve_mode.specs.Errors.{IsUnread, run_end, status_of};
+ghost use Rattle.serve_mode.specs.Headline.{ServeHasCause, ServePromises};
+ghost use Rattle.serve_mode.specs.Services.{IsServiceOf};
+ghost use Rattle.serve_mode.specs.Words.{Plain};
+
+use crate::accounts::write_back;
+use crate::command::ServeCommand;
+use crate::error::ServeError;
+use crate::reading::read_house;
+use crate::serving::serve;
+use monitor_run::Ran;
+use outside::{Files, Sink, Site};
+use policy_model::{Event, has_lost};
+use service_reading::Information;
+use std::alloc::Global;
+use std::sync::Wait;
+use std::thread::Threads;
+
+/// What the mode came to.
+pub struct Served<P, K> {
+    /// How the run ended, or why there was none.
+    pub end: Result<(), ServeError>,
+    /// All events, in the order in which they were decided.
+    pub journal: Vec<Event>,
+    pub log: K,
+    /// The workers' posts, in their order; none where nobody was served.
+    pub posts: Vec<P>,
+}
+
+/// Nobody was served.
+fn unserved<P, K>(alloc: Global, error: ServeError, log: K) -> Served<P, K>
+    ensures end { result.end ≡ Err error }
+    ensures log { result.log ≡ log }
+    ensures journal { result.journal.items ≡ [] }
+    ensures posts { result.posts.items ≡ [] }
+{
+    Served {
+        end: Err(error),
+        journal: Vec::new(alloc),
+        log,
+        posts: Vec::new(alloc),
+    }
+}
+
+/// How a run ends: the first of these, that the accounts found no memory, that a decision was lost, that
+/// an accept failed, and that the accounts were not written.
+fn run_end(written: Result<(), ServeError>, lost: bool, failed: bool) -> Result<(), ServeError>
+    ensures { result ≡ run_end written lost failed }
+{
+    match written {
+        Err(ServeError::OutOfMemory) => written,
+        _ if lost => Err(ServeError::LogLost),
+        _ if failed => Err(ServeError::AcceptFailed),
+        _ => written,
+    }
+}
+
+/// Runs the mode: reads the setup and its word list, takes all memory of the run, listens, serves all
+/// connections of all workers, and writes the accounts back to the setup's file, also where the run
+/// ended by a fault.
+///
+/// The end is the first of these errors: of the setup, of the word list, of memory, of the listening,
+/// of the memory for the accounts, of the log, of an accept, of the replacing.
+pub fn run_serve<F: Files, S: Site, K: Sink, I: Information + Sync, R: Threads + Wait + Sync>(
+    rt: &R,
+    alloc: Global,
+    command: &ServeCommand<'_>,
+    files: &mut F,
+    site: &mut S,
+    log: K,
+    information: &I,
+) -> Served<S::Post, K>
+    ensures promises { (service : Service) → IsServiceOf (source_of command.now) (I.forms information.now) (F.contents files.old) (F.contents files.new) service
+        → ServePromises (source_of command.now) service (status_of result.end) result.journal.items result.posts.items S.Post.scene S.Post.faults (F.contents files.old) (F.contents files.new)
+        (S.listens site.old) (S.listens site.new) (K.held log) (K.held result.log)
+        (Rose (F.read_faults files.old) (F.read_faults files.new)) (Rose (F.replace_faults files.old) (F.replace_faults files.new)) (Rose (S.listen_faults site.old) (S.listen_faults site.new)) (Rose (K.faults log) (K.faults result.log)) }
+    ensures served { (result.posts.items ≡ []) ⊎ ((service : Service) × ServePromises (source_of command.now) service (status_of result.end) result.journal.items result.posts.items S.Post.scene S.Post.faults (F.contents files.old) (F.contents files.new)
+        (S.listens site.old) (S.listens site.new) (K.held log) (K.held result.log)
+        (Rose (F.read_faults files.old) (F.read_faults files.new)) (Rose (F.replace_faults files.old) (F.replace_faults files.new)) (Rose (S.listen_faults site.old) (S.listen_faults site.new)) (Rose (K.faults log) (K.faults result.log))) }
+    ensures causes { ServeHasCause (status_of result.end) result.journal.items result.posts.items S.Post.scene S.Post.faults
+        (Rose (F.read_faults files.old) (F.read_faults files.new)) (Rose (S.listen_faults site.old) (S.listen_faults site.new)) (Rose (K.faults log) (K.faults result.log)) (Rose (F.replace_faults files.old) (F.replace_faults files.new)) }
+    ensures unread { (error : ServiceError) → result.end ≡ Err (Unread error) → IsUnread (source_of command.now) (I.forms information.now) (F.contents files.new)
+        (Rose (F.read_faults files.old) (F.read_faults files.new)) error }
+    ensures log { result.posts.items ≡ [] → LogStays (K.held log) (K.held result.log) (K.faults log) (K.faults result.log) }
+    ensures unlistened { result.posts.items ≡ [] → Gains (S.listens site.old) [] (S.listens site.new) }
+    ensures kept { result.posts.items ≡ [] → Goes SameFiles (F.contents files.old) (F.contents files.new) }
+    ensures plain { source_of command.now ≡ Plain → files.new ≡ files.old }
+{
+    match read_house(alloc, command, files, information) {
+        Ok(house) => match serve(rt, alloc, &house, site, log) {
+            Ok(ran) => {
+                let Ran {
+                    core,
+                    journal,
+                    log,
+                    posts,
+                    accept_failed,
+                } = ran;
+                let written = write_back(alloc, command, &house.setup, &core, files);
+                Served {
+                    end: run_end(written, has_lost(&journal), accept_failed),
+                    journal,
+                    log,
+                    posts,
+                }
+            }
+            Err((error, log)) => unserved(alloc, error, log),
+        },
+        Err(error) => unserved(alloc, ServeError::Unread(error), log),
+    }
+}

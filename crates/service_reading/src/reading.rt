@@ -1,0 +1,54 @@
+//! The reading.
+
+ghost use Rattle.std.specs.Prelude.{◌≡◌, ◌≤◌, Err, IfOk};
+ghost use Rattle.outside.specs.Files.{SameFiles};
+ghost use Rattle.outside.specs.Told.{Goes, Rose};
+ghost use Rattle.service_reading.specs.declared.error.ServiceError.{ServiceError};
+ghost use Rattle.service_reading.specs.Errors.{IsServiceError};
+ghost use Rattle.service_reading.specs.Found.{IsServiceIn};
+
+use crate::error::ServiceError;
+use crate::information::Information;
+use crate::informed::informed;
+use file_front::read_list;
+use otp_words::Dictionary;
+use outside::Files;
+use policy_model::Setup;
+use setup_reading::read_setup_file;
+use std::alloc::Global;
+
+/// A setup, and the word list that it names.
+#[derive(Drop)]
+pub struct ServiceParts {
+    pub setup: Setup,
+    pub dictionary: Dictionary,
+}
+
+/// Reads the setup in the file of a name, and then the word list that it names.
+///
+/// # Errors
+///
+/// The first, in this order: of the setup's file, of the setup, of a number of information that
+/// can't be said, of the list's file, of the list. Memory may be wanted at each file.
+pub fn read_service<F: Files, I: Information>(
+    alloc: Global,
+    files: &mut F,
+    name: &str,
+    information: &I,
+) -> Result<ServiceParts, ServiceError>
+    ensures service { IfOk result (λ parts. IsServiceIn (I.forms information.now) (F.contents files.new) name.now parts.setup parts.dictionary) }
+    ensures error { (error : ServiceError) → result ≡ Err error → IsServiceError (I.forms information.now) (F.contents files.new)
+        name.now (Rose (F.read_faults files.old) (F.read_faults files.new)) error }
+    ensures kept { Goes SameFiles (F.contents files.old) (F.contents files.new) }
+    ensures read_faults { F.read_faults files.old ≤ F.read_faults files.new }
+    ensures replace_faults { F.replace_faults files.old ≤ F.replace_faults files.new }
+{
+    let setup = read_setup_file(alloc, files, name)?;
+    match informed(setup, information) {
+        Ok(setup) => {
+            let dictionary = read_list(alloc, files, setup.parts().words.as_str())?;
+            Ok(ServiceParts { setup, dictionary })
+        }
+        Err(fault) => Err(ServiceError::SetupRefused(fault)),
+    }
+}

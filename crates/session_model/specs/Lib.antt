@@ -1,9 +1,0 @@
-pub mod Places
-pub mod Requests
-pub mod Acts
-pub mod Answers
-pub mod Parts
-pub mod Ends
-pub mod Sittings
-pub mod Stories
-pub mod Smallest
