@@ -23,7 +23,7 @@ use Rattle.policy_model.specs.Logins.{challenged_user, user_named, verified_user
 use Rattle.policy_model.specs.Phases.{is_over, is_taking, phase_of, table_row}
 use Rattle.policy_model.specs.Runs.{AreNumbered}
 use Rattle.policy_model.specs.Settings.{Settings, same_label}
-use Rattle.policy_model.specs.Verdict.{account_named, close_verdict, grant_verdict, grants_of, handle_verdict, kind_verdict, number_named, open_verdict, own_verdict, request_verdict, row_verdict, table_verdict, use_verdict, verdict_by, verdict_of}
+use Rattle.policy_model.specs.Verdict.{account_named, close_verdict, grant_verdict, grants_of, handle_verdict, kind_verdict, number_named, open_verdict, own_verdict, request_verdict, row_verdict, table_verdict, use_verdict, verdict_of}
 use Rattle.policy_model.proofs.Lists.{last_or-push}
 use Rattle.policy_model.proofs.LoginLemmas.{verified_user-none, verified_user-push}
 use Rattle.policy_model.proofs.Sessions.{AreNumbered-push, AreNumbered-weaker, openings_of-push, session_of-le}
@@ -141,20 +141,20 @@ row_recent setup session front ys none ask h kind row =
     ap (λ b. cond (not row.permitted) (Deny 6 (request_number ask)) (cond (row.once && b) (Deny 7 (request_number ask)) (kind_verdict setup (front ++ ys) session ask))) (has_recent session (permits_kind kind) front ys none)
     ∙ ap (λ d. cond (not row.permitted) (Deny 6 (request_number ask)) (cond (row.once && has_event ys session (permits_kind kind)) (Deny 7 (request_number ask)) d)) (kind_recent setup session front ys none ask h)
 
-table_recent : (setup : Settings) (session : ℕ) (front ys : List Event) → events_of front session ≡ [] → (ask : Ask) → is_local ask ≡ true → (kind : Option Kind) → table_verdict table_row setup (front ++ ys) session ask kind ≡ table_verdict table_row setup ys session ask kind
+table_recent : (setup : Settings) (session : ℕ) (front ys : List Event) → events_of front session ≡ [] → (ask : Ask) → is_local ask ≡ true → (kind : Option Kind) → table_verdict setup (front ++ ys) session ask kind ≡ table_verdict setup ys session ask kind
 table_recent setup session front ys none ask h None = refl
 table_recent setup session front ys none ask h (Some kind) =
     ap (λ p. row_verdict setup (front ++ ys) session ask kind (table_row p kind)) (phase_recent session front ys none)
     ∙ row_recent setup session front ys none ask h kind (table_row (phase_of ys session) kind)
 
-own_recent : (setup : Settings) (session : ℕ) (front ys : List Event) → events_of front session ≡ [] → (ask : Ask) → is_local ask ≡ true → own_verdict table_row setup (front ++ ys) session ask ≡ own_verdict table_row setup ys session ask
+own_recent : (setup : Settings) (session : ℕ) (front ys : List Event) → events_of front session ≡ [] → (ask : Ask) → is_local ask ≡ true → own_verdict setup (front ++ ys) session ask ≡ own_verdict setup ys session ask
 own_recent setup session front ys none (asks.Bad rule detail) h = refl
 own_recent setup session front ys none ask h = table_recent setup session front ys none ask h (kind_of ask)
 
-request_recent : (setup : Settings) (session : ℕ) (front ys : List Event) → events_of front session ≡ [] → (ask : Ask) → is_local ask ≡ true → request_verdict table_row setup (front ++ ys) session ask ≡ request_verdict table_row setup ys session ask
+request_recent : (setup : Settings) (session : ℕ) (front ys : List Event) → events_of front session ≡ [] → (ask : Ask) → is_local ask ≡ true → request_verdict setup (front ++ ys) session ask ≡ request_verdict setup ys session ask
 request_recent setup session front ys none ask h =
-    ap (λ b. cond (eqb session 0 || b) (Deny 6 (request_number ask)) (cond (eqb (ask_count (front ++ ys) session) setup.requests) (Deny 1 setup.requests) (own_verdict table_row setup (front ++ ys) session ask))) (over_recent session front ys none)
-    ∙ ap (λ n. cond (eqb session 0 || is_over ys session) (Deny 6 (request_number ask)) (cond (eqb n setup.requests) (Deny 1 setup.requests) (own_verdict table_row setup (front ++ ys) session ask))) (asked_recent session front ys none)
+    ap (λ b. cond (eqb session 0 || b) (Deny 6 (request_number ask)) (cond (eqb (ask_count (front ++ ys) session) setup.requests) (Deny 1 setup.requests) (own_verdict setup (front ++ ys) session ask))) (over_recent session front ys none)
+    ∙ ap (λ n. cond (eqb session 0 || is_over ys session) (Deny 6 (request_number ask)) (cond (eqb n setup.requests) (Deny 1 setup.requests) (own_verdict setup (front ++ ys) session ask))) (asked_recent session front ys none)
     ∙ ap (λ d. cond (eqb session 0 || is_over ys session) (Deny 6 (request_number ask)) (cond (eqb (ask_count ys session) setup.requests) (Deny 1 setup.requests) d)) (own_recent setup session front ys none ask h)
 
 -- 3. Behind a worker's last permitted opening or end
@@ -194,29 +194,29 @@ framed asks.Begin h e = absurd cc
 framed (asks.End why) h e = absurd cc
 framed _ h e = refl
 
-none_open : (setup : Settings) (xs : List Event) (ask : Ask) (n : ℕ) → n ≡ 0 → request_verdict table_row setup xs n ask ≡ Deny 6 (request_number ask)
-none_open setup xs ask n h = ap (λ s. request_verdict table_row setup xs s ask) h
+none_open : (setup : Settings) (xs : List Event) (ask : Ask) (n : ℕ) → n ≡ 0 → request_verdict setup xs n ask ≡ Deny 6 (request_number ask)
+none_open setup xs ask n h = ap (λ s. request_verdict setup xs s ask) h
 
 behind_turn : (setup : Settings) (front : List Event) (t : Event) (rest : List Event) (worker : ℕ) (ask : Ask) → IsLegalLog setup (front ++ t ∷ rest) → is_turn_of worker t ≡ true → filter (is_turn_of worker) rest ≡ [] → is_local ask ≡ true → is_end ask ≡ false → verdict_of setup (t ∷ rest) worker ask ≡ verdict_of setup (front ++ t ∷ rest) worker ask
 behind_turn setup front t rest worker ask legal turn none local request =
-    verdict_of-request table_row setup (t ∷ rest) worker ask (framed ask local request)
-    ∙ ap (λ s. request_verdict table_row setup (t ∷ rest) s ask) (open_recent worker [] t rest turn none)
+    verdict_of-request setup (t ∷ rest) worker ask (framed ask local request)
+    ∙ ap (λ s. request_verdict setup (t ∷ rest) s ask) (open_recent worker [] t rest turn none)
     ∙ go (is_begin t.ask) refl
-    ∙ sym (ap (λ s. request_verdict table_row setup (front ++ t ∷ rest) s ask) (open_recent worker front t rest turn none))
-    ∙ sym (verdict_of-request table_row setup (front ++ t ∷ rest) worker ask (framed ask local request)) where
+    ∙ sym (ap (λ s. request_verdict setup (front ++ t ∷ rest) s ask) (open_recent worker front t rest turn none))
+    ∙ sym (verdict_of-request setup (front ++ t ∷ rest) worker ask (framed ask local request)) where
       permit : is_permit t.decision ≡ true
       permit = (and_parts (eqb t.worker worker && (is_begin t.ask || is_end t.ask)) (is_permit t.decision) turn).1
 
-      go : (b : Bool) → is_begin t.ask ≡ b → request_verdict table_row setup (t ∷ rest) (cond (is_begin t.ask) t.session 0) ask ≡ request_verdict table_row setup (front ++ t ∷ rest) (cond (is_begin t.ask) t.session 0) ask
+      go : (b : Bool) → is_begin t.ask ≡ b → request_verdict setup (t ∷ rest) (cond (is_begin t.ask) t.session 0) ask ≡ request_verdict setup (front ++ t ∷ rest) (cond (is_begin t.ask) t.session 0) ask
       go false h = none_open setup (t ∷ rest) ask (cond (is_begin t.ask) t.session 0) (ap (λ b. cond b t.session 0) h) ∙ sym (none_open setup (front ++ t ∷ rest) ask (cond (is_begin t.ask) t.session 0) (ap (λ b. cond b t.session 0) h))
       go true h =
           let session : cond (is_begin t.ask) t.session 0 ≡ t.session = ap (λ b. cond b t.session 0) h in
-          ap (λ s. request_verdict table_row setup (t ∷ rest) s ask) session
+          ap (λ s. request_verdict setup (t ∷ rest) s ask) session
           ∙ sym (request_recent setup t.session front (t ∷ rest) (fresh setup front t rest legal h permit) ask local)
-          ∙ sym (ap (λ s. request_verdict table_row setup (front ++ t ∷ rest) s ask) session)
+          ∙ sym (ap (λ s. request_verdict setup (front ++ t ∷ rest) s ask) session)
 
 end_verdict : (setup : Settings) (xs ys : List Event) (worker : ℕ) (ask : Ask) → is_end ask ≡ true → open_session_of xs worker ≡ open_session_of ys worker → verdict_of setup xs worker ask ≡ verdict_of setup ys worker ask
-unfolding verdict_by
+unfolding verdict_of
 end_verdict setup xs ys worker (asks.End why) h same = ap (λ s. cond (eqb s 0) (Deny 6 0) (Permit 0)) same
 end_verdict setup xs ys worker _ h same = absurd cc
 

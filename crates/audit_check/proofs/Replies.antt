@@ -16,7 +16,7 @@ use Rattle.policy_model.specs.Journal.{ask_count, has_event, open_session_of}
 use Rattle.policy_model.specs.Logins.{account_of, challenged_user, holder_of, last_taking_of, session_taking, was_accepted, was_decoyed}
 use Rattle.policy_model.specs.Phases.{is_over, phase_of, table_row}
 use Rattle.policy_model.specs.Settings.{Settings}
-use Rattle.policy_model.specs.Verdict.{account_named, decoy_verdict, is_holder, is_next_password, kind_verdict, login_verdict, matching_verdict, readings, readings_verdict, reply_verdict, verdict_of, verdict_by}
+use Rattle.policy_model.specs.Verdict.{account_named, decoy_verdict, is_holder, is_next_password, kind_verdict, login_verdict, matching_verdict, readings, readings_verdict, reply_verdict, verdict_of}
 use Rattle.audit_check.specs.Following.{is_no_reading}
 use Rattle.audit_check.specs.Legal.{holds_user, is_challenged_phase, is_password_of, may_be_decided, readings_decide}
 
@@ -83,7 +83,7 @@ of_session setup before session passwords = by_readings (was_decoyed before sess
 
 -- a reply's verdict is that of its readings where they decide, and else that of a reply without any
 pub reply_is : (setup : Settings) (before : List Event) (worker : ℕ) (words hex : Option ℕ) → ReplyIs (readings_decide setup before (open_session_of before worker)) (verdict_of setup before worker (asks.Reply words hex)) (verdict_of setup before worker (asks.Reply None None)) (of_session setup before (open_session_of before worker) (readings words hex))
-unfolding verdict_by kind_verdict reply_verdict
+unfolding verdict_of kind_verdict reply_verdict
 reply_is setup before worker words hex =
     let session : ℕ = open_session_of before worker in
     session_is (eqb session 0) (is_over before session) (eqb (ask_count before session) setup.requests) (has_event before session (permits_kind kinds.Reply))

@@ -21,7 +21,7 @@ use Rattle.policy_model.specs.Legal.{session_of}
 use Rattle.policy_model.specs.Logins.{account_of, challenged_user, current_password, current_sequence, holder_of, is_live, last_taking_of, session_taking, verified_user, was_accepted, was_decoyed}
 use Rattle.policy_model.specs.Phases.{is_over, phase_of, table_row}
 use Rattle.policy_model.specs.Settings.{Settings, same_label}
-use Rattle.policy_model.specs.Verdict.{account_named, account_verdict, allows, challenge_verdict, close_verdict, decoy_challenge, decoy_verdict, grant_verdict, grants_of, handle_verdict, info_verdict, is_held, is_holder, is_next_password, is_other, kind_verdict, login_verdict, matching_verdict, number_named, open_verdict, own_verdict, readings, readings_verdict, reply_verdict, request_verdict, row_verdict, sequence_of, table_verdict, taking_moment, use_verdict, verdict_by, verdict_of}
+use Rattle.policy_model.specs.Verdict.{account_named, account_verdict, allows, challenge_verdict, close_verdict, decoy_challenge, decoy_verdict, grant_verdict, grants_of, handle_verdict, info_verdict, is_held, is_holder, is_next_password, is_other, kind_verdict, login_verdict, matching_verdict, number_named, open_verdict, own_verdict, readings, readings_verdict, reply_verdict, request_verdict, row_verdict, sequence_of, table_verdict, taking_moment, use_verdict, verdict_of}
 use Rattle.audit_check.proofs.Shown.{asked_same, challenged_same, count_same, decoyed_same, denied_same, free_same, has_same, holder_same, kind_same, last_taking_same, live_same, mode_plain, moment_plain, none_same, open_same, opening_same, openings_same, over_same, phase_same, plain, replies_same, taker_same, verified_same}
 
 pub sequence_same : (xs : List Event) (account : Account) → current_sequence (map plain xs) account ≡ current_sequence xs account
@@ -143,27 +143,27 @@ row_same setup xs session ask kind row =
     ap (λ b. cond (not row.permitted) (Deny 6 (request_number ask)) (cond (row.once && b) (Deny 7 (request_number ask)) (kind_verdict setup (map plain xs) session ask))) (has_same xs session (permits_kind kind) (kind_same kind))
     ∙ ap (λ d. cond (not row.permitted) (Deny 6 (request_number ask)) (cond (row.once && has_event xs session (permits_kind kind)) (Deny 7 (request_number ask)) d)) (kind_verdict_same setup xs session ask)
 
-table_same : (setup : Settings) (xs : List Event) (session : ℕ) (ask : Ask) (kind : Option Kind) → table_verdict table_row setup (map plain xs) session ask kind ≡ table_verdict table_row setup xs session ask kind
+table_same : (setup : Settings) (xs : List Event) (session : ℕ) (ask : Ask) (kind : Option Kind) → table_verdict setup (map plain xs) session ask kind ≡ table_verdict setup xs session ask kind
 table_same setup xs session ask None = refl
 table_same setup xs session ask (Some kind) =
     ap (λ p. row_verdict setup (map plain xs) session ask kind (table_row p kind)) (phase_same xs session)
     ∙ row_same setup xs session ask kind (table_row (phase_of xs session) kind)
 
-own_same : (setup : Settings) (xs : List Event) (session : ℕ) (ask : Ask) → own_verdict table_row setup (map plain xs) session ask ≡ own_verdict table_row setup xs session ask
+own_same : (setup : Settings) (xs : List Event) (session : ℕ) (ask : Ask) → own_verdict setup (map plain xs) session ask ≡ own_verdict setup xs session ask
 own_same setup xs session (asks.Bad rule detail) = refl
 own_same setup xs session ask = table_same setup xs session ask (kind_of ask)
 
-request_same : (setup : Settings) (xs : List Event) (session : ℕ) (ask : Ask) → request_verdict table_row setup (map plain xs) session ask ≡ request_verdict table_row setup xs session ask
+request_same : (setup : Settings) (xs : List Event) (session : ℕ) (ask : Ask) → request_verdict setup (map plain xs) session ask ≡ request_verdict setup xs session ask
 request_same setup xs session ask =
-    ap (λ b. cond (eqb session 0 || b) (Deny 6 (request_number ask)) (cond (eqb (ask_count (map plain xs) session) setup.requests) (Deny 1 setup.requests) (own_verdict table_row setup (map plain xs) session ask))) (over_same xs session)
-    ∙ ap (λ n. cond (eqb session 0 || is_over xs session) (Deny 6 (request_number ask)) (cond (eqb n setup.requests) (Deny 1 setup.requests) (own_verdict table_row setup (map plain xs) session ask))) (asked_same xs session)
+    ap (λ b. cond (eqb session 0 || b) (Deny 6 (request_number ask)) (cond (eqb (ask_count (map plain xs) session) setup.requests) (Deny 1 setup.requests) (own_verdict setup (map plain xs) session ask))) (over_same xs session)
+    ∙ ap (λ n. cond (eqb session 0 || is_over xs session) (Deny 6 (request_number ask)) (cond (eqb n setup.requests) (Deny 1 setup.requests) (own_verdict setup (map plain xs) session ask))) (asked_same xs session)
     ∙ ap (λ d. cond (eqb session 0 || is_over xs session) (Deny 6 (request_number ask)) (cond (eqb (ask_count xs session) setup.requests) (Deny 1 setup.requests) d)) (own_same setup xs session ask)
 
-by_session : (setup : Settings) (xs : List Event) (worker : ℕ) (ask : Ask) → request_verdict table_row setup (map plain xs) (open_session_of (map plain xs) worker) ask ≡ request_verdict table_row setup xs (open_session_of xs worker) ask
-by_session setup xs worker ask = ap (λ s. request_verdict table_row setup (map plain xs) s ask) (open_same xs worker) ∙ request_same setup xs (open_session_of xs worker) ask
+by_session : (setup : Settings) (xs : List Event) (worker : ℕ) (ask : Ask) → request_verdict setup (map plain xs) (open_session_of (map plain xs) worker) ask ≡ request_verdict setup xs (open_session_of xs worker) ask
+by_session setup xs worker ask = ap (λ s. request_verdict setup (map plain xs) s ask) (open_same xs worker) ∙ request_same setup xs (open_session_of xs worker) ask
 
 pub verdict_same : (setup : Settings) (xs : List Event) (worker : ℕ) (ask : Ask) → verdict_of setup (map plain xs) worker ask ≡ verdict_of setup xs worker ask
-unfolding verdict_by
+unfolding verdict_of
 verdict_same setup xs worker asks.Begin =
     ap (λ s. cond (eqb s 0) (Permit (openings_of (map plain xs) + 1)) (Deny 6 0)) (open_same xs worker)
     ∙ ap (λ n. cond (eqb (open_session_of xs worker) 0) (Permit (n + 1)) (Deny 6 0)) (openings_same xs)

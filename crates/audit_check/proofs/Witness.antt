@@ -17,7 +17,6 @@ use Rattle.policy_model.specs.Verdict.{verdict_of}
 use Rattle.policy_laws.specs.Strangers.{without_readings}
 use Rattle.policy_model.proofs.Legal.{IsLegal-none, IsLegal-push}
 use Rattle.policy_model.proofs.Runs.{has_lost-push}
-use Rattle.policy_model.specs.Phases.{table_row}
 use Rattle.session_laws.proofs.NeverLost.{never_lost}
 use Rattle.session_laws.proofs.ByEvents.{some_event}
 use Rattle.audit_check.specs.Legal.{IsDecided, IsLegalLog, MayFollow, may_be_decided, readings_decide}
@@ -122,7 +121,7 @@ next_witness setup before e may kept = (record { decided = decided; lost = λ h.
   verdict = witness_decided setup before e.worker e.session e.ask e.decision may.decision ∙ sym (alike_verdict setup (map witness before) before alike e.worker w.ask)
 
   not_lost : is_lost w.decision ≡ false
-  not_lost = ap is_lost verdict ∙ never_lost table_row setup (map witness before) w.worker w.ask
+  not_lost = ap is_lost verdict ∙ never_lost setup (map witness before) w.worker w.ask
 
   session : w.session ≡ session_of (map witness before) w.worker w.ask w.decision
   session = may.session ∙ sym (session_witness before e.worker e.ask e.decision) ∙ sym (alike_session (map witness before) before alike e.worker w.ask w.decision)

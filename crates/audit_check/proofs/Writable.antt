@@ -17,7 +17,7 @@ use Rattle.policy_model.specs.Legal.{IsLegal, IsNext, session_of}
 use Rattle.policy_model.specs.Phases.{is_over, phase_of, table_row}
 use Rattle.policy_model.specs.Runs.{IsProperEvent}
 use Rattle.policy_model.specs.Settings.{Settings}
-use Rattle.policy_model.specs.Verdict.{IsVerdict, allows, close_verdict, handle_verdict, kind_verdict, own_verdict, request_verdict, row_verdict, table_verdict, use_verdict, verdict_by, verdict_of}
+use Rattle.policy_model.specs.Verdict.{IsVerdict, allows, close_verdict, handle_verdict, kind_verdict, own_verdict, request_verdict, row_verdict, table_verdict, use_verdict, verdict_of}
 use Rattle.policy_model.proofs.Lists.{filter-push}
 use Rattle.policy_model.proofs.Runs.{next_decision, next_session}
 use Rattle.policy_model.proofs.Verdicts.{session_of-begin, verdict_of-is}
@@ -68,27 +68,27 @@ row_zero setup before session a kind row h =
     cond_zero (not row.permitted) (Deny 6 (request_number a)) (cond (row.once && has_event before session (permits_kind kind)) (Deny 7 (request_number a)) (kind_verdict setup before session a)) refl
     (cond_zero (row.once && has_event before session (permits_kind kind)) (Deny 7 (request_number a)) (kind_verdict setup before session a) refl (kind_zero setup before session a h))
 
-table_zero : (setup : Settings) (before : List Event) (session : ℕ) (a : Ask) (kind : Option Kind) → shows_none a ≡ true → value_of (table_verdict table_row setup before session a kind) ≡ 0
+table_zero : (setup : Settings) (before : List Event) (session : ℕ) (a : Ask) (kind : Option Kind) → shows_none a ≡ true → value_of (table_verdict setup before session a kind) ≡ 0
 table_zero setup before session a None h = refl
 table_zero setup before session a (Some kind) h = row_zero setup before session a kind (table_row (phase_of before session) kind) h
 
-own_zero : (setup : Settings) (before : List Event) (session : ℕ) (a : Ask) → shows_none a ≡ true → value_of (own_verdict table_row setup before session a) ≡ 0
+own_zero : (setup : Settings) (before : List Event) (session : ℕ) (a : Ask) → shows_none a ≡ true → value_of (own_verdict setup before session a) ≡ 0
 own_zero setup before session (asks.Bad rule detail) h = refl
 own_zero setup before session a h = table_zero setup before session a (kind_of a) h
 
-request_zero : (setup : Settings) (before : List Event) (session : ℕ) (a : Ask) → shows_none a ≡ true → value_of (request_verdict table_row setup before session a) ≡ 0
+request_zero : (setup : Settings) (before : List Event) (session : ℕ) (a : Ask) → shows_none a ≡ true → value_of (request_verdict setup before session a) ≡ 0
 request_zero setup before session a h =
-    cond_zero (eqb session 0 || is_over before session) (Deny 6 (request_number a)) (cond (eqb (ask_count before session) setup.requests) (Deny 1 setup.requests) (own_verdict table_row setup before session a)) refl
-    (cond_zero (eqb (ask_count before session) setup.requests) (Deny 1 setup.requests) (own_verdict table_row setup before session a) refl (own_zero setup before session a h))
+    cond_zero (eqb session 0 || is_over before session) (Deny 6 (request_number a)) (cond (eqb (ask_count before session) setup.requests) (Deny 1 setup.requests) (own_verdict setup before session a)) refl
+    (cond_zero (eqb (ask_count before session) setup.requests) (Deny 1 setup.requests) (own_verdict setup before session a) refl (own_zero setup before session a h))
 
 verdict_zero : (setup : Settings) (before : List Event) (worker : ℕ) (a : Ask) → shows_none a ≡ true → value_of (verdict_of setup before worker a) ≡ 0
-unfolding verdict_by
+unfolding verdict_of
 verdict_zero setup before worker asks.Begin h = absurd cc
 verdict_zero setup before worker (asks.End why) h = cond_zero (eqb (open_session_of before worker) 0) (Deny 6 0) (Permit 0) refl refl
 verdict_zero setup before worker a h = request_zero setup before (open_session_of before worker) a h
 
 begin_value : (setup : Settings) (before : List Event) (worker value : ℕ) → Permit value ≡ verdict_of setup before worker asks.Begin → value ≡ openings_of before + 1
-unfolding verdict_by
+unfolding verdict_of
 begin_value setup before worker value h = go (eqb (open_session_of before worker) 0) h where
   go : (b : Bool) → Permit value ≡ cond b (Permit (openings_of before + 1)) (Deny 6 0) → value ≡ openings_of before + 1
   go true e = ap value_of e
@@ -116,8 +116,8 @@ value_is setup before worker session (asks.End why) value given own small = ap v
 -- what was decided can be shown
 shown_is : (setup : Settings) (before : List Event) (worker session : ℕ) (a : Ask) (d : Decision) → d ≡ verdict_of setup before worker a → session ≡ session_of before worker a d → is_proper a ≡ true → IsSmall d → IsShown session (ask_value a) d
 shown_is setup before worker session a (Permit value) given own proper small = value_is setup before worker session a value given own small
-shown_is setup before worker session a (Deny rule detail) given own proper small = let named : IsVerdict (Deny rule detail) = subst IsVerdict (sym given) (verdict_of-is table_row setup before worker a proper) in (named.0, named.1, small)
-shown_is setup before worker session a Lost given own proper small = absurd (subst IsVerdict (sym given) (verdict_of-is table_row setup before worker a proper))
+shown_is setup before worker session a (Deny rule detail) given own proper small = let named : IsVerdict (Deny rule detail) = subst IsVerdict (sym given) (verdict_of-is setup before worker a proper) in (named.0, named.1, small)
+shown_is setup before worker session a Lost given own proper small = absurd (subst IsVerdict (sym given) (verdict_of-is setup before worker a proper))
 
 -- an event of a legal journal that isn't lost
 pub record IsWritable (e : Event) : Type 0 where

@@ -12,7 +12,6 @@ use Rattle.policy_model.specs.declared.event.Event.{Event}
 use Rattle.policy_model.specs.Asks.{is_begin, is_end, is_lost, is_permit}
 use Rattle.policy_model.specs.Journal.{is_turn_of, kept_events, open_session_of, openings_of, session_opened}
 use Rattle.policy_model.specs.Legal.{event_with, next_event, session_of}
-use Rattle.policy_model.specs.Phases.{table_row}
 use Rattle.policy_model.specs.Settings.{Settings}
 use Rattle.policy_model.specs.Verdict.{verdict_of}
 use Rattle.session_core.specs.Parts.{CoreParts, setup_of}
@@ -24,7 +23,7 @@ use Rattle.policy_model.proofs.Verdicts.{denied_begin, session_of-begin, verdict
 pub opened_session : (setup : Settings) (journal : List Event) (worker value : ℕ) → Permit value ≡ verdict_of setup journal worker asks.Begin → (value ≡ openings_of journal + 1) × (value ≡ (next_event setup journal worker asks.Begin).session)
 opened_session setup journal worker value decided = elim (cases_eq (open_session_of journal worker) 0) [
   | inl none ↦
-      let is : Permit value ≡ Permit (openings_of journal + 1) = decided ∙ verdict_of-begin table_row setup journal worker none in
+      let is : Permit value ≡ Permit (openings_of journal + 1) = decided ∙ verdict_of-begin setup journal worker none in
       let same : value ≡ openings_of journal + 1 = cc in
       (same, same ∙ sym (ap (λ d. session_of journal worker asks.Begin d) (sym decided) ∙ session_of-begin journal worker value))
   | inr some ↦ let no : Permit value ≡ Deny 6 0 = decided ∙ denied_begin setup journal worker some in absurd cc
@@ -34,7 +33,7 @@ opened_session setup journal worker value decided = elim (cases_eq (open_session
 pub other_session : (setup : Settings) (journal : List Event) (worker : ℕ) (ask : Ask) → (is_begin ask && is_permit (verdict_of setup journal worker ask)) ≡ false → (next_event setup journal worker ask).session ≡ open_session_of journal worker
 unfolding session_of
 other_session setup journal worker asks.Begin h = elim (cases_eq (open_session_of journal worker) 0) [
-  | inl none ↦ absurd (false≢true (sym h ∙ ap is_permit (verdict_of-begin table_row setup journal worker none)))
+  | inl none ↦ absurd (false≢true (sym h ∙ ap is_permit (verdict_of-begin setup journal worker none)))
   | inr some ↦ ap (λ d. session_of journal worker asks.Begin d) (denied_begin setup journal worker some)
 ]
 other_session setup journal worker _ h = refl

@@ -8,7 +8,6 @@ use Rattle.policy_model.specs.declared.event.Event.{Event}
 use Rattle.policy_model.specs.Asks.{is_lost, is_proper}
 use Rattle.policy_model.specs.Journal.{has_lost, kept_events}
 use Rattle.policy_model.specs.Legal.{IsNext, event_with, next_event}
-use Rattle.policy_model.specs.Phases.{table_row}
 use Rattle.policy_model.specs.Runs.{IsRun}
 use Rattle.policy_model.specs.Settings.{IsInRange, Settings, events_max, quota_of}
 use Rattle.policy_model.proofs.Runs.{IsRun-none, IsRun-push, has_lost-push}
@@ -70,14 +69,14 @@ entered_kept core new journal worker ask e none history settled =
     let all : kept_events journal ≡ journal = kept_all journal none in
     let old : Stands core journal = subst (λ xs. Stands core xs) all history.stands in
     let is : e ≡ next_event (setup_of core) journal worker ask = settled.next refl journal old in
-    let decided : is_lost e.decision ≡ false = ap (λ (x : Event). is_lost x.decision) is ∙ next_event_kept table_row (setup_of core) journal worker ask in
+    let decided : is_lost e.decision ≡ false = ap (λ (x : Event). is_lost x.decision) is ∙ next_event_kept (setup_of core) journal worker ask in
     let grown : kept_events (journal ++ e ∷ []) ≡ journal ++ e ∷ [] = kept_all (journal ++ e ∷ []) (has_lost-push journal e ∙ rw (none, decided) refl) in
     record {
       decided = decided;
       its = ap (λ (x : Event). x.worker) is;
       asks = ap (λ (x : Event). x.ask) is;
       is = λ h. is;
-      next = subst (λ (x : Event). IsNext (setup_of core) journal x) (sym is) (next_event_follows table_row (setup_of core) journal worker ask none);
+      next = subst (λ (x : Event). IsNext (setup_of core) journal x) (sym is) (next_event_follows (setup_of core) journal worker ask none);
       stands = subst (λ xs. Stands new xs) (sym grown) (settled.stands refl journal old);
     }
 

@@ -10,10 +10,9 @@ use Rattle.policy_model.specs.declared.event.Event.{Event}
 use Rattle.policy_model.specs.Asks.{is_begin, is_end, is_lost, is_permit, came_by_frame, opens}
 use Rattle.policy_model.specs.Journal.{has_event, has_lost, is_own, open_session_of, openings_of}
 use Rattle.policy_model.specs.Legal.{IsLegal, IsNext, session_of}
-use Rattle.policy_model.specs.Phases.{table_row}
 use Rattle.policy_model.specs.Runs.{AreNumbered}
 use Rattle.policy_model.specs.Settings.{Settings}
-use Rattle.policy_model.specs.Verdict.{verdict_by}
+use Rattle.policy_model.specs.Verdict.{verdict_of}
 use Rattle.policy_model.proofs.Journals.{open_session_of-push}
 use Rattle.policy_model.proofs.Runs.{has_lost-push, next_decision, next_session, stays_open}
 use Rattle.policy_model.proofs.Sessions.{AreNumbered-push, AreNumbered-weaker, open_session_of-le, openings_of-push, session_of-le}
@@ -174,7 +173,7 @@ apart_all setup journal legal = by_events setup (λ j. has_lost j ≡ false → 
     numbered : AreNumbered (j ++ e ∷ []) (openings_of (j ++ e ∷ []))
     numbered = numbered-push setup j e next old.numbered
 
-    decided : e.decision ≡ verdict_by table_row setup j e.worker e.ask
+    decided : e.decision ≡ verdict_of setup j e.worker e.ask
     decided = next_decision setup j e next both.1
 
     request : came_by_frame e.ask ≡ true → is_end e.ask ≡ false → Apart (j ++ e ∷ [])
@@ -184,11 +183,11 @@ apart_all setup journal legal = by_events setup (λ j. has_lost j ≡ false → 
     go asks.Begin is = go' (is_zero (open_session_of j e.worker)) where
       go' : ((open_session_of j e.worker ≡ 0) ⊎ (open_session_of j e.worker ≡ 0 → ⊥)) → Apart (j ++ e ∷ [])
       go' (inl empty) =
-          let permit : e.decision ≡ Permit (openings_of j + 1) = decided ∙ ap (verdict_by table_row setup j e.worker) is ∙ verdict_of-begin table_row setup j e.worker empty in
+          let permit : e.decision ≡ Permit (openings_of j + 1) = decided ∙ ap (verdict_of setup j e.worker) is ∙ verdict_of-begin setup j e.worker empty in
           let session : e.session ≡ openings_of j + 1 = next_session setup j e next ∙ ap (λ a. session_of j e.worker a e.decision) is ∙ ap (session_of j e.worker asks.Begin) permit ∙ session_of-begin j e.worker (openings_of j + 1) in
           begin-push j e old numbered (ap is_begin is) (ap is_end is) (ap is_permit permit) session
       go' (inr some) =
-          let deny : e.decision ≡ Deny 6 0 = decided ∙ ap (verdict_by table_row setup j e.worker) is ∙ denied_begin setup j e.worker some in
+          let deny : e.decision ≡ Deny 6 0 = decided ∙ ap (verdict_of setup j e.worker) is ∙ denied_begin setup j e.worker some in
           same_open j e old numbered (λ w. open_denied j e w (ap is_permit deny)) (λ w some. no_own (open_session_of j w) e (ap is_end is))
     go (asks.End why) is = go' (is_zero (open_session_of j e.worker)) where
       session : e.session ≡ open_session_of j e.worker
@@ -196,10 +195,10 @@ apart_all setup journal legal = by_events setup (λ j. has_lost j ≡ false → 
 
       go' : ((open_session_of j e.worker ≡ 0) ⊎ (open_session_of j e.worker ≡ 0 → ⊥)) → Apart (j ++ e ∷ [])
       go' (inl empty) =
-          let deny : e.decision ≡ Deny 6 0 = decided ∙ ap (verdict_by table_row setup j e.worker) is ∙ denied_end setup j e.worker why empty in
+          let deny : e.decision ≡ Deny 6 0 = decided ∙ ap (verdict_of setup j e.worker) is ∙ denied_end setup j e.worker why empty in
           same_open j e old numbered (λ w. open_denied j e w (ap is_permit deny)) (λ w some. ap (λ b. b && is_end e.ask) (ne_eqb e.session (open_session_of j w) (λ h. some (sym h ∙ session ∙ empty))))
       go' (inr some) =
-          let permit : e.decision ≡ Permit 0 = decided ∙ ap (verdict_by table_row setup j e.worker) is ∙ verdict_of-end table_row setup j e.worker why some in
+          let permit : e.decision ≡ Permit 0 = decided ∙ ap (verdict_of setup j e.worker) is ∙ verdict_of-end setup j e.worker why some in
           end-push j e old numbered (ap is_begin is) (ap is_end is) (ap is_permit permit) session
     go _ is = request (ap came_by_frame is) (ap is_end is)
 

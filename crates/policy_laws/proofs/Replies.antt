@@ -6,14 +6,11 @@ use Rattle.std.specs.Option.{option_to_list}
 use Rattle.std.proofs.lemmas.Bool.Decides.{nat_tests}
 use Rattle.std.proofs.lemmas.List.{append-nil}
 use Rattle.std.proofs.lemmas.List.Folds.{list_any-append}
-use Rattle.request_catalogue.specs.declared.kind.Kind.{Kind}
 use Rattle.request_catalogue.specs.declared.texts.Name.{Name}
 use Rattle.policy_model.specs.declared.account.Account.{Account}
 use Rattle.policy_model.specs.declared.event.Event.{Event}
-use Rattle.policy_model.specs.declared.phase.Phase.{Phase}
-use Rattle.policy_model.specs.declared.phase.Row.{Row}
 use Rattle.policy_laws.specs.Consequences.{NoPasswordTwice}
-use Rattle.policy_model.specs.Legal.{IsLegalBy, IsNextBy}
+use Rattle.policy_model.specs.Legal.{IsLegal, IsNext}
 use Rattle.policy_model.specs.Logins.{account_of, accepted_of, replies_of, reply_for, was_accepted}
 use Rattle.policy_model.specs.Settings.{Settings, are_distinct}
 use Rattle.policy_model.specs.Verdict.{is_next_password}
@@ -44,15 +41,15 @@ not_accepted : (journal : List Event) (account : Account) (password : ℕ) → i
 not_accepted journal account password h = is_false (was_accepted journal account password) (and_parts _ (not (was_accepted journal account password)) h).1
 
 -- no password is accepted twice
-pub no_password_twice : {table : Phase → Kind → Row} (setup : Settings) (journal : List Event) → IsLegalBy table setup journal → NoPasswordTwice setup journal
-no_password_twice {table} setup journal legal = record { distinct = by_events setup Distinct none more journal legal } where
+pub no_password_twice : (setup : Settings) (journal : List Event) → IsLegal setup journal → NoPasswordTwice setup journal
+no_password_twice setup journal legal = record { distinct = by_events setup Distinct none more journal legal } where
   Distinct : List Event → Type 0
   Distinct j = (user : Name) (account : Account) → account_of setup user ≡ Some account → are_distinct ◌==◌ (accepted_of j account) ≡ true
 
   none : Distinct []
   none user account found = ap (λ xs. are_distinct ◌==◌ (account.password ∷ xs)) (replies_of-none account.name)
 
-  more : (j : List Event) (e : Event) → IsNextBy table setup j e → Distinct j → Distinct (j ++ e ∷ [])
+  more : (j : List Event) (e : Event) → IsNext setup j e → Distinct j → Distinct (j ++ e ∷ [])
   more j e next before user account found = ap (λ xs. are_distinct ◌==◌ (account.password ∷ xs)) (replies_of-push account.name j e) ∙ go (reply_for account.name (record { before = j; event = e })) refl where
     own : account_of setup account.name ≡ Some account
     own = ap (account_of setup) (found_name setup user account found) ∙ found

@@ -7,18 +7,15 @@ use Rattle.std.proofs.lemmas.Bool.{and_parts, cases_lt, eqb-true, false≢true, 
 use Rattle.std.proofs.lemmas.Bool.Decides.{nat_tests}
 use Rattle.std.proofs.lemmas.Option.{get_or_from_slice_get, slice_get_within}
 use Rattle.std.proofs.lemmas.List.{get_or-take, length-take-le, take-take, take_all, take_more}
-use Rattle.request_catalogue.specs.declared.kind.Kind.{Kind}
 use Rattle.request_catalogue.specs.declared.texts.Name.{Name}
 use Rattle.policy_model.specs.declared.account.Account.{Account}
 use Rattle.policy_model.specs.declared.event.Ask.{Ask}
 use Rattle.policy_model.specs.declared.event.Ask.TheVariants as asks
 use Rattle.policy_model.specs.declared.event.Event.{Event}
-use Rattle.policy_model.specs.declared.phase.Phase.{Phase}
-use Rattle.policy_model.specs.declared.phase.Row.{Row}
 use Rattle.policy_model.specs.Asks.{accepts, decoys_from, gives_up, is_challenge_for, is_reply, is_abandon, is_permit, reserves, takes_user, value_of}
 use Rattle.policy_laws.specs.Consequences.{OneTakerAtATime, SequenceFalls}
 use Rattle.policy_model.specs.Journal.{Place, is_own}
-use Rattle.policy_model.specs.Legal.{IsLegalBy, IsNextBy}
+use Rattle.policy_model.specs.Legal.{IsLegal, IsNext}
 use Rattle.policy_model.specs.Logins.{account_of, current_sequence, holder_by, holder_of, is_live, is_user, challenged_user, last_taking_of, replies_of, reply_for, session_taking, was_given_up}
 use Rattle.policy_model.specs.Phases.{is_over}
 use Rattle.policy_model.specs.Settings.{Settings}
@@ -77,8 +74,8 @@ reply_takes_none e user h = ap (λ b. (b && is_permit e.decision) && nat_lt (val
 not_zero : (a b : ℕ) → eqb (a - b) 0 ≡ false → b < a
 not_zero a b h = grind (arith, nat_tests)
 
-pub sequences : {table : Phase → Kind → Row} (setup : Settings) (journal : List Event) → IsLegalBy table setup journal → (user : Name) (account : Account) → account_of setup user ≡ Some account → HasLeft setup journal user account
-sequences {table} setup journal legal = by_events setup Left none more journal legal where
+pub sequences : (setup : Settings) (journal : List Event) → IsLegal setup journal → (user : Name) (account : Account) → account_of setup user ≡ Some account → HasLeft setup journal user account
+sequences setup journal legal = by_events setup Left none more journal legal where
   Left : List Event → Type 0
   Left j = (user : Name) (account : Account) → account_of setup user ≡ Some account → HasLeft setup j user account
 
@@ -90,7 +87,7 @@ sequences {table} setup journal legal = by_events setup Left none more journal l
         few = omega (arith, n);
       }
 
-  more : (j : List Event) (e : Event) → IsNextBy table setup j e → Left j → Left (j ++ e ∷ [])
+  more : (j : List Event) (e : Event) → IsNext setup j e → Left j → Left (j ++ e ∷ [])
   more j e next before user account found = go (reply_for user (record { before = j; event = e })) refl (reserves user e) refl where
     old : HasLeft setup j user account
     old = before user account found
@@ -143,11 +140,11 @@ replies_of-grow user journal i (suc n) =
     ]
 
 -- the front of a legal journal is legal
-pub IsLegal-take : {table : Phase → Kind → Row} (setup : Settings) (journal : List Event) (n : ℕ) → n ≤ length journal → IsLegalBy table setup journal → IsLegalBy table setup (take n journal)
-IsLegal-take {table} setup journal n le legal k d lt =
+pub IsLegal-take : (setup : Settings) (journal : List Event) (n : ℕ) → n ≤ length journal → IsLegal setup journal → IsLegal setup (take n journal)
+IsLegal-take setup journal n le legal k d lt =
     let within : k < n = omega (arith, length-take-le n journal le) in
-    subst (λ e. IsNextBy table setup (take k (take n journal)) e) (sym (get_or-take n journal k d within))
-    (subst (λ j. IsNextBy table setup j (get_or journal k d)) (sym (take-take k n journal (omega arith))) (legal k d (omega arith)))
+    subst (λ e. IsNext setup (take k (take n journal)) e) (sym (get_or-take n journal k d within))
+    (subst (λ j. IsNext setup j (get_or journal k d)) (sym (take-take k n journal (omega arith))) (legal k d (omega arith)))
 
 replies_of-le : (user : Name) (journal : List Event) (i k : ℕ) → i ≤ k → length (replies_of (take i journal) user) ≤ length (replies_of (take k journal) user)
 replies_of-le user journal i k le =
@@ -159,16 +156,16 @@ one_reply None h = absurd cc
 one_reply (Some x) h = refl
 
 -- what a permitted CHALLENGE at a place names
-taken_number : {table : Phase → Kind → Row} (setup : Settings) (journal : List Event) → IsLegalBy table setup journal → (user : Name) (account : Account) (i : ℕ) (d : Event) → i < length journal → account_of setup user ≡ Some account → reserves user (get_or journal i d) ≡ true → (length (replies_of (take i journal) user) < account.sequence) × (value_of (get_or journal i d).decision ≡ account.sequence - length (replies_of (take i journal) user) - 1)
-taken_number {table} setup journal legal user account i d lt found taken =
+taken_number : (setup : Settings) (journal : List Event) → IsLegal setup journal → (user : Name) (account : Account) (i : ℕ) (d : Event) → i < length journal → account_of setup user ≡ Some account → reserves user (get_or journal i d) ≡ true → (length (replies_of (take i journal) user) < account.sequence) × (value_of (get_or journal i d).decision ≡ account.sequence - length (replies_of (take i journal) user) - 1)
+taken_number setup journal legal user account i d lt found taken =
     let t = taken_challenge setup (take i journal) (get_or journal i d) user (legal i d lt) taken in
     let same : current_sequence (take i journal) t.account ≡ account.sequence - length (replies_of (take i journal) user) =
     ap (current_sequence (take i journal)) (same_some t.account account (sym t.found ∙ found)) ∙ ap (λ u. account.sequence - length (replies_of (take i journal) u)) (found_name setup user account found) in
     (not_zero account.sequence (length (replies_of (take i journal) user)) (ap (λ n. eqb n 0) (sym same) ∙ t.some), t.is ∙ ap (λ n. n - 1) same)
 
 -- a user's sequence falls
-falls_at : {table : Phase → Kind → Row} (setup : Settings) (journal : List Event) → IsLegalBy table setup journal → (user : Name) (i k j : ℕ) (d : Event) → i < k → k < j → j < length journal → reserves user (get_or journal i d) ≡ true → is_some (reply_for user (record { before = take k journal; event = get_or journal k d })) ≡ true → reserves user (get_or journal j d) ≡ true → value_of (get_or journal j d).decision < value_of (get_or journal i d).decision
-falls_at {table} setup journal legal user i k j d ik kj jn first reply last =
+falls_at : (setup : Settings) (journal : List Event) → IsLegal setup journal → (user : Name) (i k j : ℕ) (d : Event) → i < k → k < j → j < length journal → reserves user (get_or journal i d) ≡ true → is_some (reply_for user (record { before = take k journal; event = get_or journal k d })) ≡ true → reserves user (get_or journal j d) ≡ true → value_of (get_or journal j d).decision < value_of (get_or journal i d).decision
+falls_at setup journal legal user i k j d ik kj jn first reply last =
     let t = taken_challenge setup (take i journal) (get_or journal i d) user (legal i d (omega arith)) first in
     let a = taken_number setup journal legal user t.account i d (omega arith) t.found first in
     let b = taken_number setup journal legal user t.account j d (omega arith) t.found last in
@@ -180,8 +177,8 @@ falls_at {table} setup journal legal user i k j d ik kj jn first reply last =
     ∙ ap (λ n. length (replies_of (take k journal) user) + n) (one_reply (reply_for user (record { before = take k journal; event = get_or journal k d })) reply) in
     omega (arith, a.0, a.1, b.0, b.1, before, after, one)
 
-pub sequence_falls : {table : Phase → Kind → Row} (setup : Settings) (journal : List Event) → IsLegalBy table setup journal → SequenceFalls setup journal
-sequence_falls {table} setup journal legal = record {
+pub sequence_falls : (setup : Settings) (journal : List Event) → IsLegal setup journal → SequenceFalls setup journal
+sequence_falls setup journal legal = record {
   few = λ user account found. (sequences setup journal legal user account found).few;
   falls = λ user i k j earlier reply later ik kj a b c.
       let at : (n : ℕ) (e : Event) → slice_get journal n ≡ Some e → get_or journal n some_event ≡ e = λ n e h. get_or_from_slice_get journal n e some_event h in
@@ -246,8 +243,8 @@ below_from : (value : ℕ) → value < decoys_from → nat_lt value decoys_from 
 below_from value lt = grind (arith, nat_tests)
 
 -- while a session holds a user the user can log in, so each permitted CHALLENGE for the user behind the session's own isn't a decoy
-still_reserves : {table : Phase → Kind → Row} (setup : Settings) (journal : List Event) → IsLegalBy table setup journal → (user : Name) (p m k : ℕ) (d : Event) → p ≤ m → m < k → k < length journal → reserves user (get_or journal p d) ≡ true → ((account : Account) → account_of setup user ≡ Some account → length (replies_of (take k journal) user) < account.sequence) → takes_user user (get_or journal m d) ≡ true → reserves user (get_or journal m d) ≡ true
-still_reserves {table} setup journal legal user p m k d pm mk kn reserved left is =
+still_reserves : (setup : Settings) (journal : List Event) → IsLegal setup journal → (user : Name) (p m k : ℕ) (d : Event) → p ≤ m → m < k → k < length journal → reserves user (get_or journal p d) ≡ true → ((account : Account) → account_of setup user ≡ Some account → length (replies_of (take k journal) user) < account.sequence) → takes_user user (get_or journal m d) ≡ true → reserves user (get_or journal m d) ≡ true
+still_reserves setup journal legal user p m k d pm mk kn reserved left is =
     let t = taken_challenge setup (take p journal) (get_or journal p d) user (legal p d (omega arith)) reserved in
     let a = taken_number setup journal legal user t.account p d (omega arith) t.found reserved in
     let more = left t.account t.found in
@@ -269,8 +266,8 @@ abbrev place_at : List Event → ℕ → Event → Place
 place_at journal k d = record { before = take k journal; event = get_or journal k d }
 
 -- no other session takes a user between a session's taking and its accepted reply
-alone_at : {table : Phase → Kind → Row} (setup : Settings) (journal : List Event) → IsLegalBy table setup journal → (user : Name) (i m k : ℕ) (d : Event) → i < m → m < k → k < length journal → is_some (reply_for user (place_at journal k d)) ≡ true → ((n : ℕ) → i < n → n < k → is_own (get_or journal k d).session (takes_user user) (get_or journal n d) ≡ false) → takes_user user (get_or journal m d) ≡ false
-alone_at {table} setup journal legal user i m k d im mk kn reply last = go user i m k d im mk kn reply last (takes_user user (get_or journal m d)) refl where
+alone_at : (setup : Settings) (journal : List Event) → IsLegal setup journal → (user : Name) (i m k : ℕ) (d : Event) → i < m → m < k → k < length journal → is_some (reply_for user (place_at journal k d)) ≡ true → ((n : ℕ) → i < n → n < k → is_own (get_or journal k d).session (takes_user user) (get_or journal n d) ≡ false) → takes_user user (get_or journal m d) ≡ false
+alone_at setup journal legal user i m k d im mk kn reply last = go user i m k d im mk kn reply last (takes_user user (get_or journal m d)) refl where
   go : (user : Name) (i m k : ℕ) (d : Event) → i < m → m < k → k < length journal → is_some (reply_for user (place_at journal k d)) ≡ true → ((n : ℕ) → i < n → n < k → is_own (get_or journal k d).session (takes_user user) (get_or journal n d) ≡ false) → (b : Bool) → takes_user user (get_or journal m d) ≡ b → takes_user user (get_or journal m d) ≡ false
   go user i m k d im mk kn reply last false is = is
   go user i m k d im mk kn reply last true is =
@@ -303,8 +300,8 @@ alone_at {table} setup journal legal user i m k d im mk kn reply last = go user 
             absurd (false≢true (sym (last q (omega (arith, l.from)) within) ∙ own_at q within same l.passes))
       ]
 
-pub one_taker_at_a_time : {table : Phase → Kind → Row} (setup : Settings) (journal : List Event) → IsLegalBy table setup journal → OneTakerAtATime setup journal
-one_taker_at_a_time {table} setup journal legal = record {
+pub one_taker_at_a_time : (setup : Settings) (journal : List Event) → IsLegal setup journal → OneTakerAtATime setup journal
+one_taker_at_a_time setup journal legal = record {
   alone = λ user i k taking reply b a same m e im mk c.
       let at : (n : ℕ) (x : Event) → slice_get journal n ≡ Some x → get_or journal n some_event ≡ x = λ n x h. get_or_from_slice_get journal n x some_event h in
       let kn = slice_get_within journal k reply b.stands in

@@ -99,7 +99,7 @@ permit_cell : (b : Bool) (rule detail v : ℕ) (d : Decision) → cond (not b) (
 permit_cell true rule detail v d h = refl
 permit_cell false rule detail v d h = absurd cc
 
-open_judged : (setup : Settings) (journal : List Event) (session : ℕ) (ask : Ask) (value : ℕ) → is_open ask ≡ true → request_verdict table_row setup journal session ask ≡ Permit value → (table_row (phase_of journal session) kinds.OpenFile).permitted ≡ true
+open_judged : (setup : Settings) (journal : List Event) (session : ℕ) (ask : Ask) (value : ℕ) → is_open ask ≡ true → request_verdict setup journal session ask ≡ Permit value → (table_row (phase_of journal session) kinds.OpenFile).permitted ≡ true
 open_judged setup journal session (asks.OpenFile mode name) value is h =
     let a = permit_after (eqb session 0 || is_over journal session) 6 9 value _ h in
     let b = permit_after (eqb (ask_count journal session) setup.requests) 1 setup.requests value _ a in
@@ -185,7 +185,7 @@ shown_bad rule detail h = go (nat_le 13 rule && nat_le rule 16) refl where
   go true is = absurd (grind (arith, nat_tests, h, is))
   go false is = refl
 
-own_shown : (setup : Settings) (journal : List Event) (session : ℕ) (told : List Told) (ask : Ask) → Standing journal session told → came_by_frame ask ≡ true → is_challenge ask ≡ false → is_proper ask ≡ true → (is_reply ask && is_permit (own_verdict table_row setup journal session ask)) ≡ false → shown_of (own_verdict table_row setup journal session ask) ≡ stranger_kind told ask
+own_shown : (setup : Settings) (journal : List Event) (session : ℕ) (told : List Told) (ask : Ask) → Standing journal session told → came_by_frame ask ≡ true → is_challenge ask ≡ false → is_proper ask ≡ true → (is_reply ask && is_permit (own_verdict setup journal session ask)) ≡ false → shown_of (own_verdict setup journal session ask) ≡ stranger_kind told ask
 unfolding kind_verdict handle_verdict
 own_shown setup journal session told asks.Begin s request other proper refused = absurd (false≢true request)
 own_shown setup journal session told (asks.End why) s request other proper refused = absurd (false≢true request)
@@ -249,7 +249,7 @@ stranger_shown told (asks.Bad rule detail) h = shown_bad rule detail h
 stranger_shown told _ h = refl
 
 -- the same of an ask in any range
-any_shown : (setup : Settings) (journal : List Event) (session : ℕ) (told : List Told) (ask : Ask) → Standing journal session told → came_by_frame ask ≡ true → is_challenge ask ≡ false → (is_reply ask && is_permit (own_verdict table_row setup journal session ask)) ≡ false → shown_of (own_verdict table_row setup journal session ask) ≡ shown_of (stranger_kind told ask)
+any_shown : (setup : Settings) (journal : List Event) (session : ℕ) (told : List Told) (ask : Ask) → Standing journal session told → came_by_frame ask ≡ true → is_challenge ask ≡ false → (is_reply ask && is_permit (own_verdict setup journal session ask)) ≡ false → shown_of (own_verdict setup journal session ask) ≡ shown_of (stranger_kind told ask)
 any_shown setup journal session told (asks.Bad rule detail) s request other refused = refl
 any_shown setup journal session told (asks.End why) s request other refused = absurd (false≢true request)
 any_shown setup journal session told ask s request other refused = own_shown setup journal session told ask s request other refl refused ∙ sym (stranger_shown told ask refl)
@@ -325,7 +325,7 @@ pub record IsStrangersEvent (journal : List Event) (e : Event) : Type 0 where
 pub stranger_event : (setup : Settings) (journal : List Event) (e : Event) → IsLegal setup journal → IsNext setup journal e → IsStrangersEvent journal e → shown_of e.decision ≡ shown_of (stranger_verdict setup.requests (told_in journal e.session) e.ask)
 unfolding stranger_verdict
 stranger_event setup journal e legal next s =
-    ap shown_of decided ∙ by_tests (eqb e.session 0) (is_over journal e.session) (eqb (ask_count journal e.session) setup.requests) (list_any told_end told) (eqb (length told) setup.requests) (request_number e.ask) setup.requests (own_verdict table_row setup journal e.session e.ask) (stranger_kind told e.ask) nonzero (ended ∙ sym over) limit own_kind where
+    ap shown_of decided ∙ by_tests (eqb e.session 0) (is_over journal e.session) (eqb (ask_count journal e.session) setup.requests) (list_any told_end told) (eqb (length told) setup.requests) (request_number e.ask) setup.requests (own_verdict setup journal e.session e.ask) (stranger_kind told e.ask) nonzero (ended ∙ sym over) limit own_kind where
       told : List Told
       told = told_in journal e.session
 
@@ -341,8 +341,8 @@ stranger_event setup journal e legal next s =
       nonzero : eqb e.session 0 ≡ false
       nonzero = ne_eqb e.session 0 some
 
-      decided : e.decision ≡ request_verdict table_row setup journal e.session e.ask
-      decided = next_decision setup journal e next s.kept ∙ verdict_of-request table_row setup journal e.worker e.ask s.request ∙ ap (λ n. request_verdict table_row setup journal n e.ask) (sym own)
+      decided : e.decision ≡ request_verdict setup journal e.session e.ask
+      decided = next_decision setup journal e next s.kept ∙ verdict_of-request setup journal e.worker e.ask s.request ∙ ap (λ n. request_verdict setup journal n e.ask) (sym own)
 
       goes_on : has_event journal e.session is_ending ≡ false
       goes_on = ap (λ n. has_event journal n is_ending) own ∙ not_ended setup journal legal kept e.worker (λ h. some (own ∙ h))
@@ -364,9 +364,9 @@ stranger_event setup journal e legal next s =
       closed : has_event journal e.session opens_file ≡ false
       closed = not_then (has_event journal e.session opens_file) (has_event journal e.session exports) (uses setup journal legal e.session).opened exported
 
-      own_kind : is_over journal e.session ≡ false → eqb (ask_count journal e.session) setup.requests ≡ false → shown_of (own_verdict table_row setup journal e.session e.ask) ≡ shown_of (stranger_kind told e.ask)
+      own_kind : is_over journal e.session ≡ false → eqb (ask_count journal e.session) setup.requests ≡ false → shown_of (own_verdict setup journal e.session e.ask) ≡ shown_of (stranger_kind told e.ask)
       own_kind going left =
-          let here : e.decision ≡ own_verdict table_row setup journal e.session e.ask = decided ∙ third (eqb e.session 0) (is_over journal e.session) (eqb (ask_count journal e.session) setup.requests) _ _ (own_verdict table_row setup journal e.session e.ask) nonzero going left in
+          let here : e.decision ≡ own_verdict setup journal e.session e.ask = decided ∙ third (eqb e.session 0) (is_over journal e.session) (eqb (ask_count journal e.session) setup.requests) _ _ (own_verdict setup journal e.session e.ask) nonzero going left in
           any_shown setup journal e.session told e.ask
           (record {
             phase = phase_is journal e.session going exported s.before ∙ ap (λ b. cond b Challenged Pre) (sym (was_challenged journal e.session));

@@ -13,10 +13,10 @@ use Rattle.policy_model.specs.declared.event.Event.{Event}
 use Rattle.policy_model.specs.Asks.{ends_session, is_begin, is_end, is_finish, is_login_step, is_lost, is_permit, came_by_frame, is_violation, opens, permits_kind, shown_of}
 use Rattle.policy_model.specs.Journal.{ask_count, has_event, has_lost, is_own, open_session_of}
 use Rattle.policy_model.specs.Legal.{IsLegal, IsNext}
-use Rattle.policy_model.specs.Phases.{is_taking, table_row}
+use Rattle.policy_model.specs.Phases.{is_taking}
 use Rattle.policy_model.specs.Settings.{Settings}
 use Rattle.policy_laws.specs.Strangers.{asks_in, bare, is_between, is_challenged, told_end, told_in, told_login_step, told_of, told_permit, told_taking}
-use Rattle.policy_model.specs.Verdict.{verdict_by}
+use Rattle.policy_model.specs.Verdict.{verdict_of}
 use Rattle.policy_laws.proofs.Apart.{has_event-push, is_ending}
 use Rattle.policy_model.proofs.Lists.{filter-push}
 use Rattle.policy_model.proofs.Runs.{next_decision}
@@ -197,11 +197,11 @@ count_by_ask _ d h kept end begin = refl
 -- how an opening is decided
 pub begin_decided : (setup : Settings) (journal : List Event) (e : Event) → IsNext setup journal e → is_lost e.decision ≡ false → (ask : Ask) → e.ask ≡ ask → is_begin ask ≡ true → (is_permit e.decision ≡ true) ⊎ (e.decision ≡ Deny 6 0)
 begin_decided setup journal e next kept asks.Begin is h = go (cases_eq (open_session_of journal e.worker) 0) where
-  decided : e.decision ≡ verdict_by table_row setup journal e.worker asks.Begin
-  decided = next_decision setup journal e next kept ∙ ap (verdict_by table_row setup journal e.worker) is
+  decided : e.decision ≡ verdict_of setup journal e.worker asks.Begin
+  decided = next_decision setup journal e next kept ∙ ap (verdict_of setup journal e.worker) is
 
   go : ((open_session_of journal e.worker ≡ 0) ⊎ (open_session_of journal e.worker ≡ 0 → ⊥)) → (is_permit e.decision ≡ true) ⊎ (e.decision ≡ Deny 6 0)
-  go (inl none) = inl (ap is_permit (decided ∙ verdict_of-begin table_row setup journal e.worker none))
+  go (inl none) = inl (ap is_permit (decided ∙ verdict_of-begin setup journal e.worker none))
   go (inr some) = inr (decided ∙ denied_begin setup journal e.worker some)
 begin_decided setup journal e next kept _ is h = absurd cc
 

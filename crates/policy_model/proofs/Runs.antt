@@ -9,16 +9,12 @@ use Rattle.policy_model.specs.declared.event.Ask.TheVariants as asks
 use Rattle.policy_model.specs.declared.event.Why.{Why}
 use Rattle.policy_model.specs.declared.event.Decision.TheVariants.{Permit, Lost}
 use Rattle.policy_model.specs.declared.event.Event.{Event}
-use Rattle.policy_model.specs.declared.phase.Phase.{Phase}
-use Rattle.policy_model.specs.declared.phase.Row.{Row}
-use Rattle.request_catalogue.specs.declared.kind.Kind.{Kind}
 use Rattle.policy_model.specs.Asks.{ends_session, is_begin, is_end, is_lost, is_permit, is_proper, came_by_frame, is_violation, opens}
 use Rattle.policy_model.specs.Journal.{ask_count, has_lost, open_session_of, openings_of}
-use Rattle.policy_model.specs.Legal.{IsNextBy, session_of}
-use Rattle.policy_model.specs.Phases.{narrow_row}
-use Rattle.policy_model.specs.Runs.{IsIdle, OthersStay, IsOfWorker, IsProperEvent, IsRunBy, IsServingBy}
+use Rattle.policy_model.specs.Legal.{IsNext, session_of}
+use Rattle.policy_model.specs.Runs.{IsIdle, OthersStay, IsOfWorker, IsProperEvent, IsRun, IsServing}
 use Rattle.policy_model.specs.Settings.{Settings}
-use Rattle.policy_model.specs.Verdict.{request_verdict, verdict_by}
+use Rattle.policy_model.specs.Verdict.{request_verdict, verdict_of}
 use Rattle.policy_model.proofs.Journals.{open_session_of-push}
 use Rattle.policy_model.proofs.Legal.{IsLegal-none, IsLegal-push}
 use Rattle.policy_model.proofs.Sessions.{AreNumbered-push, AreNumbered-weaker, ask_count-new, ask_count-push, openings_of-push, session_of-le}
@@ -29,22 +25,22 @@ All-push P [] x h new = (new, tt)
 All-push P (y ∷ ys) x h new = (h.0, All-push P ys x h.1 new)
 
 -- a run begins
-pub IsRun-none : {table : Phase → Kind → Row} (setup : Settings) → IsRunBy table setup []
-IsRun-none {table} setup = record { legal = IsLegal-none setup; proper = tt; workers = tt; numbered = tt }
+pub IsRun-none : (setup : Settings) → IsRun setup []
+IsRun-none setup = record { legal = IsLegal-none setup; proper = tt; workers = tt; numbered = tt }
 
 -- the session of an event that follows a journal
-pub next_session : {table : Phase → Kind → Row} (setup : Settings) (journal : List Event) (e : Event) → IsNextBy table setup journal e → e.session ≡ session_of journal e.worker e.ask e.decision
-next_session {table} setup journal e next =
+pub next_session : (setup : Settings) (journal : List Event) (e : Event) → IsNext setup journal e → e.session ≡ session_of journal e.worker e.ask e.decision
+next_session setup journal e next =
     ap (λ x. x.session) next.decided ∙ ap (session_of journal e.worker e.ask) (sym (ap (λ x. x.decision) next.decided))
 
 -- a decision that isn't lost is the policy's
-pub next_decision : {table : Phase → Kind → Row} (setup : Settings) (journal : List Event) (e : Event) → IsNextBy table setup journal e → is_lost e.decision ≡ false → e.decision ≡ verdict_by table setup journal e.worker e.ask
-next_decision {table} setup journal e next kept =
-    ap (λ x. x.decision) next.decided ∙ ap (λ b. cond b Lost (verdict_by table setup journal e.worker e.ask)) kept
+pub next_decision : (setup : Settings) (journal : List Event) (e : Event) → IsNext setup journal e → is_lost e.decision ≡ false → e.decision ≡ verdict_of setup journal e.worker e.ask
+next_decision setup journal e next kept =
+    ap (λ x. x.decision) next.decided ∙ ap (λ b. cond b Lost (verdict_of setup journal e.worker e.ask)) kept
 
 -- a run goes on by an event that may follow
-pub IsRun-push : {table : Phase → Kind → Row} (setup : Settings) (journal : List Event) (e : Event) → IsRunBy table setup journal → IsNextBy table setup journal e → is_proper e.ask ≡ true → e.worker < setup.workers → IsRunBy table setup (journal ++ e ∷ [])
-IsRun-push {table} setup journal e run next proper worker =
+pub IsRun-push : (setup : Settings) (journal : List Event) (e : Event) → IsRun setup journal → IsNext setup journal e → is_proper e.ask ≡ true → e.worker < setup.workers → IsRun setup (journal ++ e ∷ [])
+IsRun-push setup journal e run next proper worker =
     let more : openings_of (journal ++ e ∷ []) ≡ openings_of journal + cond (opens e) 1 0 = openings_of-push journal e in
     let given : e.session ≤ openings_of journal + cond (opens e) 1 0 = subst (λ n. n ≤ openings_of journal + cond (opens e) 1 0) (sym (next_session setup journal e next)) (session_of-le journal e.worker e.ask e.decision run.numbered) in
     record {
@@ -78,23 +74,23 @@ stays_open journal e worker request =
       go true begin end p q = rw (p, q) refl
 
 -- an end that isn't lost closes the worker's session
-pub closes : {table : Phase → Kind → Row} (setup : Settings) (journal : List Event) (e : Event) (why : Why) → IsNextBy table setup journal e → e.ask ≡ asks.End why → is_lost e.decision ≡ false → open_session_of journal e.worker ≢ 0 → open_session_of (journal ++ e ∷ []) e.worker ≡ 0
-closes {table} setup journal e why next ask kept some =
-    let permit : e.decision ≡ Permit 0 = next_decision setup journal e next kept ∙ ap (verdict_by table setup journal e.worker) ask ∙ verdict_of-end table setup journal e.worker why some in
+pub closes : (setup : Settings) (journal : List Event) (e : Event) (why : Why) → IsNext setup journal e → e.ask ≡ asks.End why → is_lost e.decision ≡ false → open_session_of journal e.worker ≢ 0 → open_session_of (journal ++ e ∷ []) e.worker ≡ 0
+closes setup journal e why next ask kept some =
+    let permit : e.decision ≡ Permit 0 = next_decision setup journal e next kept ∙ ap (verdict_of setup journal e.worker) ask ∙ verdict_of-end setup journal e.worker why some in
     open_session_of-push journal e.worker e ∙ rw (eqb_same e.worker, ask, permit) refl
 
 -- an opening that isn't lost opens a session for a worker that has none
-opened_now : {table : Phase → Kind → Row} (setup : Settings) (journal : List Event) (e : Event) → IsNextBy table setup journal e → e.ask ≡ asks.Begin → is_lost e.decision ≡ false → open_session_of journal e.worker ≡ 0 → e.decision ≡ Permit (openings_of journal + 1)
-opened_now {table} setup journal e next ask kept none = next_decision setup journal e next kept ∙ ap (verdict_by table setup journal e.worker) ask ∙ verdict_of-begin table setup journal e.worker none
+opened_now : (setup : Settings) (journal : List Event) (e : Event) → IsNext setup journal e → e.ask ≡ asks.Begin → is_lost e.decision ≡ false → open_session_of journal e.worker ≡ 0 → e.decision ≡ Permit (openings_of journal + 1)
+opened_now setup journal e next ask kept none = next_decision setup journal e next kept ∙ ap (verdict_of setup journal e.worker) ask ∙ verdict_of-begin setup journal e.worker none
 
 -- a session that was just opened has made no ask
-pub record OpensBy (table : Phase → Kind → Row) (setup : Settings) (journal : List Event) (e : Event) : Type 0 where
-  pub serving : IsServingBy table setup (journal ++ e ∷ []) e.worker e.session
+pub record Opens (setup : Settings) (journal : List Event) (e : Event) : Type 0 where
+  pub serving : IsServing setup (journal ++ e ∷ []) e.worker e.session
   pub asks : ask_count (journal ++ e ∷ []) e.session ≡ 0
 
 -- the opening of a worker that has no open session, where it isn't lost
-pub begins : {table : Phase → Kind → Row} (setup : Settings) (journal : List Event) (e : Event) → IsRunBy table setup journal → IsNextBy table setup journal e → e.ask ≡ asks.Begin → e.worker < setup.workers → is_lost e.decision ≡ false → open_session_of journal e.worker ≡ 0 → OpensBy table setup journal e
-begins {table} setup journal e run next ask worker kept none =
+pub begins : (setup : Settings) (journal : List Event) (e : Event) → IsRun setup journal → IsNext setup journal e → e.ask ≡ asks.Begin → e.worker < setup.workers → is_lost e.decision ≡ false → open_session_of journal e.worker ≡ 0 → Opens setup journal e
+begins setup journal e run next ask worker kept none =
     let permit : e.decision ≡ Permit (openings_of journal + 1) = opened_now setup journal e next ask kept none in
     let number : e.session ≡ openings_of journal + 1 = next_session setup journal e next ∙ ap (λ a. session_of journal e.worker a e.decision) ask ∙ ap (session_of journal e.worker asks.Begin) permit ∙ session_of-begin journal e.worker (openings_of journal + 1) in
     let proper : is_proper e.ask ≡ true = ap is_proper ask in
@@ -111,23 +107,19 @@ begins {table} setup journal e run next ask worker kept none =
       asks = none_made;
     }
 
--- the same of the narrow service
-abbrev pub Opens : Settings → List Event → Event → Type 0
-Opens setup journal e = OpensBy narrow_row setup journal e
-
 -- a session that went on after a request has made one ask more
-pub record WentOnBy (table : Phase → Kind → Row) (setup : Settings) (journal : List Event) (e : Event) (session : ℕ) : Type 0 where
-  pub serving : IsServingBy table setup (journal ++ e ∷ []) e.worker session
+pub record WentOn (setup : Settings) (journal : List Event) (e : Event) (session : ℕ) : Type 0 where
+  pub serving : IsServing setup (journal ++ e ∷ []) e.worker session
   pub asks : ask_count (journal ++ e ∷ []) session ≡ ask_count journal session + 1
 
 -- a request after which the session goes on
-pub goes_on : {table : Phase → Kind → Row} (setup : Settings) (journal : List Event) (e : Event) (session : ℕ) → IsServingBy table setup journal e.worker session → IsNextBy table setup journal e → came_by_frame e.ask ≡ true → is_proper e.ask ≡ true → e.worker < setup.workers → ends_session e ≡ false → WentOnBy table setup journal e session
-goes_on {table} setup journal e session serving next request proper worker on =
+pub goes_on : (setup : Settings) (journal : List Event) (e : Event) (session : ℕ) → IsServing setup journal e.worker session → IsNext setup journal e → came_by_frame e.ask ≡ true → is_proper e.ask ≡ true → e.worker < setup.workers → ends_session e ≡ false → WentOn setup journal e session
+goes_on setup journal e session serving next request proper worker on =
     let kept : is_lost e.decision ≡ false = (or_false _ (is_lost e.decision) on).1 in
     let rest = (or_false _ (is_lost e.decision) on).0 in
     let allowed : is_violation e.decision ≡ false = (or_false _ (is_violation e.decision) rest).1 in
-    let judged : e.decision ≡ request_verdict table setup journal session e.ask = next_decision setup journal e next kept ∙ verdict_of-request table setup journal e.worker e.ask request ∙ ap (λ s. request_verdict table setup journal s e.ask) serving.opened in
-    let limit : ask_count journal session ≢ setup.requests = ask_count-below table setup journal session e.ask (ap is_violation (sym judged) ∙ allowed) in
+    let judged : e.decision ≡ request_verdict setup journal session e.ask = next_decision setup journal e next kept ∙ verdict_of-request setup journal e.worker e.ask request ∙ ap (λ s. request_verdict setup journal s e.ask) serving.opened in
+    let limit : ask_count journal session ≢ setup.requests = ask_count-below setup journal session e.ask (ap is_violation (sym judged) ∙ allowed) in
     let own : e.session ≡ session = next_session setup journal e next ∙ session_of-other journal e.worker e.ask e.decision (no_begin e.ask request) ∙ serving.opened in
     let same : eqb e.session session ≡ true = ap (λ s. eqb s session) own ∙ eqb_same session in
     let made : ask_count (journal ++ e ∷ []) session ≡ ask_count journal session + 1 = ask_count-push journal e session ∙ rw (same, request) refl in
@@ -170,13 +162,13 @@ has_lost-now journal e lost = has_lost-push journal e ∙ go (has_lost journal) 
   go false b h = h
 
 -- a worker is idle after the end of its open session
-pub idle_after : {table : Phase → Kind → Row} (setup : Settings) (journal : List Event) (e : Event) (why : Why) → IsNextBy table setup journal e → e.ask ≡ asks.End why → open_session_of journal e.worker ≢ 0 → IsIdle (journal ++ e ∷ []) e.worker
-idle_after {table} setup journal e why next ask some = go (is_lost e.decision) refl where
+pub idle_after : (setup : Settings) (journal : List Event) (e : Event) (why : Why) → IsNext setup journal e → e.ask ≡ asks.End why → open_session_of journal e.worker ≢ 0 → IsIdle (journal ++ e ∷ []) e.worker
+idle_after setup journal e why next ask some = go (is_lost e.decision) refl where
   go : (b : Bool) → is_lost e.decision ≡ b → IsIdle (journal ++ e ∷ []) e.worker
   go true h = inr (has_lost-now journal e h)
   go false h = inl (closes setup journal e why next ask h some)
 
 -- the opening of an idle worker is lost, or opens a session
-pub idle_open : {table : Phase → Kind → Row} (setup : Settings) (journal : List Event) (e : Event) → IsNextBy table setup journal e → IsIdle journal e.worker → is_lost e.decision ≡ false → open_session_of journal e.worker ≡ 0
-idle_open {table} setup journal e next (inl none) kept = none
-idle_open {table} setup journal e next (inr lost) kept = absurd (false≢true (sym kept ∙ next.lost lost))
+pub idle_open : (setup : Settings) (journal : List Event) (e : Event) → IsNext setup journal e → IsIdle journal e.worker → is_lost e.decision ≡ false → open_session_of journal e.worker ≡ 0
+idle_open setup journal e next (inl none) kept = none
+idle_open setup journal e next (inr lost) kept = absurd (false≢true (sym kept ∙ next.lost lost))

@@ -15,7 +15,6 @@ use Rattle.policy_model.specs.declared.event.Why.{Why}
 use Rattle.policy_model.specs.declared.event.Decision.{Decision}
 use Rattle.policy_model.specs.declared.event.Decision.TheVariants.{Permit, Deny, Lost}
 use Rattle.policy_model.specs.declared.event.Event.{Event}
-use Rattle.policy_model.specs.declared.phase.Phase.{Phase}
 use Rattle.policy_model.specs.declared.phase.Row.{Row}
 use Rattle.policy_model.specs.Asks.{is_begin, is_denied_reply, is_lost, is_proper, came_by_frame, is_violation, kind_of, mode_of, permits_kind, request_number}
 use Rattle.policy_model.specs.Handles.{free_handle_of, live_handles_of, handle_opening}
@@ -24,19 +23,19 @@ use Rattle.policy_model.specs.Legal.{session_of}
 use Rattle.policy_model.specs.Logins.{account_of, challenged_user, current_sequence, holder_of, is_live, last_taking_of, session_taking, verified_user, was_accepted, was_decoyed}
 use Rattle.policy_model.specs.Phases.{is_over, phase_of, table_row}
 use Rattle.policy_model.specs.Settings.{Settings, same_label}
-use Rattle.policy_model.specs.Verdict.{IsVerdict, NamesRule, account_named, account_verdict, allows, challenge_verdict, close_verdict, decoy_challenge, decoy_verdict, grant_verdict, grants_of, handle_verdict, info_verdict, is_held, is_holder, is_next_password, kind_verdict, login_verdict, matching_verdict, open_verdict, own_verdict, readings, readings_verdict, reply_verdict, request_verdict, row_verdict, sequence_of, table_verdict, use_verdict, verdict_by}
+use Rattle.policy_model.specs.Verdict.{IsVerdict, NamesRule, account_named, account_verdict, allows, challenge_verdict, close_verdict, decoy_challenge, decoy_verdict, grant_verdict, grants_of, handle_verdict, info_verdict, is_held, is_holder, is_next_password, kind_verdict, login_verdict, matching_verdict, open_verdict, own_verdict, readings, readings_verdict, reply_verdict, request_verdict, row_verdict, sequence_of, table_verdict, use_verdict, verdict_of}
 
 -- a request is judged in the worker's open session
-pub verdict_of-request : (table : Phase → Kind → Row) (setup : Settings) (journal : List Event) (worker : ℕ) (ask : Ask) → came_by_frame ask ≡ true → verdict_by table setup journal worker ask ≡ request_verdict table setup journal (open_session_of journal worker) ask
-unfolding verdict_by
-verdict_of-request table setup journal worker asks.Begin h = absurd cc
-verdict_of-request table setup journal worker (asks.End why) h = absurd cc
-verdict_of-request table setup journal worker _ h = refl
+pub verdict_of-request : (setup : Settings) (journal : List Event) (worker : ℕ) (ask : Ask) → came_by_frame ask ≡ true → verdict_of setup journal worker ask ≡ request_verdict setup journal (open_session_of journal worker) ask
+unfolding verdict_of
+verdict_of-request setup journal worker asks.Begin h = absurd cc
+verdict_of-request setup journal worker (asks.End why) h = absurd cc
+verdict_of-request setup journal worker _ h = refl
 
 -- an opening of a worker that has no open session is permitted, and its value is the session's number
-pub verdict_of-begin : (table : Phase → Kind → Row) (setup : Settings) (journal : List Event) (worker : ℕ) → open_session_of journal worker ≡ 0 → verdict_by table setup journal worker asks.Begin ≡ Permit (openings_of journal + 1)
-unfolding verdict_by
-verdict_of-begin table setup journal worker none = ap (λ s. cond (eqb s 0) (Permit (openings_of journal + 1)) (Deny 6 0)) none
+pub verdict_of-begin : (setup : Settings) (journal : List Event) (worker : ℕ) → open_session_of journal worker ≡ 0 → verdict_of setup journal worker asks.Begin ≡ Permit (openings_of journal + 1)
+unfolding verdict_of
+verdict_of-begin setup journal worker none = ap (λ s. cond (eqb s 0) (Permit (openings_of journal + 1)) (Deny 6 0)) none
 
 by_open : (s : ℕ) (x y : Decision) → s ≢ 0 → cond (eqb s 0) x y ≡ y
 by_open s x y some = go (eqb s 0) refl where
@@ -45,17 +44,17 @@ by_open s x y some = go (eqb s 0) refl where
   go false e = refl
 
 -- the end of a worker's open session is permitted
-pub verdict_of-end : (table : Phase → Kind → Row) (setup : Settings) (journal : List Event) (worker : ℕ) (why : Why) → open_session_of journal worker ≢ 0 → verdict_by table setup journal worker (asks.End why) ≡ Permit 0
-unfolding verdict_by
-verdict_of-end table setup journal worker why some = by_open (open_session_of journal worker) (Deny 6 0) (Permit 0) some
+pub verdict_of-end : (setup : Settings) (journal : List Event) (worker : ℕ) (why : Why) → open_session_of journal worker ≢ 0 → verdict_of setup journal worker (asks.End why) ≡ Permit 0
+unfolding verdict_of
+verdict_of-end setup journal worker why some = by_open (open_session_of journal worker) (Deny 6 0) (Permit 0) some
 
 -- an opening of a worker that has an open session, and an end of one that has none, are denied by rule 6
-pub denied_begin : (setup : Settings) (journal : List Event) (worker : ℕ) → open_session_of journal worker ≢ 0 → verdict_by table_row setup journal worker asks.Begin ≡ Deny 6 0
-unfolding verdict_by
+pub denied_begin : (setup : Settings) (journal : List Event) (worker : ℕ) → open_session_of journal worker ≢ 0 → verdict_of setup journal worker asks.Begin ≡ Deny 6 0
+unfolding verdict_of
 denied_begin setup journal worker some = by_open (open_session_of journal worker) (Permit (openings_of journal + 1)) (Deny 6 0) some
 
-pub denied_end : (setup : Settings) (journal : List Event) (worker : ℕ) (why : Why) → open_session_of journal worker ≡ 0 → verdict_by table_row setup journal worker (asks.End why) ≡ Deny 6 0
-unfolding verdict_by
+pub denied_end : (setup : Settings) (journal : List Event) (worker : ℕ) (why : Why) → open_session_of journal worker ≡ 0 → verdict_of setup journal worker (asks.End why) ≡ Deny 6 0
+unfolding verdict_of
 denied_end setup journal worker why none = ap (λ s. cond (eqb s 0) (Deny 6 0) (Permit 0)) none
 
 by_limit : (over limit : Bool) (n r : ℕ) (d : Decision) → is_violation (cond over (Deny 6 n) (cond limit (Deny 1 r) d)) ≡ false → limit ≡ false
@@ -64,9 +63,9 @@ by_limit false true n r d h = absurd cc
 by_limit false false n r d h = refl
 
 -- a request that is no violation was made below the limit of asks
-pub ask_count-below : (table : Phase → Kind → Row) (setup : Settings) (journal : List Event) (session : ℕ) (ask : Ask) → is_violation (request_verdict table setup journal session ask) ≡ false → ask_count journal session ≢ setup.requests
-ask_count-below table setup journal session ask h =
-    let below : eqb (ask_count journal session) setup.requests ≡ false = by_limit (eqb session 0 || is_over journal session) (eqb (ask_count journal session) setup.requests) (request_number ask) setup.requests (own_verdict table setup journal session ask) h in
+pub ask_count-below : (setup : Settings) (journal : List Event) (session : ℕ) (ask : Ask) → is_violation (request_verdict setup journal session ask) ≡ false → ask_count journal session ≢ setup.requests
+ask_count-below setup journal session ask h =
+    let below : eqb (ask_count journal session) setup.requests ≡ false = by_limit (eqb session 0 || is_over journal session) (eqb (ask_count journal session) setup.requests) (request_number ask) setup.requests (own_verdict setup journal session ask) h in
     λ e. grind (arith, nat_tests)
 
 -- only an opening has another session than the worker's open one
@@ -156,27 +155,27 @@ row_decided : (setup : Settings) (journal : List Event) (session : ℕ) (ask : A
 row_decided setup journal session ask kind row =
     cond_decided (not row.permitted) _ _ (lit≤ tt, lit≤ tt) (cond_decided (row.once && has_event journal session (permits_kind kind)) _ _ (lit≤ tt, lit≤ tt) (kind_decided setup journal session ask))
 
-table_decided : (table : Phase → Kind → Row) (setup : Settings) (journal : List Event) (session : ℕ) (ask : Ask) (kind : Option Kind) → IsVerdict (table_verdict table setup journal session ask kind)
-table_decided table setup journal session ask None = tt
-table_decided table setup journal session ask (Some kind) = row_decided setup journal session ask kind (table (phase_of journal session) kind)
+table_decided : (setup : Settings) (journal : List Event) (session : ℕ) (ask : Ask) (kind : Option Kind) → IsVerdict (table_verdict setup journal session ask kind)
+table_decided setup journal session ask None = tt
+table_decided setup journal session ask (Some kind) = row_decided setup journal session ask kind (table_row (phase_of journal session) kind)
 
-own_decided : (table : Phase → Kind → Row) (setup : Settings) (journal : List Event) (session : ℕ) (ask : Ask) → is_proper ask ≡ true → IsVerdict (own_verdict table setup journal session ask)
-own_decided table setup journal session (asks.Bad rule detail) h = grind (arith, nat_tests)
-own_decided table setup journal session ask h = table_decided table setup journal session ask (kind_of ask)
+own_decided : (setup : Settings) (journal : List Event) (session : ℕ) (ask : Ask) → is_proper ask ≡ true → IsVerdict (own_verdict setup journal session ask)
+own_decided setup journal session (asks.Bad rule detail) h = grind (arith, nat_tests)
+own_decided setup journal session ask h = table_decided setup journal session ask (kind_of ask)
 
-request_decided : (table : Phase → Kind → Row) (setup : Settings) (journal : List Event) (session : ℕ) (ask : Ask) → is_proper ask ≡ true → IsVerdict (request_verdict table setup journal session ask)
-request_decided table setup journal session ask h =
-    let own = own_verdict table setup journal session ask in
+request_decided : (setup : Settings) (journal : List Event) (session : ℕ) (ask : Ask) → is_proper ask ≡ true → IsVerdict (request_verdict setup journal session ask)
+request_decided setup journal session ask h =
+    let own = own_verdict setup journal session ask in
     let limit = eqb (ask_count journal session) setup.requests in
     cond_decided (eqb session 0 || is_over journal session) (Deny 6 (request_number ask)) (cond limit (Deny 1 setup.requests) own) (lit≤ tt, lit≤ tt)
-    (cond_decided limit (Deny 1 setup.requests) own (lit≤ tt, lit≤ tt) (own_decided table setup journal session ask h))
+    (cond_decided limit (Deny 1 setup.requests) own (lit≤ tt, lit≤ tt) (own_decided setup journal session ask h))
 
 -- a verdict on a proper ask names a rule where it denies
-pub verdict_of-is : (table : Phase → Kind → Row) (setup : Settings) (journal : List Event) (worker : ℕ) (ask : Ask) → is_proper ask ≡ true → IsVerdict (verdict_by table setup journal worker ask)
-unfolding verdict_by
-verdict_of-is table setup journal worker asks.Begin h = cond_decided (eqb (open_session_of journal worker) 0) (Permit (openings_of journal + 1)) (Deny 6 0) tt (lit≤ tt, lit≤ tt)
-verdict_of-is table setup journal worker (asks.End why) h = cond_decided (eqb (open_session_of journal worker) 0) (Deny 6 0) (Permit 0) (lit≤ tt, lit≤ tt) tt
-verdict_of-is table setup journal worker ask h = request_decided table setup journal (open_session_of journal worker) ask h
+pub verdict_of-is : (setup : Settings) (journal : List Event) (worker : ℕ) (ask : Ask) → is_proper ask ≡ true → IsVerdict (verdict_of setup journal worker ask)
+unfolding verdict_of
+verdict_of-is setup journal worker asks.Begin h = cond_decided (eqb (open_session_of journal worker) 0) (Permit (openings_of journal + 1)) (Deny 6 0) tt (lit≤ tt, lit≤ tt)
+verdict_of-is setup journal worker (asks.End why) h = cond_decided (eqb (open_session_of journal worker) 0) (Deny 6 0) (Permit 0) (lit≤ tt, lit≤ tt) tt
+verdict_of-is setup journal worker ask h = request_decided setup journal (open_session_of journal worker) ask h
 
 -- what was decided isn't lost
 pub is_lost-verdict : (decision : Decision) → IsVerdict decision → is_lost decision ≡ false

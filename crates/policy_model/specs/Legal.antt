@@ -1,17 +1,13 @@
 -- The next event, and what a legal journal is.
 use Rattle.std.specs.Prelude.{ℕ, ◌≡◌, ◌<◌, ◌+◌, true, List, length, take, slice_index_or, if◌then◌else◌}
-use Rattle.request_catalogue.specs.declared.kind.Kind.{Kind}
 use Rattle.policy_model.specs.declared.event.Ask.{Ask}
 use Rattle.policy_model.specs.declared.event.Ask.TheVariants as asks
 use Rattle.policy_model.specs.declared.event.Decision.{Decision}
 use Rattle.policy_model.specs.declared.event.Decision.TheVariants.{Permit, Deny, Lost}
 use Rattle.policy_model.specs.declared.event.Event.{Event}
-use Rattle.policy_model.specs.declared.phase.Phase.{Phase}
-use Rattle.policy_model.specs.declared.phase.Row.{Row}
 use Rattle.policy_model.specs.Asks.{is_lost}
 use Rattle.policy_model.specs.Journal.{open_session_of, openings_of, has_lost}
-use Rattle.policy_model.specs.Phases.{table_row}
-use Rattle.policy_model.specs.Verdict.{verdict_by}
+use Rattle.policy_model.specs.Verdict.{verdict_of}
 use Rattle.policy_model.specs.Settings.{Settings}
 
 -- the session of an opening: the next number where it is permitted, none where it is lost, and else the one that is open
@@ -29,25 +25,15 @@ session_of journal worker _ decision = open_session_of journal worker
 abbrev pub event_with : List Event → ℕ → Ask → Decision → Event
 event_with journal worker ask decision = record { worker = worker; session = session_of journal worker ask decision; ask = ask; decision = decision }
 
--- the event that the policy gives by a phase table
-abbrev pub next_event_by : (Phase → Kind → Row) → Settings → List Event → ℕ → Ask → Event
-next_event_by table setup journal worker ask = event_with journal worker ask (verdict_by table setup journal worker ask)
+-- the event that the policy gives
+abbrev pub next_event : Settings → List Event → ℕ → Ask → Event
+next_event setup journal worker ask = event_with journal worker ask (verdict_of setup journal worker ask)
 
 -- an event may follow a journal: it has the policy's decision or is lost, and after a lost one all are lost
-pub record IsNextBy (table : Phase → Kind → Row) (setup : Settings) (before : List Event) (e : Event) : Type 0 where
-  pub decided : e ≡ event_with before e.worker e.ask (if is_lost e.decision then Lost else verdict_by table setup before e.worker e.ask)
+pub record IsNext (setup : Settings) (before : List Event) (e : Event) : Type 0 where
+  pub decided : e ≡ event_with before e.worker e.ask (if is_lost e.decision then Lost else verdict_of setup before e.worker e.ask)
   pub lost : has_lost before ≡ true → is_lost e.decision ≡ true
 
 -- each event may follow those before it
-abbrev pub IsLegalBy : (Phase → Kind → Row) → Settings → List Event → Type 0
-IsLegalBy table setup journal = (k : ℕ) (d : Event) → k < length journal → IsNextBy table setup (take k journal) (slice_index_or journal k d)
-
--- the same by the whole phase table
-abbrev pub next_event : Settings → List Event → ℕ → Ask → Event
-next_event setup journal worker ask = next_event_by table_row setup journal worker ask
-
-abbrev pub IsNext : Settings → List Event → Event → Type 0
-IsNext setup before e = IsNextBy table_row setup before e
-
 abbrev pub IsLegal : Settings → List Event → Type 0
-IsLegal setup journal = IsLegalBy table_row setup journal
+IsLegal setup journal = (k : ℕ) (d : Event) → k < length journal → IsNext setup (take k journal) (slice_index_or journal k d)

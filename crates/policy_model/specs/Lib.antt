@@ -10,4 +10,3 @@ pub mod Handles
 pub mod Verdict
 pub mod Legal
 pub mod Runs
-pub mod Narrow

@@ -7,8 +7,6 @@ use Rattle.policy_model.specs.declared.event.Event.{Event}
 use Rattle.policy_model.specs.declared.phase.Phase.{Phase}
 use Rattle.policy_model.specs.declared.phase.Phase.TheVariants.{Pre, Challenged, Verified, User, Over}
 use Rattle.policy_model.specs.declared.phase.Row.{Row}
-use Rattle.policy_model.specs.declared.table.Table.{Table}
-use Rattle.policy_model.specs.declared.table.Table.TheVariants.{Whole, Narrow}
 use Rattle.policy_model.specs.Asks.{accepts, ends_session, exports, is_login_step, opens, takes}
 use Rattle.policy_model.specs.Journal.{events_of, has_event, last_event}
 
@@ -64,14 +62,3 @@ table_row User kinds.Info = free_row
 table_row phase kinds.Note = free_row
 table_row phase kinds.Finish = free_row
 table_row _ _ = no_row
-
--- the table of the narrow service: before the login a child may write and finish
-abbrev pub narrow_row : Phase → Kind → Row
-narrow_row Pre kinds.WriteAt = free_row
-narrow_row Pre kinds.Finish = free_row
-narrow_row _ _ = no_row
-
--- the rows of either table
-abbrev pub row_in : Table → Phase → Kind → Row
-row_in Whole = table_row
-row_in Narrow = narrow_row

@@ -1,14 +1,10 @@
 -- What holds of a journal at each moment of a run, and of a worker's session while it is served.
 use Rattle.std.specs.Prelude.{ℕ, ◌≡◌, ◌≢◌, ◌≤◌, ◌<◌, ◌⊎◌, true, List}
 use Rattle.std.specs.List.{AllByRecursion}
-use Rattle.request_catalogue.specs.declared.kind.Kind.{Kind}
 use Rattle.policy_model.specs.declared.event.Event.{Event}
-use Rattle.policy_model.specs.declared.phase.Phase.{Phase}
-use Rattle.policy_model.specs.declared.phase.Row.{Row}
 use Rattle.policy_model.specs.Asks.{is_proper}
 use Rattle.policy_model.specs.Journal.{ask_count, has_lost, open_session_of, openings_of}
-use Rattle.policy_model.specs.Legal.{IsLegalBy}
-use Rattle.policy_model.specs.Phases.{table_row}
+use Rattle.policy_model.specs.Legal.{IsLegal}
 use Rattle.policy_model.specs.Settings.{Settings}
 
 -- the rule that an event's ask names is in its range
@@ -23,16 +19,16 @@ pub record IsOfWorker (setup : Settings) (e : Event) : Type 0 where
 abbrev pub AreNumbered : List Event → ℕ → Type 0
 AreNumbered journal last = AllByRecursion (λ e. e.session ≤ last) journal
 
--- a journal at a moment of a run that decides by a phase table
-pub record IsRunBy (table : Phase → Kind → Row) (setup : Settings) (journal : List Event) : Type 0 where
-  pub legal : IsLegalBy table setup journal
+-- a journal at a moment of a run
+pub record IsRun (setup : Settings) (journal : List Event) : Type 0 where
+  pub legal : IsLegal setup journal
   pub proper : AllByRecursion IsProperEvent journal
   pub workers : AllByRecursion (IsOfWorker setup) journal
   pub numbered : AreNumbered journal (openings_of journal)
 
 -- a worker's session is open, and its asks are within the setup's limit
-pub record IsServingBy (table : Phase → Kind → Row) (setup : Settings) (journal : List Event) (worker session : ℕ) : Type 0 where
-  pub run : IsRunBy table setup journal
+pub record IsServing (setup : Settings) (journal : List Event) (worker session : ℕ) : Type 0 where
+  pub run : IsRun setup journal
   pub opened : open_session_of journal worker ≡ session
   pub some : session ≢ 0
   pub below : ask_count journal session ≤ setup.requests
@@ -46,17 +42,7 @@ pub record OthersStay (worker : ℕ) (old new : List Event) : Type 0 where
   pub others : (other : ℕ) → other ≢ worker → open_session_of new other ≡ open_session_of old other
 
 -- a worker's session is still open after some events of the worker
-pub record IsAfterBy (table : Phase → Kind → Row) (setup : Settings) (worker session : ℕ) (old new : List Event) : Type 0 where
-  pub run : IsRunBy table setup new
+pub record IsAfter (setup : Settings) (worker session : ℕ) (old new : List Event) : Type 0 where
+  pub run : IsRun setup new
   pub opened : open_session_of new worker ≡ session
   pub others : OthersStay worker old new
-
--- the same by the whole phase table
-abbrev pub IsRun : Settings → List Event → Type 0
-IsRun setup journal = IsRunBy table_row setup journal
-
-abbrev pub IsServing : Settings → List Event → ℕ → ℕ → Type 0
-IsServing setup journal worker session = IsServingBy table_row setup journal worker session
-
-abbrev pub IsAfter : Settings → ℕ → ℕ → List Event → List Event → Type 0
-IsAfter setup worker session old new = IsAfterBy table_row setup worker session old new

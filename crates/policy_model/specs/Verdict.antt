@@ -1,5 +1,5 @@
 -- The verdict on an ask, by the whole list of events before it: the first rule that applies. A definition stands below those that it uses, so read from the last section up:
---   1. an opening, an end, any other ask (verdict_by)
+--   1. an opening, an end, any other ask (verdict_of)
 --   2. a session that is over, or has made all its asks (request_verdict)
 --   3. a frame that is no request, and the table (own_verdict, row_verdict)
 --   4. CHALLENGE (challenge_verdict)
@@ -20,7 +20,6 @@ use Rattle.policy_model.specs.declared.event.Ask.TheVariants as asks
 use Rattle.policy_model.specs.declared.event.Decision.{Decision}
 use Rattle.policy_model.specs.declared.event.Decision.TheVariants.{Permit, Deny, Lost}
 use Rattle.policy_model.specs.declared.event.Event.{Event}
-use Rattle.policy_model.specs.declared.phase.Phase.{Phase}
 use Rattle.policy_model.specs.declared.phase.Row.{Row}
 use Rattle.policy_model.specs.Asks.{decoys_from, is_denied_reply, kind_of, mode_of, moment_of, permits_kind, request_number}
 use Rattle.policy_model.specs.Decoys.{decoy_number}
@@ -196,31 +195,27 @@ row_verdict setup journal session ask kind row =
     else kind_verdict setup journal session ask)
 
 -- what a phase says of a request
-abbrev pub table_verdict : (Phase → Kind → Row) → Settings → List Event → ℕ → Ask → Option Kind → Decision
-table_verdict table setup journal session ask None = Permit 0
-table_verdict table setup journal session ask (Some kind) = row_verdict setup journal session ask kind (table (phase_of journal session) kind)
+abbrev pub table_verdict : Settings → List Event → ℕ → Ask → Option Kind → Decision
+table_verdict setup journal session ask None = Permit 0
+table_verdict setup journal session ask (Some kind) = row_verdict setup journal session ask kind (table_row (phase_of journal session) kind)
 
 -- an ask in a session that isn't over and has asks left: a frame that is no request breaks its own rule
-abbrev pub own_verdict : (Phase → Kind → Row) → Settings → List Event → ℕ → Ask → Decision
-own_verdict table setup journal session (asks.Bad rule detail) = Deny rule detail
-own_verdict table setup journal session ask = table_verdict table setup journal session ask (kind_of ask)
+abbrev pub own_verdict : Settings → List Event → ℕ → Ask → Decision
+own_verdict setup journal session (asks.Bad rule detail) = Deny rule detail
+own_verdict setup journal session ask = table_verdict setup journal session ask (kind_of ask)
 
 -- 2. an ask other than an opening and an end, of the worker's open session: rule 6 where there is none or it is over, rule 1 where it has made all its asks
-abbrev pub request_verdict : (Phase → Kind → Row) → Settings → List Event → ℕ → Ask → Decision
-request_verdict table setup journal session ask =
+abbrev pub request_verdict : Settings → List Event → ℕ → Ask → Decision
+request_verdict setup journal session ask =
     if session == 0 || is_over journal session then Deny not_in_phase (request_number ask)
     else (if ask_count journal session == setup.requests then Deny asks_spent setup.requests
-    else own_verdict table setup journal session ask)
+    else own_verdict setup journal session ask)
 
 -- 1. an opening, an end, any other ask
-unfoldable pub verdict_by : (Phase → Kind → Row) → Settings → List Event → ℕ → Ask → Decision
-verdict_by table setup journal worker asks.Begin = if open_session_of journal worker == 0 then Permit (openings_of journal + 1) else Deny not_in_phase 0
-verdict_by table setup journal worker (asks.End why) = if open_session_of journal worker == 0 then Deny not_in_phase 0 else Permit 0
-verdict_by table setup journal worker ask = request_verdict table setup journal (open_session_of journal worker) ask
-
--- the verdict of the whole policy
-abbrev pub verdict_of : Settings → List Event → ℕ → Ask → Decision
-verdict_of setup journal worker ask = verdict_by table_row setup journal worker ask
+unfoldable pub verdict_of : Settings → List Event → ℕ → Ask → Decision
+verdict_of setup journal worker asks.Begin = if open_session_of journal worker == 0 then Permit (openings_of journal + 1) else Deny not_in_phase 0
+verdict_of setup journal worker (asks.End why) = if open_session_of journal worker == 0 then Deny not_in_phase 0 else Permit 0
+verdict_of setup journal worker ask = request_verdict setup journal (open_session_of journal worker) ask
 
 -- a denial names one of the rules
 abbrev pub NamesRule : Decision → Type 0

@@ -3,29 +3,20 @@
 ghost use Rattle.std.specs.Prelude.{◌≡◌, ◌<◌, ◌^◌, ◌-◌, Some, true, length};
 ghost use Rattle.policy_model.specs.Asks.{is_proper, kind_of};
 ghost use Rattle.policy_model.specs.Legal.{event_with, session_of};
-ghost use Rattle.policy_model.specs.Narrow.{verdict_of as narrow_verdict_of};
-ghost use Rattle.policy_model.specs.Phases.{row_in};
-ghost use Rattle.policy_model.specs.Verdict.{IsVerdict, own_verdict, request_verdict, table_verdict, verdict_by, verdict_of};
+ghost use Rattle.policy_model.specs.Verdict.{IsVerdict, own_verdict, request_verdict, table_verdict, verdict_of};
 
 use crate::event::{Ask, Decision, Event};
 use crate::journal::{asks, has_permitted, is_over, open_session, openings, phase};
 use crate::setup::Setup;
-use crate::table::{Table, row_in};
+use crate::table::row;
 use crate::verdict::judge_kind;
 use request_catalogue::{Kind, rules};
 
 /// The verdict of the phase table on a request of a kind: rules 6 and 7, then the kind's own.
-fn judge_row(
-    table: Table,
-    setup: &Setup,
-    journal: &[Event],
-    session: u32,
-    ask: &Ask,
-    kind: Kind,
-) -> Decision
-    ensures { result ≡ table_verdict (row_in table) setup.now journal.now session ask.now (Some kind) }
+fn judge_row(setup: &Setup, journal: &[Event], session: u32, ask: &Ask, kind: Kind) -> Decision
+    ensures { result ≡ table_verdict setup.now journal.now session ask.now (Some kind) }
 {
-    let row = row_in(table, phase(journal, session), kind);
+    let row = row(phase(journal, session), kind);
     if !row.permitted {
         Decision::deny(rules::NOT_IN_PHASE, ask.number())
     } else if row.once && has_permitted(journal, session, kind) {
@@ -36,27 +27,21 @@ fn judge_row(
 }
 
 /// The verdict on an ask of a session that isn't over and has asks left.
-fn judge_own(table: Table, setup: &Setup, journal: &[Event], session: u32, ask: &Ask) -> Decision
-    ensures { result ≡ own_verdict (row_in table) setup.now journal.now session ask.now }
+fn judge_own(setup: &Setup, journal: &[Event], session: u32, ask: &Ask) -> Decision
+    ensures { result ≡ own_verdict setup.now journal.now session ask.now }
 {
     if let Ask::Bad { rule, detail } = *ask {
         return Decision::Deny { rule, detail };
     }
     match ask.kind() {
         None => Decision::Permit { value: 0 },
-        Some(kind) => judge_row(table, setup, journal, session, ask, kind),
+        Some(kind) => judge_row(setup, journal, session, ask, kind),
     }
 }
 
 /// The verdict on an ask other than an opening and an end, of the worker's open session or 0.
-fn judge_request(
-    table: Table,
-    setup: &Setup,
-    journal: &[Event],
-    session: u32,
-    ask: &Ask,
-) -> Decision
-    ensures { result ≡ request_verdict (row_in table) setup.now journal.now session ask.now }
+fn judge_request(setup: &Setup, journal: &[Event], session: u32, ask: &Ask) -> Decision
+    ensures { result ≡ request_verdict setup.now journal.now session ask.now }
 {
     let requests = setup.requests();
     if session == 0 || is_over(journal, session) {
@@ -65,13 +50,13 @@ fn judge_request(
     if asks(journal, session) == requests as usize {
         return Decision::deny(rules::ASKS_SPENT, requests);
     }
-    judge_own(table, setup, journal, session, ask)
+    judge_own(setup, journal, session, ask)
 }
 
-/// The verdict by either phase table.
-#[tactic(auto, unfolding(crate::specs::Verdict::verdict_by))]
-fn judge_by(table: Table, setup: &Setup, journal: &[Event], worker: u32, ask: &Ask) -> Decision
-    ensures { result ≡ verdict_by (row_in table) setup.now journal.now worker ask.now }
+/// The verdict on an ask in the session that the worker has open.
+#[tactic(auto, unfolding(crate::specs::Verdict::verdict_of))]
+fn judge_worker(setup: &Setup, journal: &[Event], worker: u32, ask: &Ask) -> Decision
+    ensures { result ≡ verdict_of setup.now journal.now worker ask.now }
 {
     let session = open_session(journal, worker);
     match ask {
@@ -80,7 +65,7 @@ fn judge_by(table: Table, setup: &Setup, journal: &[Event], worker: u32, ask: &A
         },
         Ask::End { .. } if session != 0 => Decision::Permit { value: 0 },
         Ask::Begin | Ask::End { .. } => Decision::deny(rules::NOT_IN_PHASE, 0),
-        _ => judge_request(table, setup, journal, session, ask),
+        _ => judge_request(setup, journal, session, ask),
     }
 }
 
@@ -90,16 +75,7 @@ pub fn judge(setup: &Setup, journal: &[Event], worker: u32, ask: &Ask) -> Decisi
     ensures verdict { result ≡ verdict_of setup.now journal.now worker ask.now }
     ensures decided { is_proper ask.now ≡ true → IsVerdict result }
 {
-    judge_by(Table::Whole, setup, journal, worker, ask)
-}
-
-/// The verdict of the narrow service, which permits WRITE and FINISH before the login and nothing
-/// else.
-pub fn judge_narrow(setup: &Setup, journal: &[Event], worker: u32, ask: &Ask) -> Decision
-    ensures verdict { result ≡ narrow_verdict_of setup.now journal.now worker ask.now }
-    ensures decided { is_proper ask.now ≡ true → IsVerdict result }
-{
-    judge_by(Table::Narrow, setup, journal, worker, ask)
+    judge_worker(setup, journal, worker, ask)
 }
 
 /// The session of an event that follows the journal: of a permitted opening the next number, of a

@@ -1,19 +1,10 @@
 //! The phase table.
 
 ghost use Rattle.std.specs.Prelude.{◌≡◌};
-ghost use Rattle.policy_model.specs.Phases.{narrow_row, row_in, table_row};
+ghost use Rattle.policy_model.specs.Phases.{table_row};
 
 use crate::phase::{Phase, Row};
 use request_catalogue::Kind;
-
-/// By which phase table the service decides.
-#[derive(Clone, Copy, PartialEq, Eq, Debug)]
-pub enum Table {
-    /// All thirteen requests.
-    Whole,
-    /// WRITE and FINISH before the login, until the session loop knows the others.
-    Narrow,
-}
 
 /// The phase table: what each phase permits of each kind of request.
 pub fn row(phase: Phase, kind: Kind) -> Row
@@ -30,25 +21,5 @@ pub fn row(phase: Phase, kind: Kind) -> Row
         (Phase::User, Kind::Import) => Row::ONCE,
         (Phase::User, Kind::OpenFile | Kind::CloseFile | Kind::Info) => Row::FREE,
         _ => Row::NONE,
-    }
-}
-
-/// The table of the narrow service: before the login a child may write and finish.
-pub fn narrow_row(phase: Phase, kind: Kind) -> Row
-    ensures { result ≡ narrow_row phase kind }
-{
-    match (phase, kind) {
-        (Phase::Pre, Kind::WriteAt | Kind::Finish) => Row::FREE,
-        _ => Row::NONE,
-    }
-}
-
-/// The row of a phase and a kind in either table.
-pub(crate) fn row_in(table: Table, phase: Phase, kind: Kind) -> Row
-    ensures { result ≡ row_in table phase kind }
-{
-    match table {
-        Table::Whole => row(phase, kind),
-        Table::Narrow => narrow_row(phase, kind),
     }
 }

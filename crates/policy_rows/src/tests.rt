@@ -1,3 +1,4 @@
+use crate::decide;
 use otp_hash::{Algo, Seed};
 use policy_model::*;
 use request_catalogue::{Kind, Label, Name, Note, Width};
@@ -314,11 +315,9 @@ fn ask(rt: &impl Abort, setup: &Setup, journal: &mut Vec<Event>, line: &str) -> 
     let kind = word(&mut words)?;
     let ask = early_ask(kind, &mut words)?;
     let want = decision(&mut words)?;
-    let given = judge(setup, journal.as_slice(), worker, &ask);
-    assert_eq!(rt; given, want, "of {line}");
     assert!(rt; journal.len() < 1000);
-    let event = event_after(journal.as_slice(), worker, &ask, &given);
-    journal.push(event)?;
+    let given = decide(setup, journal, worker, &ask)?;
+    assert_eq!(rt; given, want, "of {line}");
     Ok(())
 }
 
@@ -504,32 +503,6 @@ fn the_budget_of_a_session(rt: HostRuntime) -> Result<(), Fail> {
     play(&rt, alloc, &setup, BUDGET)
 }
 
-#[test]
-fn the_narrow_service(rt: HostRuntime) -> Result<(), Fail> {
-    let setup = Setup::plain(rt.alloc())?;
-    let journal: [Event; 1] = [Event {
-        worker: 0,
-        session: 1,
-        ask: Ask::Begin,
-        decision: Decision::Permit { value: 1 },
-    }];
-    for line in [
-        "write 0 permit 0",
-        "finish permit 0",
-        "write 1 deny 17 1",
-        "banner deny 6 1",
-    ] {
-        let mut words = line.split_whitespace();
-        let kind = word(&mut words)?;
-        let ask = early_ask(kind, &mut words)?;
-        let want = decision(&mut words)?;
-        assert_eq!(rt; judge_narrow(&setup, &journal, 0, &ask), want, "of {line}");
-    }
-    assert!(rt; !has_lost(&journal));
-    assert_eq!(rt; open_session(&journal, 0), 1);
-    Ok(())
-}
-
 /// What the table says of a cell: `-` nothing, `y` permitted, `o` once, `d` deciding.
 fn cell(phase: Phase, kind: Kind) -> &'static str {
     let row = row(phase, kind);
@@ -567,7 +540,6 @@ fn the_phase_table(rt: HostRuntime) -> Result<(), Fail> {
         }
         assert_eq!(rt; cells.as_str(), want);
     }
-    assert!(rt; !narrow_row(Phase::Pre, Kind::Note).permitted);
     Ok(())
 }
 

@@ -1,6 +1,6 @@
 -- What is known of a session, behind the events of others and behind its own.
 use Rattle.std.proofs.Common.{◌≡◌, ℕ, ◌≤◌, Bool, true, false, ◌&&◌, ◌||◌, cond, eqb, List, [], ◌∷◌, ◌++◌, length, Option, Some, None, refl, sym, ap, subst, ◌∙◌, arith, nat_le}
-use Rattle.std.specs.Prelude.{is_some, slice_get}
+use Rattle.std.specs.Prelude.{is_some}
 use Rattle.std.specs.List.{find, list_all}
 use Rattle.std.proofs.lemmas.Bool.{and_parts, false≢true}
 use Rattle.std.proofs.lemmas.Bool.Decides.{nat_tests}
@@ -18,10 +18,10 @@ use Rattle.policy_model.specs.Asks.{accepts, came_by_frame, closes_file, exports
 use Rattle.policy_model.specs.Handles.{handle_opening}
 use Rattle.policy_model.specs.Journal.{has_event}
 use Rattle.policy_model.specs.Legal.{IsNext}
-use Rattle.policy_model.specs.Logins.{account_of, current_sequence, replies_of, verified_user}
+use Rattle.policy_model.specs.Logins.{account_of, current_sequence, verified_user}
 use Rattle.policy_model.specs.Phases.{phase_of, table_row}
 use Rattle.policy_model.specs.Settings.{IsInRange, Settings, are_accounts, is_account, is_number}
-use Rattle.policy_model.specs.Verdict.{account_named, info_verdict, kind_verdict, own_verdict, sequence_of, table_verdict}
+use Rattle.policy_model.specs.Verdict.{account_named, info_verdict, kind_verdict, sequence_of}
 use Rattle.session_laws.proofs.HandleLaws.{gives_least, opened_in_user}
 use Rattle.session_laws.proofs.Permits.{permit_from, request_permit, row_permit}
 use Rattle.session_laws.proofs.Permitted.{accepted_in_challenged, permitted_live}
@@ -155,7 +155,7 @@ info_value setup journal e number range next ask permit =
     let judged = request_permit setup journal e next (ap came_by_frame ask) permit in
     let v = value_of e.decision in
     let s = e.session in
-    let a = permit_from (eqb s 0 || Rattle.policy_model.specs.Phases.is_over journal s) 6 11 v _ (ap (Rattle.policy_model.specs.Verdict.request_verdict table_row setup journal s) (sym ask) ∙ judged) in
+    let a = permit_from (eqb s 0 || Rattle.policy_model.specs.Phases.is_over journal s) 6 11 v _ (ap (Rattle.policy_model.specs.Verdict.request_verdict setup journal s) (sym ask) ∙ judged) in
     let b = permit_from (eqb (Rattle.policy_model.specs.Journal.ask_count journal s) setup.requests) 1 setup.requests v _ a.1 in
     let r = row_permit setup journal s kinds.Info (asks.Info number) (table_row (phase_of journal s) kinds.Info) v b.1 in
     let is : Permit (sequence_of journal (account_named setup (verified_user journal s))) ≡ Permit v = allowed (Rattle.std.specs.List.list_any (Rattle.std.specs.Prelude.nat_eq number) setup.info) r.1 in

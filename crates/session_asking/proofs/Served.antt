@@ -31,11 +31,10 @@ use Rattle.policy_model.specs.Asks.{accepts, came_by_frame, closes_file, ends_se
 use Rattle.policy_model.specs.Handles.{handle_opening}
 use Rattle.policy_model.specs.Journal.{ask_count, has_event, open_session_of}
 use Rattle.policy_model.specs.Logins.{challenged_user, verified_user}
-use Rattle.policy_model.specs.Phases.{table_row}
 use Rattle.policy_model.specs.Runs.{IsOfWorker, IsServing}
 use Rattle.policy_model.specs.Settings.{Settings}
 use Rattle.policy_model.specs.Verdict.{account_named, number_named}
-use Rattle.policy_model.proofs.Runs.{WentOnBy, goes_on, stays_open}
+use Rattle.policy_model.proofs.Runs.{WentOn as KeptServing, goes_on, stays_open}
 use Rattle.session_laws.proofs.HandleLaws.{no_handles_before}
 use Rattle.session_laws.proofs.LoggedIn.{legal_verified}
 use Rattle.session_laws.proofs.Numbers.{numbered_by_name}
@@ -211,7 +210,7 @@ serving_before setup worker session old before others serving =
     record { run = others.run; opened = others.opened ∙ serving.opened; some = serving.some; below = omega (arith, asks, below) }
 
 -- a request after which the session goes on
-went : (setup : Settings) (worker session : ℕ) (ask : Ask) (old new : List Event) (e : Event) → (joins : Joins setup worker ask old new e) → IsServing setup old worker session → came_by_frame ask ≡ true → is_proper ask ≡ true → ends_session e ≡ false → WentOnBy table_row setup joins.before e session
+went : (setup : Settings) (worker session : ℕ) (ask : Ask) (old new : List Event) (e : Event) → (joins : Joins setup worker ask old new e) → IsServing setup old worker session → came_by_frame ask ≡ true → is_proper ask ≡ true → ends_session e ≡ false → KeptServing setup joins.before e session
 went setup worker session ask old new e joins serving request proper unended =
     let its = joins.its in
     let run = subst (AllByRecursion (IsOfWorker setup)) joins.grown joins.run.workers in

@@ -159,17 +159,17 @@ session_decides : (l : LedgerParts) (row : SessionRow) (journal : List Event) (w
 session_decides l row journal worker ask st some r by =
     unwrap_same (refusal_of row l.setup.requests ask) (kind_by l row ask) (kind_verdict l.setup journal (open_session_of journal worker) ask) (λ none. kind_decides l row journal (open_session_of journal worker) ask st r (own_from row l.setup.requests ask none))
     ∙ refusal_decides l.setup row journal (open_session_of journal worker) ask r some by
-    ∙ sym (verdict_of-request table_row l.setup journal worker ask by)
+    ∙ sym (verdict_of-request l.setup journal worker ask by)
 
 idle_decides : (setup : Settings) (journal : List Event) (worker : ℕ) (ask : Ask) → open_session_of journal worker ≡ 0 → came_by_frame ask ≡ true → Deny not_in_phase (request_number ask) ≡ verdict_of setup journal worker ask
-idle_decides setup journal worker ask none by = sym (verdict_of-request table_row setup journal worker ask by ∙ ap (λ s. request_verdict table_row setup journal s ask) none)
+idle_decides setup journal worker ask none by = sym (verdict_of-request setup journal worker ask by ∙ ap (λ s. request_verdict setup journal s ask) none)
 
 worker_decides : (l : LedgerParts) (begun : ℕ) (o : Option SessionRow) (journal : List Event) (worker : ℕ) (ask : Ask) → StandsFor l journal → begun ≡ openings_of journal → WorkerStands l.setup o journal (open_session_of journal worker) → worker_decision l begun o ask ≡ verdict_of l.setup journal worker ask
-worker_decides l begun None journal worker asks.Begin st count w = ap (λ n. Permit (n + 1)) count ∙ sym (verdict_of-begin table_row l.setup journal worker w)
+worker_decides l begun None journal worker asks.Begin st count w = ap (λ n. Permit (n + 1)) count ∙ sym (verdict_of-begin l.setup journal worker w)
 worker_decides l begun None journal worker (asks.End why) st count w = sym (denied_end l.setup journal worker why w)
 worker_decides l begun None journal worker ask st count w = idle_decides l.setup journal worker ask w refl
 worker_decides l begun (Some row) journal worker asks.Begin st count w = sym (denied_begin l.setup journal worker w.0)
-worker_decides l begun (Some row) journal worker (asks.End why) st count w = sym (verdict_of-end table_row l.setup journal worker why w.0)
+worker_decides l begun (Some row) journal worker (asks.End why) st count w = sym (verdict_of-end l.setup journal worker why w.0)
 worker_decides l begun (Some row) journal worker ask st count w = session_decides l row journal worker ask st w.0 w.1 refl
 
 pub core_decides : (core : CoreParts) (journal : List Event) (worker : ℕ) (ask : Ask) → Stands core journal → worker < core.ledger.setup.workers → core_decision core worker ask ≡ verdict_of core.ledger.setup journal worker ask

@@ -59,7 +59,7 @@ granted : (free mode value : ℕ) (o : Option Grant) → grant_verdict free mode
 granted free mode value None h = absurd cc
 granted free mode value (Some grant) h = refl
 
-open_judged : (setup : Settings) (journal : List Event) (session : ℕ) (ask : Ask) (value : ℕ) → is_open ask ≡ true → request_verdict table_row setup journal session ask ≡ Permit value → granted_in (grants_of (account_named setup (verified_user journal session))) (label_named ask) ≡ true
+open_judged : (setup : Settings) (journal : List Event) (session : ℕ) (ask : Ask) (value : ℕ) → is_open ask ≡ true → request_verdict setup journal session ask ≡ Permit value → granted_in (grants_of (account_named setup (verified_user journal session))) (label_named ask) ≡ true
 unfolding kind_verdict open_verdict
 open_judged setup journal session (asks.OpenFile mode name) value is h =
     let a = permit_from (eqb session 0 || is_over journal session) 6 (request_number (asks.OpenFile mode name)) value _ h in

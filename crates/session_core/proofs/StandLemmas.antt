@@ -16,7 +16,6 @@ use Rattle.policy_model.specs.declared.phase.Phase.TheVariants.{Challenged}
 use Rattle.policy_model.specs.Asks.{accepts, is_begin, is_end, is_lost, is_permit, is_reply, moment_of, opens, takes}
 use Rattle.policy_model.specs.Journal.{open_session_of}
 use Rattle.policy_model.specs.Legal.{IsLegal, IsNext, next_event}
-use Rattle.policy_model.specs.Phases.{table_row}
 use Rattle.policy_model.specs.Runs.{IsOfWorker}
 use Rattle.policy_model.specs.Settings.{IsInRange, Settings}
 use Rattle.policy_model.specs.Verdict.{verdict_of}
@@ -71,8 +70,8 @@ pub following : (core : CoreParts) (journal : List Event) (worker : ℕ) (ask : 
 following core journal worker ask e st lt few is = record {
   stands = st;
   below = subst (λ (x : Event). x.worker < core.ledger.setup.workers) (sym is) lt;
-  next = subst (λ (x : Event). IsNext core.ledger.setup journal x) (sym is) (next_event_follows table_row core.ledger.setup journal worker ask st.kept);
-  kept = subst (λ (x : Event). is_lost x.decision ≡ false) (sym is) (next_event_kept table_row core.ledger.setup journal worker ask);
+  next = subst (λ (x : Event). IsNext core.ledger.setup journal x) (sym is) (next_event_follows core.ledger.setup journal worker ask st.kept);
+  kept = subst (λ (x : Event). is_lost x.decision ≡ false) (sym is) (next_event_kept core.ledger.setup journal worker ask);
   few = few;
 }
 

@@ -5,7 +5,6 @@ use Rattle.std.proofs.lemmas.Bool.{and_from, and_parts, cases_eq, false≢true, 
 use Rattle.std.proofs.lemmas.Bool.Decides.{nat_tests}
 use Rattle.std.proofs.lemmas.List.{append-nil, length-append, map-append}
 use Rattle.std.proofs.lemmas.List.Folds.{list_all-append, list_any-append}
-use Rattle.request_catalogue.specs.declared.kind.Kind.{Kind}
 use Rattle.request_catalogue.specs.declared.kind.Kind.TheVariants as kinds
 use Rattle.policy_model.specs.declared.account.Grant.{Grant}
 use Rattle.policy_model.specs.declared.event.Ask.{Ask}
@@ -13,11 +12,10 @@ use Rattle.policy_model.specs.declared.event.Ask.TheVariants as asks
 use Rattle.policy_model.specs.declared.event.Decision.TheVariants.{Permit, Deny}
 use Rattle.policy_model.specs.declared.event.Event.{Event}
 use Rattle.policy_model.specs.declared.phase.Phase.{Phase}
-use Rattle.policy_model.specs.declared.phase.Row.{Row}
 use Rattle.policy_model.specs.Asks.{came_by_frame, closes_file, exports, handle_of, is_open, is_permit, kind_of, opens_file, value_of}
 use Rattle.policy_model.specs.Handles.{free_handle_of, live_handles_of}
 use Rattle.policy_model.specs.Journal.{ask_count, has_event}
-use Rattle.policy_model.specs.Legal.{IsLegal, IsLegalBy, IsNext, IsNextBy}
+use Rattle.policy_model.specs.Legal.{IsLegal, IsNext}
 use Rattle.policy_model.specs.Logins.{verified_user}
 use Rattle.policy_model.specs.Phases.{is_over, phase_of, table_row}
 use Rattle.policy_model.specs.Settings.{Settings, are_distinct, is_number, same_label}
@@ -49,24 +47,24 @@ record OpenJudged (journal : List Event) (session value : ℕ) : Type 0 where
   pub full : nat_le 8 (length (live_handles_of journal session)) ≡ false
   pub least : value ≡ free_handle_of journal session
 
-open_judged : (table : Phase → Kind → Row) (setup : Settings) (journal : List Event) (session : ℕ) (ask : Ask) (value : ℕ) → is_open ask ≡ true → request_verdict table setup journal session ask ≡ Permit value → OpenJudged journal session value
+open_judged : (setup : Settings) (journal : List Event) (session : ℕ) (ask : Ask) (value : ℕ) → is_open ask ≡ true → request_verdict setup journal session ask ≡ Permit value → OpenJudged journal session value
 unfolding kind_verdict open_verdict
-open_judged table setup journal session (asks.OpenFile mode name) value is h =
+open_judged setup journal session (asks.OpenFile mode name) value is h =
     let a = permit_from (eqb session 0 || is_over journal session) 6 9 value _ h in
     let b = permit_from (eqb (ask_count journal session) setup.requests) 1 setup.requests value _ a.1 in
-    let r = row_permit setup journal session kinds.OpenFile (asks.OpenFile mode name) (table (phase_of journal session) kinds.OpenFile) value b.1 in
+    let r = row_permit setup journal session kinds.OpenFile (asks.OpenFile mode name) (table_row (phase_of journal session) kinds.OpenFile) value b.1 in
     let o = permit_from (nat_le 8 (length (live_handles_of journal session))) 19 8 value _ r.1 in
     record { full = o.0; least = grant_permit (free_handle_of journal session) mode value (find (λ g. same_label g.name name) (grants_of (account_named setup (verified_user journal session)))) o.1 }
-open_judged table setup journal session _ value is h = absurd cc
+open_judged setup journal session _ value is h = absurd cc
 
 by_frame : (ask : Ask) → is_open ask ≡ true → came_by_frame ask ≡ true
 by_frame (asks.OpenFile mode name) h = refl
 by_frame _ h = absurd cc
 
-pub gives_least : {table : Phase → Kind → Row} (setup : Settings) (journal : List Event) (e : Event) → IsNextBy table setup journal e → opens_file e ≡ true → GivesLeast journal e
-gives_least {table} setup journal e next opened =
+pub gives_least : (setup : Settings) (journal : List Event) (e : Event) → IsNext setup journal e → opens_file e ≡ true → GivesLeast journal e
+gives_least setup journal e next opened =
     let is = and_parts (is_open e.ask) (is_permit e.decision) opened in
-    let j = open_judged table setup journal e.session e.ask (value_of e.decision) is.0 (request_permit setup journal e next (by_frame e.ask is.0) is.1) in
+    let j = open_judged setup journal e.session e.ask (value_of e.decision) is.0 (request_permit setup journal e next (by_frame e.ask is.0) is.1) in
     let room : length (live_handles_of journal e.session) < 8 = grind (arith, nat_tests, j.full) in
     let f = subst (IsFreeNumber (live_handles_of journal e.session)) (sym j.least) (free_number (live_handles_of journal e.session) room) in
     record { room = room; least = j.least; within = f.within; free = f.free }
@@ -159,8 +157,8 @@ after_differ live e d opened = go (opens_file e) refl where
 
 -- 3. In every legal journal
 
-differ_next : {table : Phase → Kind → Row} (setup : Settings) (journal : List Event) (e : Event) → IsNextBy table setup journal e → ((session : ℕ) → Differ (live_handles_of journal session)) → (session : ℕ) → Differ (live_handles_of (journal ++ e ∷ []) session)
-differ_next {table} setup journal e next before session = go (cases_eq e.session session) where
+differ_next : (setup : Settings) (journal : List Event) (e : Event) → IsNext setup journal e → ((session : ℕ) → Differ (live_handles_of journal session)) → (session : ℕ) → Differ (live_handles_of (journal ++ e ∷ []) session)
+differ_next setup journal e next before session = go (cases_eq e.session session) where
   room : opens_file e ≡ true → (length (live_handles_of journal e.session) < 8) × ((is_number 1 8 (handle_of e) ≡ true) × (has_handle (live_handles_of journal e.session) (handle_of e) ≡ false))
   room opened = let g = gives_least setup journal e next opened in (g.room, (g.within, unused_from (live_handles_of journal e.session) (handle_of e) g.free))
 
@@ -174,12 +172,12 @@ differ_none : (session : ℕ) → Differ (live_handles_of [] session)
 unfolding live_handles_of
 differ_none session = record { few = omega arith; within = refl; distinct = refl }
 
-pub handles_differ : {table : Phase → Kind → Row} (setup : Settings) (journal : List Event) → IsLegalBy table setup journal → (session : ℕ) → HandlesDiffer journal session
-handles_differ {table} setup journal legal session = let d = by_events setup AllDiffer differ_none more journal legal session in record { few = d.few; within = d.within; distinct = d.distinct } where
+pub handles_differ : (setup : Settings) (journal : List Event) → IsLegal setup journal → (session : ℕ) → HandlesDiffer journal session
+handles_differ setup journal legal session = let d = by_events setup AllDiffer differ_none more journal legal session in record { few = d.few; within = d.within; distinct = d.distinct } where
   AllDiffer : List Event → Type 0
   AllDiffer j = (s : ℕ) → Differ (live_handles_of j s)
 
-  more : (j : List Event) (e : Event) → IsNextBy table setup j e → AllDiffer j → AllDiffer (j ++ e ∷ [])
+  more : (j : List Event) (e : Event) → IsNext setup j e → AllDiffer j → AllDiffer (j ++ e ∷ [])
   more j e next before = differ_next setup j e next before
 
 -- 4. No session has a live handle before its user's child runs

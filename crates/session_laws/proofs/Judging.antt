@@ -21,7 +21,7 @@ use Rattle.policy_model.specs.Legal.{event_with, next_event, session_of}
 use Rattle.policy_model.specs.Logins.{account_of, challenged_user, current_sequence, verified_user, was_decoyed}
 use Rattle.policy_model.specs.Phases.{is_over, phase_of, table_row}
 use Rattle.policy_model.specs.Settings.{Settings, same_label}
-use Rattle.policy_model.specs.Verdict.{account_named, account_verdict, challenge_verdict, close_verdict, decoy_verdict, grant_verdict, grants_of, handle_verdict, info_verdict, kind_verdict, number_named, open_verdict, own_verdict, readings, reply_verdict, request_verdict, row_verdict, sequence_of, table_verdict, use_verdict, user_verdict, verdict_by, verdict_of}
+use Rattle.policy_model.specs.Verdict.{account_named, account_verdict, challenge_verdict, close_verdict, decoy_verdict, grant_verdict, grants_of, handle_verdict, info_verdict, kind_verdict, number_named, open_verdict, own_verdict, readings, reply_verdict, request_verdict, row_verdict, sequence_of, table_verdict, use_verdict, user_verdict, verdict_of}
 use Rattle.policy_model.proofs.Verdicts.{verdict_of-request}
 use Rattle.session_laws.specs.Judged.{cell_decision, closing_decision, event_by, event_session, is_free_ask, is_over_phase, opening_decision, request_decision}
 use Rattle.session_laws.specs.Numbered.{IsNumbered}
@@ -30,12 +30,12 @@ use Rattle.session_laws.proofs.PhaseLemmas.{over_is}
 
 -- 1. An opening and an end
 
-pub opening_is : (setup : Settings) (journal : List Event) (worker session openings : ℕ) → session ≡ open_session_of journal worker → openings ≡ openings_of journal → opening_decision session openings ≡ verdict_by table_row setup journal worker asks.Begin
-unfolding verdict_by
+pub opening_is : (setup : Settings) (journal : List Event) (worker session openings : ℕ) → session ≡ open_session_of journal worker → openings ≡ openings_of journal → opening_decision session openings ≡ verdict_of setup journal worker asks.Begin
+unfolding verdict_of
 opening_is setup journal worker session openings is opened = ap (λ s. opening_decision s openings) is ∙ ap (opening_decision (open_session_of journal worker)) opened
 
-pub closing_is : (setup : Settings) (journal : List Event) (worker session : ℕ) (why : Why) → session ≡ open_session_of journal worker → closing_decision session ≡ verdict_by table_row setup journal worker (asks.End why)
-unfolding verdict_by
+pub closing_is : (setup : Settings) (journal : List Event) (worker session : ℕ) (why : Why) → session ≡ open_session_of journal worker → closing_decision session ≡ verdict_of setup journal worker (asks.End why)
+unfolding verdict_of
 closing_is setup journal worker session why is = ap closing_decision is
 
 -- 2. What comes before the table
@@ -49,34 +49,34 @@ not_zero : (n : ℕ) → eqb n 0 ≡ false → n ≢ 0
 not_zero n h e = grind (arith, nat_tests)
 
 -- a request, by the row of the session: its phase and the asks that it made count only where there is a session
-pub request_is : (setup : Settings) (journal : List Event) (worker session : ℕ) (phase : Phase) (asked : ℕ) (ask : Ask) (own : Decision) → came_by_frame ask ≡ true → session ≡ open_session_of journal worker → (session ≢ 0 → phase ≡ phase_of journal session) → (session ≢ 0 → asked ≡ ask_count journal session) → (session ≢ 0 → is_over journal session ≡ false → own ≡ own_verdict table_row setup journal session ask) → request_decision setup.requests session phase asked ask own ≡ verdict_by table_row setup journal worker ask
+pub request_is : (setup : Settings) (journal : List Event) (worker session : ℕ) (phase : Phase) (asked : ℕ) (ask : Ask) (own : Decision) → came_by_frame ask ≡ true → session ≡ open_session_of journal worker → (session ≢ 0 → phase ≡ phase_of journal session) → (session ≢ 0 → asked ≡ ask_count journal session) → (session ≢ 0 → is_over journal session ≡ false → own ≡ own_verdict setup journal session ask) → request_decision setup.requests session phase asked ask own ≡ verdict_of setup journal worker ask
 request_is setup journal worker session phase asked ask own frame is phased counted decided =
-    by_tests (eqb session 0) (eqb session 0) (is_over_phase phase) (is_over journal session) (eqb asked setup.requests) (eqb (ask_count journal session) setup.requests) (Deny 6 (request_number ask)) (Deny 1 setup.requests) own (own_verdict table_row setup journal session ask)
+    by_tests (eqb session 0) (eqb session 0) (is_over_phase phase) (is_over journal session) (eqb asked setup.requests) (eqb (ask_count journal session) setup.requests) (Deny 6 (request_number ask)) (Deny 1 setup.requests) own (own_verdict setup journal session ask)
     refl
     (λ some. ap is_over_phase (phased (not_zero session some)) ∙ over_is journal session)
     (λ some. ap (λ n. eqb n setup.requests) (counted (not_zero session some)))
     (λ some live. decided (not_zero session some) live)
-    ∙ ap (λ s. request_verdict table_row setup journal s ask) is
-    ∙ sym (verdict_of-request table_row setup journal worker ask frame)
+    ∙ ap (λ s. request_verdict setup journal s ask) is
+    ∙ sym (verdict_of-request setup journal worker ask frame)
 
 -- 3. The table
 
 -- a frame that is no request breaks its own rule
-pub bad_is : (setup : Settings) (journal : List Event) (session rule detail : ℕ) → own_verdict table_row setup journal session (asks.Bad rule detail) ≡ Deny rule detail
+pub bad_is : (setup : Settings) (journal : List Event) (session rule detail : ℕ) → own_verdict setup journal session (asks.Bad rule detail) ≡ Deny rule detail
 bad_is setup journal session rule detail = refl
 
-own_is_kind : (setup : Settings) (journal : List Event) (session : ℕ) (ask : Ask) (kind : Kind) → kind_of ask ≡ Some kind → own_verdict table_row setup journal session ask ≡ row_verdict setup journal session ask kind (table_row (phase_of journal session) kind)
+own_is_kind : (setup : Settings) (journal : List Event) (session : ℕ) (ask : Ask) (kind : Kind) → kind_of ask ≡ Some kind → own_verdict setup journal session ask ≡ row_verdict setup journal session ask kind (table_row (phase_of journal session) kind)
 own_is_kind setup journal session asks.Begin kind h = absurd cc
 own_is_kind setup journal session (asks.Bad rule detail) kind h = absurd cc
 own_is_kind setup journal session (asks.End why) kind h = absurd cc
-own_is_kind setup journal session ask kind h = ap (table_verdict table_row setup journal session ask) h
+own_is_kind setup journal session ask kind h = ap (table_verdict setup journal session ask) h
 
 by_cell : (p p' h : Bool) (a b x y : Decision) → p ≡ p' → (p' ≡ true → x ≡ y) → cond (not p) a (cond h b x) ≡ cond (not p') a (cond h b y)
 by_cell p true h a b x y same decided = rw (same, decided refl) refl
 by_cell p false h a b x y same decided = rw same refl
 
 -- a request of a kind, by the phase and whether one of the kind was permitted
-pub cell_is : (setup : Settings) (journal : List Event) (session : ℕ) (phase : Phase) (had : Bool) (ask : Ask) (kind : Kind) (decision : Decision) → kind_of ask ≡ Some kind → phase ≡ phase_of journal session → had ≡ has_event journal session (permits_kind kind) → ((table_row phase kind).permitted ≡ true → decision ≡ kind_verdict setup journal session ask) → cell_decision (table_row phase kind) had ask decision ≡ own_verdict table_row setup journal session ask
+pub cell_is : (setup : Settings) (journal : List Event) (session : ℕ) (phase : Phase) (had : Bool) (ask : Ask) (kind : Kind) (decision : Decision) → kind_of ask ≡ Some kind → phase ≡ phase_of journal session → had ≡ has_event journal session (permits_kind kind) → ((table_row phase kind).permitted ≡ true → decision ≡ kind_verdict setup journal session ask) → cell_decision (table_row phase kind) had ask decision ≡ own_verdict setup journal session ask
 cell_is setup journal session phase had ask kind decision is phased seen decided =
     by_cell (table_row phase kind).permitted (table_row phase kind).permitted ((table_row phase kind).once && had) (Deny 6 (request_number ask)) (Deny 7 (request_number ask)) decision (kind_verdict setup journal session ask) refl decided
     ∙ ap (λ b. cell_decision (table_row phase kind) b ask (kind_verdict setup journal session ask)) seen
@@ -151,6 +151,6 @@ session_is journal worker session openings _ decision is opened kept = is
 
 pub event_is : (setup : Settings) (journal : List Event) (worker session openings : ℕ) (ask : Ask) (decision : Decision) → session ≡ open_session_of journal worker → openings ≡ openings_of journal → decision ≡ verdict_of setup journal worker ask → event_by worker session openings ask decision ≡ next_event setup journal worker ask
 event_is setup journal worker session openings ask decision is opened decided =
-    let kept : is_lost decision ≡ false = ap is_lost decided ∙ never_lost table_row setup journal worker ask in
+    let kept : is_lost decision ≡ false = ap is_lost decided ∙ never_lost setup journal worker ask in
     ap (λ (n : ℕ). let e : Event = record { worker = worker; session = n; ask = ask; decision = decision } in e) (session_is journal worker session openings ask decision is opened kept)
     ∙ ap (event_with journal worker ask) decided

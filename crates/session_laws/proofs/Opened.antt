@@ -9,11 +9,9 @@ use Rattle.policy_model.specs.declared.event.Ask.TheVariants as asks
 use Rattle.policy_model.specs.declared.event.Decision.{Decision}
 use Rattle.policy_model.specs.declared.event.Decision.TheVariants.{Permit, Deny, Lost}
 use Rattle.policy_model.specs.declared.event.Event.{Event}
-use Rattle.policy_model.specs.declared.phase.Phase.{Phase}
-use Rattle.policy_model.specs.declared.phase.Row.{Row}
 use Rattle.policy_model.specs.Asks.{accepts, came_by_frame, challenge_name, decoys_from, ends_session, exports, is_denied_reply, is_login_step, is_permit, kind_of, number_of, opens, opens_file, permits_kind, request_number, takes, value_of}
 use Rattle.policy_model.specs.Journal.{last_event, openings_of}
-use Rattle.policy_model.specs.Legal.{IsLegalBy, IsNextBy}
+use Rattle.policy_model.specs.Legal.{IsLegal, IsNext}
 use Rattle.policy_model.specs.Logins.{challenged_user, was_decoyed}
 use Rattle.policy_model.specs.Runs.{AreNumbered}
 use Rattle.policy_model.specs.Settings.{Settings}
@@ -97,8 +95,8 @@ opened_fresh journal e numbered number opened =
     }
 
 -- the session that an event opens in a legal journal
-pub fresh : {table : Phase → Kind → Row} (setup : Settings) (journal : List Event) (e : Event) → IsLegalBy table setup journal → IsNextBy table setup journal e → opens e ≡ true → IsFresh (journal ++ e ∷ []) e.session
-fresh {table} setup journal e legal next opened = opened_fresh journal e (legal_numbered setup journal legal) (session_new journal e (next_session setup journal e next) opened) opened
+pub fresh : (setup : Settings) (journal : List Event) (e : Event) → IsLegal setup journal → IsNext setup journal e → opens e ≡ true → IsFresh (journal ++ e ∷ []) e.session
+fresh setup journal e legal next opened = opened_fresh journal e (legal_numbered setup journal legal) (session_new journal e (next_session setup journal e next) opened) opened
 
 -- 3. The kinds of which one was permitted
 

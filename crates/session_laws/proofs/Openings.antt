@@ -6,18 +6,15 @@ use Rattle.std.specs.List.{list_any}
 use Rattle.std.proofs.lemmas.Bool.{cases_eq}
 use Rattle.std.proofs.lemmas.List.{append-nil}
 use Rattle.std.proofs.lemmas.List.Folds.{list_any-append}
-use Rattle.request_catalogue.specs.declared.kind.Kind.{Kind}
 use Rattle.policy_model.specs.declared.event.Ask.{Ask}
 use Rattle.policy_model.specs.declared.event.Ask.TheVariants as asks
 use Rattle.policy_model.specs.declared.event.Decision.{Decision}
 use Rattle.policy_model.specs.declared.event.Decision.TheVariants.{Permit, Deny, Lost}
 use Rattle.policy_model.specs.declared.event.Event.{Event}
-use Rattle.policy_model.specs.declared.phase.Phase.{Phase}
 use Rattle.policy_model.specs.declared.phase.Phase.TheVariants.{Over}
-use Rattle.policy_model.specs.declared.phase.Row.{Row}
 use Rattle.policy_model.specs.Asks.{ends_session, is_begin, is_end, is_lost, is_permit, opens}
 use Rattle.policy_model.specs.Journal.{events_of, open_session_of, openings_of}
-use Rattle.policy_model.specs.Legal.{IsLegalBy, IsNextBy, session_of}
+use Rattle.policy_model.specs.Legal.{IsLegal, IsNext, session_of}
 use Rattle.policy_model.specs.Phases.{phase_of}
 use Rattle.policy_model.specs.Runs.{AreNumbered, OthersStay}
 use Rattle.policy_model.specs.Settings.{Settings}
@@ -66,8 +63,8 @@ numbered-push journal e is numbered =
     AreNumbered-push journal e (openings_of (journal ++ e ∷ [])) (AreNumbered-weaker journal (openings_of journal) (openings_of (journal ++ e ∷ [])) (omega (arith, more)) numbered) (omega (arith, more, given))
 
 -- no event of a legal journal has a greater session than the last that was opened
-pub legal_numbered : {table : Phase → Kind → Row} (setup : Settings) (journal : List Event) → IsLegalBy table setup journal → AreNumbered journal (openings_of journal)
-legal_numbered {table} setup journal legal = by_events setup (λ j. AreNumbered j (openings_of j)) tt (λ j e next h. numbered-push j e (next_session setup j e next) h) journal legal
+pub legal_numbered : (setup : Settings) (journal : List Event) → IsLegal setup journal → AreNumbered journal (openings_of journal)
+legal_numbered setup journal legal = by_events setup (λ j. AreNumbered j (openings_of j)) tt (λ j e next h. numbered-push j e (next_session setup j e next) h) journal legal
 
 -- the openings with one more event
 pub openings-opened : (journal : List Event) (e : Event) → opens e ≡ true → openings_of (journal ++ e ∷ []) ≡ openings_of journal + 1
@@ -151,12 +148,12 @@ record Counted (journal : List Event) : Type 0 where
   pub numbered : AreNumbered journal (openings_of journal)
   pub apart : AreApart journal
 
-pub legal_apart : {table : Phase → Kind → Row} (setup : Settings) (journal : List Event) → IsLegalBy table setup journal → AreApart journal
-legal_apart {table} setup journal legal = let c = by_events setup Counted none more journal legal in c.apart where
+pub legal_apart : (setup : Settings) (journal : List Event) → IsLegal setup journal → AreApart journal
+legal_apart setup journal legal = let c = by_events setup Counted none more journal legal in c.apart where
   none : Counted []
   none = record { numbered = tt; apart = record { apart = λ v w ne some same. some refl } }
 
-  more : (j : List Event) (e : Event) → IsNextBy table setup j e → Counted j → Counted (j ++ e ∷ [])
+  more : (j : List Event) (e : Event) → IsNext setup j e → Counted j → Counted (j ++ e ∷ [])
   more j e next c = let is = next_session setup j e next in record { numbered = numbered-push j e is c.numbered; apart = AreApart-push j e c.numbered is c.apart }
 
 -- an event that isn't lost isn't of another worker's open session
@@ -171,9 +168,9 @@ not_of_other journal e worker numbered before is kept ne some = go (opens e) ref
 record ZeroIsClosed (journal : List Event) : Type 0 where
   pub closed : list_any opens (events_of journal 0) ≡ false
 
-pub phase_of-zero : {table : Phase → Kind → Row} (setup : Settings) (journal : List Event) → IsLegalBy table setup journal → phase_of journal 0 ≡ Over
-phase_of-zero {table} setup journal legal = let z = by_events setup ZeroIsClosed (record { closed = refl }) more journal legal in phase_of-over journal 0 (ap (λ b. not b || list_any ends_session (events_of journal 0)) z.closed) where
-  more : (j : List Event) (e : Event) → IsNextBy table setup j e → ZeroIsClosed j → ZeroIsClosed (j ++ e ∷ [])
+pub phase_of-zero : (setup : Settings) (journal : List Event) → IsLegal setup journal → phase_of journal 0 ≡ Over
+phase_of-zero setup journal legal = let z = by_events setup ZeroIsClosed (record { closed = refl }) more journal legal in phase_of-over journal 0 (ap (λ b. not b || list_any ends_session (events_of journal 0)) z.closed) where
+  more : (j : List Event) (e : Event) → IsNext setup j e → ZeroIsClosed j → ZeroIsClosed (j ++ e ∷ [])
   more j e next z = record { closed = go (opens e) refl } where
     go : (b : Bool) → opens e ≡ b → list_any opens (events_of (j ++ e ∷ []) 0) ≡ false
     go true is =

@@ -15,14 +15,13 @@ use Rattle.policy_model.specs.declared.event.Ask.TheVariants as asks
 use Rattle.policy_model.specs.declared.event.Decision.{Decision}
 use Rattle.policy_model.specs.declared.event.Decision.TheVariants.{Permit, Deny, Lost}
 use Rattle.policy_model.specs.declared.event.Event.{Event}
-use Rattle.policy_model.specs.declared.phase.Phase.{Phase}
 use Rattle.policy_model.specs.declared.phase.Row.{Row}
 use Rattle.policy_model.specs.Asks.{accepts, exports, decoys_from, is_challenge_for, is_denied_reply, is_export, is_lost, is_permit, is_reply, came_by_frame, permits_kind, request_number, reserves, takes_user, value_of}
 use Rattle.policy_model.specs.Decoys.{decoy_number}
 use Rattle.policy_model.specs.Journal.{ask_count, count_of, has_event, open_session_of}
-use Rattle.policy_model.specs.Legal.{IsNextBy}
+use Rattle.policy_model.specs.Legal.{IsNext}
 use Rattle.policy_model.specs.Logins.{account_of, challenged_user, current_sequence, holder_of, is_live, is_user, last_taking_of, reply_for, session_taking, verified_user, was_accepted, was_decoyed}
-use Rattle.policy_model.specs.Phases.{is_over, phase_of}
+use Rattle.policy_model.specs.Phases.{is_over, phase_of, table_row}
 use Rattle.policy_model.specs.Settings.{Settings, same_name}
 use Rattle.policy_model.specs.Verdict.{account_verdict, challenge_verdict, decoy_challenge, decoy_verdict, is_holder, is_held, is_next_password, kind_verdict, login_verdict, matching_verdict, number_named, readings, readings_verdict, reply_verdict, request_verdict, row_verdict}
 use Rattle.policy_model.proofs.Runs.{next_decision, next_session, no_begin}
@@ -92,11 +91,11 @@ login_permit setup journal session passwords (Some user) value h =
     (user, refl, record { account = r.0; holds = not-false (is_holder session (holder_of journal user)) a.0; found = r.1; next = r.2 })
 
 -- what a session's request was judged by, that is permitted
-pub request_permit : {table : Phase → Kind → Row} (setup : Settings) (journal : List Event) (e : Event) → IsNextBy table setup journal e → came_by_frame e.ask ≡ true → is_permit e.decision ≡ true → request_verdict table setup journal e.session e.ask ≡ Permit (value_of e.decision)
-request_permit {table} setup journal e next request permit =
-    let judged : e.decision ≡ request_verdict table setup journal (open_session_of journal e.worker) e.ask = next_decision setup journal e next (permit_kept e.decision permit) ∙ verdict_of-request table setup journal e.worker e.ask request in
+pub request_permit : (setup : Settings) (journal : List Event) (e : Event) → IsNext setup journal e → came_by_frame e.ask ≡ true → is_permit e.decision ≡ true → request_verdict setup journal e.session e.ask ≡ Permit (value_of e.decision)
+request_permit setup journal e next request permit =
+    let judged : e.decision ≡ request_verdict setup journal (open_session_of journal e.worker) e.ask = next_decision setup journal e next (permit_kept e.decision permit) ∙ verdict_of-request setup journal e.worker e.ask request in
     let own : e.session ≡ open_session_of journal e.worker = next_session setup journal e next ∙ session_of-other journal e.worker e.ask e.decision (no_begin e.ask request) in
-    ap (λ s. request_verdict table setup journal s e.ask) own ∙ sym judged ∙ permit_value e.decision permit
+    ap (λ s. request_verdict setup journal s e.ask) own ∙ sym judged ∙ permit_value e.decision permit
 
 no_decoy_permit : (b : Bool) (passwords : List ℕ) (value : ℕ) (d : Decision) → cond b (decoy_verdict passwords) d ≡ Permit value → d ≡ Permit value
 no_decoy_permit false passwords value d h = h
@@ -104,24 +103,24 @@ no_decoy_permit true passwords value d h =
     let deny : Deny 16 0 ≡ Permit value = (permit_from (eqb (length passwords) 0) 14 0 value (Deny 16 0) h).1 in
     absurd cc
 
-reply_judged : (table : Phase → Kind → Row) (setup : Settings) (journal : List Event) (session : ℕ) (ask : Ask) (value : ℕ) → is_reply ask ≡ true → request_verdict table setup journal session ask ≡ Permit value → (user : Name) × (challenged_user journal session ≡ Some user) × Accepted setup journal session user value
+reply_judged : (setup : Settings) (journal : List Event) (session : ℕ) (ask : Ask) (value : ℕ) → is_reply ask ≡ true → request_verdict setup journal session ask ≡ Permit value → (user : Name) × (challenged_user journal session ≡ Some user) × Accepted setup journal session user value
 unfolding kind_verdict reply_verdict
-reply_judged table setup journal session (asks.Reply words hex) value is h =
+reply_judged setup journal session (asks.Reply words hex) value is h =
     let a = permit_from (eqb session 0 || is_over journal session) 6 3 value _ h in
     let b = permit_from (eqb (ask_count journal session) setup.requests) 1 setup.requests value _ a.1 in
-    let r = row_permit setup journal session kinds.Reply (asks.Reply words hex) (table (phase_of journal session) kinds.Reply) value b.1 in
+    let r = row_permit setup journal session kinds.Reply (asks.Reply words hex) (table_row (phase_of journal session) kinds.Reply) value b.1 in
     login_permit setup journal session (readings words hex) (challenged_user journal session) value (no_decoy_permit (was_decoyed journal session) (readings words hex) value _ r.1)
-reply_judged table setup journal session _ value is h = absurd cc
+reply_judged setup journal session _ value is h = absurd cc
 
 request_reply : (ask : Ask) → is_reply ask ≡ true → came_by_frame ask ≡ true
 request_reply (asks.Reply words hex) h = refl
 request_reply _ h = absurd cc
 
 -- a permitted REPLY of a legal journal
-pub accepted_reply : {table : Phase → Kind → Row} (setup : Settings) (journal : List Event) (e : Event) → IsNextBy table setup journal e → accepts e ≡ true → (user : Name) × (challenged_user journal e.session ≡ Some user) × Accepted setup journal e.session user (value_of e.decision)
-accepted_reply {table} setup journal e next h =
+pub accepted_reply : (setup : Settings) (journal : List Event) (e : Event) → IsNext setup journal e → accepts e ≡ true → (user : Name) × (challenged_user journal e.session ≡ Some user) × Accepted setup journal e.session user (value_of e.decision)
+accepted_reply setup journal e next h =
     let is = and_parts (is_reply e.ask) (is_permit e.decision) h in
-    reply_judged table setup journal e.session e.ask (value_of e.decision) is.0 (request_permit setup journal e next (request_reply e.ask is.0) is.1)
+    reply_judged setup journal e.session e.ask (value_of e.decision) is.0 (request_permit setup journal e next (request_reply e.ask is.0) is.1)
 
 -- a CHALLENGE for a user reserves the user where the account is enabled and its sequence isn't 0, and its value is one less
 pub record Taken (setup : Settings) (journal : List Event) (user : Name) (number : ℕ) : Type 0 where
@@ -158,65 +157,65 @@ record Judged (setup : Settings) (journal : List Event) (session : ℕ) (user : 
   pub now : ℕ
   pub judged : account_verdict setup journal session user now (account_of setup user) ≡ Permit value
 
-challenge_judged : (table : Phase → Kind → Row) (setup : Settings) (journal : List Event) (session : ℕ) (ask : Ask) (user : Name) (value : ℕ) → is_challenge_for user ask ≡ true → request_verdict table setup journal session ask ≡ Permit value → Judged setup journal session user value
+challenge_judged : (setup : Settings) (journal : List Event) (session : ℕ) (ask : Ask) (user : Name) (value : ℕ) → is_challenge_for user ask ≡ true → request_verdict setup journal session ask ≡ Permit value → Judged setup journal session user value
 unfolding kind_verdict challenge_verdict
-challenge_judged table setup journal session (asks.Challenge name now) user value is h =
+challenge_judged setup journal session (asks.Challenge name now) user value is h =
     let a = permit_from (eqb session 0 || is_over journal session) 6 2 value _ h in
     let b = permit_from (eqb (ask_count journal session) setup.requests) 1 setup.requests value _ a.1 in
-    let r = row_permit setup journal session kinds.Challenge (asks.Challenge name now) (table (phase_of journal session) kinds.Challenge) value b.1 in
+    let r = row_permit setup journal session kinds.Challenge (asks.Challenge name now) (table_row (phase_of journal session) kinds.Challenge) value b.1 in
     let c = permit_from (nat_le setup.tries (count_of journal session is_denied_reply)) 8 setup.tries value _ r.1 in
     subst (λ u. Judged setup journal session u value) (same_from_same_name name user is) (record { now = now; judged = c.1 })
-challenge_judged table setup journal session _ user value is h = absurd cc
+challenge_judged setup journal session _ user value is h = absurd cc
 
 request_challenge : (user : Name) (ask : Ask) → is_challenge_for user ask ≡ true → came_by_frame ask ≡ true
 request_challenge user (asks.Challenge name now) h = refl
 request_challenge user _ h = absurd cc
 
-permitted_challenge : {table : Phase → Kind → Row} (setup : Settings) (journal : List Event) (e : Event) (user : Name) → IsNextBy table setup journal e → takes_user user e ≡ true → Judged setup journal e.session user (value_of e.decision)
-permitted_challenge {table} setup journal e user next h =
+permitted_challenge : (setup : Settings) (journal : List Event) (e : Event) (user : Name) → IsNext setup journal e → takes_user user e ≡ true → Judged setup journal e.session user (value_of e.decision)
+permitted_challenge setup journal e user next h =
     let is = and_parts (is_challenge_for user e.ask) (is_permit e.decision) h in
-    challenge_judged table setup journal e.session e.ask user (value_of e.decision) is.0 (request_permit setup journal e next (request_challenge user e.ask is.0) is.1)
+    challenge_judged setup journal e.session e.ask user (value_of e.decision) is.0 (request_permit setup journal e next (request_challenge user e.ask is.0) is.1)
 
 -- a permitted CHALLENGE of a legal journal that isn't a decoy
-pub taken_challenge : {table : Phase → Kind → Row} (setup : Settings) (journal : List Event) (e : Event) (user : Name) → IsNextBy table setup journal e → reserves user e ≡ true → Taken setup journal user (value_of e.decision)
-taken_challenge {table} setup journal e user next h =
+pub taken_challenge : (setup : Settings) (journal : List Event) (e : Event) (user : Name) → IsNext setup journal e → reserves user e ≡ true → Taken setup journal user (value_of e.decision)
+taken_challenge setup journal e user next h =
     let is = and_parts (takes_user user e) (nat_lt (value_of e.decision) decoys_from) h in
     let j = permitted_challenge setup journal e user next is.0 in
     account_permit setup journal e.session user j.now (value_of e.decision) (account_of setup user) refl j.judged is.1
 
 -- a permitted CHALLENGE of a legal journal for a user that can log in
-pub live_challenge : {table : Phase → Kind → Row} (setup : Settings) (journal : List Event) (e : Event) (user : Name) (account : Account) → IsNextBy table setup journal e → takes_user user e ≡ true → account_of setup user ≡ Some account → is_live journal account ≡ true → value_of e.decision ≡ current_sequence journal account - 1
-live_challenge {table} setup journal e user account next h found live =
+pub live_challenge : (setup : Settings) (journal : List Event) (e : Event) (user : Name) (account : Account) → IsNext setup journal e → takes_user user e ≡ true → account_of setup user ≡ Some account → is_live journal account ≡ true → value_of e.decision ≡ current_sequence journal account - 1
+live_challenge setup journal e user account next h found live =
     let j = permitted_challenge setup journal e user next h in
     live_value setup journal e.session user j.now (value_of e.decision) account live (ap (account_verdict setup journal e.session user j.now) (sym found) ∙ j.judged)
 
-export_judged : (table : Phase → Kind → Row) (setup : Settings) (journal : List Event) (session : ℕ) (ask : Ask) (value : ℕ) → is_export ask ≡ true → request_verdict table setup journal session ask ≡ Permit value → ((table (phase_of journal session) kinds.Export).permitted ≡ true) × (value ≡ number_named setup (verified_user journal session))
+export_judged : (setup : Settings) (journal : List Event) (session : ℕ) (ask : Ask) (value : ℕ) → is_export ask ≡ true → request_verdict setup journal session ask ≡ Permit value → ((table_row (phase_of journal session) kinds.Export).permitted ≡ true) × (value ≡ number_named setup (verified_user journal session))
 unfolding kind_verdict
-export_judged table setup journal session (asks.Export len) value is h =
+export_judged setup journal session (asks.Export len) value is h =
     let a = permit_from (eqb session 0 || is_over journal session) 6 5 value _ h in
     let b = permit_from (eqb (ask_count journal session) setup.requests) 1 setup.requests value _ a.1 in
-    let r = row_permit setup journal session kinds.Export (asks.Export len) (table (phase_of journal session) kinds.Export) value b.1 in
+    let r = row_permit setup journal session kinds.Export (asks.Export len) (table_row (phase_of journal session) kinds.Export) value b.1 in
     let permit : Permit (number_named setup (verified_user journal session)) ≡ Permit value = r.1 in
     (r.0, cc)
-export_judged table setup journal session _ value is h = absurd cc
+export_judged setup journal session _ value is h = absurd cc
 
 request_export : (ask : Ask) → is_export ask ≡ true → came_by_frame ask ≡ true
 request_export (asks.Export len) h = refl
 request_export _ h = absurd cc
 
 -- a permitted EXPORT of a legal journal
-pub permitted_export : {table : Phase → Kind → Row} (setup : Settings) (journal : List Event) (e : Event) → IsNextBy table setup journal e → exports e ≡ true → ((table (phase_of journal e.session) kinds.Export).permitted ≡ true) × (value_of e.decision ≡ number_named setup (verified_user journal e.session))
-permitted_export {table} setup journal e next h =
+pub permitted_export : (setup : Settings) (journal : List Event) (e : Event) → IsNext setup journal e → exports e ≡ true → ((table_row (phase_of journal e.session) kinds.Export).permitted ≡ true) × (value_of e.decision ≡ number_named setup (verified_user journal e.session))
+permitted_export setup journal e next h =
     let is = and_parts (is_export e.ask) (is_permit e.decision) h in
-    export_judged table setup journal e.session e.ask (value_of e.decision) is.0 (request_permit setup journal e next (request_export e.ask is.0) is.1)
+    export_judged setup journal e.session e.ask (value_of e.decision) is.0 (request_permit setup journal e next (request_export e.ask is.0) is.1)
 
 -- the account that is found by a name has that name
 pub found_name : (setup : Settings) (user : Name) (account : Account) → account_of setup user ≡ Some account → account.name ≡ user
 found_name setup user account found = same_from_same_name account.name user (find_passes (λ a. same_name a.name user) setup.accounts account found)
 
 -- a permitted REPLY for a user, in a legal journal
-pub new_reply : {table : Phase → Kind → Row} (setup : Settings) (journal : List Event) (e : Event) (user : Name) (password : ℕ) → IsNextBy table setup journal e → reply_for user (record { before = journal; event = e }) ≡ Some password → Accepted setup journal e.session user password
-new_reply {table} setup journal e user password next h = go (accepts e && is_user user (challenged_user journal e.session)) refl h where
+pub new_reply : (setup : Settings) (journal : List Event) (e : Event) (user : Name) (password : ℕ) → IsNext setup journal e → reply_for user (record { before = journal; event = e }) ≡ Some password → Accepted setup journal e.session user password
+new_reply setup journal e user password next h = go (accepts e && is_user user (challenged_user journal e.session)) refl h where
   go : (b : Bool) → (accepts e && is_user user (challenged_user journal e.session)) ≡ b → cond b (Some (value_of e.decision)) None ≡ Some password → Accepted setup journal e.session user password
   go false is h = absurd cc
   go true is h =

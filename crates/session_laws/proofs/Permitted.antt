@@ -12,10 +12,9 @@ use Rattle.policy_model.specs.declared.event.Decision.TheVariants.{Permit, Deny,
 use Rattle.policy_model.specs.declared.event.Event.{Event}
 use Rattle.policy_model.specs.declared.phase.Phase.{Phase}
 use Rattle.policy_model.specs.declared.phase.Phase.TheVariants.{Pre, Challenged, Verified, User, Over}
-use Rattle.policy_model.specs.declared.phase.Row.{Row}
 use Rattle.policy_model.specs.Asks.{accepts, challenge_name, came_by_frame, decoys_from, ends_session, exports, gives_up, is_challenge_for, is_export, is_login_step, is_permit, is_reply, kind_of, opens, request_number, reserves, takes, takes_user, value_of}
 use Rattle.policy_model.specs.Journal.{ask_count}
-use Rattle.policy_model.specs.Legal.{IsNext, IsNextBy}
+use Rattle.policy_model.specs.Legal.{IsNext}
 use Rattle.policy_model.specs.Phases.{is_over, phase_of, table_row}
 use Rattle.policy_model.specs.Settings.{Settings}
 use Rattle.policy_model.specs.Logins.{was_decoyed}
@@ -24,29 +23,29 @@ use Rattle.session_laws.proofs.Permits.{permit_from, request_permit, row_permit,
 
 -- 1. What every permitted request tells
 
-pub record IsLive (table : Phase → Kind → Row) (journal : List Event) (session : ℕ) (ask : Ask) : Type 0 where
+pub record IsLive (journal : List Event) (session : ℕ) (ask : Ask) : Type 0 where
   pub some : eqb session 0 ≡ false
   pub live : is_over journal session ≡ false
-  pub cell : (kind : Kind) → kind_of ask ≡ Some kind → (table (phase_of journal session) kind).permitted ≡ true
+  pub cell : (kind : Kind) → kind_of ask ≡ Some kind → (table_row (phase_of journal session) kind).permitted ≡ true
 
-cell_permitted : (table : Phase → Kind → Row) (setup : Settings) (journal : List Event) (session value : ℕ) (ask : Ask) (kind : Kind) → own_verdict table setup journal session ask ≡ Permit value → kind_of ask ≡ Some kind → (table (phase_of journal session) kind).permitted ≡ true
-cell_permitted table setup journal session value asks.Begin kind h is = absurd cc
-cell_permitted table setup journal session value (asks.Bad rule detail) kind h is = absurd cc
-cell_permitted table setup journal session value (asks.End why) kind h is = absurd cc
-cell_permitted table setup journal session value ask kind h is = go (kind_of ask) is h where
-  go : (o : Option Kind) → o ≡ Some kind → table_verdict table setup journal session ask o ≡ Permit value → (table (phase_of journal session) kind).permitted ≡ true
+cell_permitted : (setup : Settings) (journal : List Event) (session value : ℕ) (ask : Ask) (kind : Kind) → own_verdict setup journal session ask ≡ Permit value → kind_of ask ≡ Some kind → (table_row (phase_of journal session) kind).permitted ≡ true
+cell_permitted setup journal session value asks.Begin kind h is = absurd cc
+cell_permitted setup journal session value (asks.Bad rule detail) kind h is = absurd cc
+cell_permitted setup journal session value (asks.End why) kind h is = absurd cc
+cell_permitted setup journal session value ask kind h is = go (kind_of ask) is h where
+  go : (o : Option Kind) → o ≡ Some kind → table_verdict setup journal session ask o ≡ Permit value → (table_row (phase_of journal session) kind).permitted ≡ true
   go None is h = absurd cc
   go (Some k) is h =
       let same : k ≡ kind = cc in
-      subst (λ (x : Kind). (table (phase_of journal session) x).permitted ≡ true) same (row_permit setup journal session k ask (table (phase_of journal session) k) value h).0
+      subst (λ (x : Kind). (table_row (phase_of journal session) x).permitted ≡ true) same (row_permit setup journal session k ask (table_row (phase_of journal session) k) value h).0
 
-pub permitted_live : {table : Phase → Kind → Row} (setup : Settings) (journal : List Event) (e : Event) → IsNextBy table setup journal e → came_by_frame e.ask ≡ true → is_permit e.decision ≡ true → IsLive table journal e.session e.ask
-permitted_live {table} setup journal e next request permit =
+pub permitted_live : (setup : Settings) (journal : List Event) (e : Event) → IsNext setup journal e → came_by_frame e.ask ≡ true → is_permit e.decision ≡ true → IsLive journal e.session e.ask
+permitted_live setup journal e next request permit =
     let h = request_permit setup journal e next request permit in
     let a = permit_from (eqb e.session 0 || is_over journal e.session) 6 (request_number e.ask) (value_of e.decision) _ h in
     let b = permit_from (eqb (ask_count journal e.session) setup.requests) 1 setup.requests (value_of e.decision) _ a.1 in
     let n = or_parts (eqb e.session 0) (is_over journal e.session) a.0 in
-    record { some = n.0; live = n.1; cell = λ kind is. cell_permitted table setup journal e.session (value_of e.decision) e.ask kind b.1 is }
+    record { some = n.0; live = n.1; cell = λ kind is. cell_permitted setup journal e.session (value_of e.decision) e.ask kind b.1 is }
 
 -- 2. What a permitted CHALLENGE is and isn't
 
@@ -155,16 +154,16 @@ not_decoyed true passwords value d h =
     let deny : Deny 16 0 ≡ Permit value = (permit_from (eqb (length passwords) 0) 14 0 value (Deny 16 0) h).1 in
     absurd cc
 
-reply_to_user : (table : Phase → Kind → Row) (setup : Settings) (journal : List Event) (session : ℕ) (ask : Ask) (value : ℕ) → is_reply ask ≡ true → request_verdict table setup journal session ask ≡ Permit value → was_decoyed journal session ≡ false
+reply_to_user : (setup : Settings) (journal : List Event) (session : ℕ) (ask : Ask) (value : ℕ) → is_reply ask ≡ true → request_verdict setup journal session ask ≡ Permit value → was_decoyed journal session ≡ false
 unfolding kind_verdict reply_verdict
-reply_to_user table setup journal session (asks.Reply words hex) value is h =
+reply_to_user setup journal session (asks.Reply words hex) value is h =
     let a = permit_from (eqb session 0 || is_over journal session) 6 3 value _ h in
     let b = permit_from (eqb (ask_count journal session) setup.requests) 1 setup.requests value _ a.1 in
-    let r = row_permit setup journal session kinds.Reply (asks.Reply words hex) (table (phase_of journal session) kinds.Reply) value b.1 in
+    let r = row_permit setup journal session kinds.Reply (asks.Reply words hex) (table_row (phase_of journal session) kinds.Reply) value b.1 in
     not_decoyed (was_decoyed journal session) (readings words hex) value _ r.1
-reply_to_user table setup journal session _ value is h = absurd cc
+reply_to_user setup journal session _ value is h = absurd cc
 
-pub accepted_no_decoy : {table : Phase → Kind → Row} (setup : Settings) (journal : List Event) (e : Event) → IsNextBy table setup journal e → accepts e ≡ true → was_decoyed journal e.session ≡ false
-accepted_no_decoy {table} setup journal e next h =
+pub accepted_no_decoy : (setup : Settings) (journal : List Event) (e : Event) → IsNext setup journal e → accepts e ≡ true → was_decoyed journal e.session ≡ false
+accepted_no_decoy setup journal e next h =
     let is = and_parts (is_reply e.ask) (is_permit e.decision) h in
-    reply_to_user table setup journal e.session e.ask (value_of e.decision) is.0 (request_permit setup journal e next (reply_kind e.ask is.0).0 is.1)
+    reply_to_user setup journal e.session e.ask (value_of e.decision) is.0 (request_permit setup journal e next (reply_kind e.ask is.0).0 is.1)

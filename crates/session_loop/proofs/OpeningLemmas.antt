@@ -1,5 +1,5 @@
 -- A session from its opening to its end.
-use Rattle.std.proofs.Common.{◌≡◌, ◌≢◌, ℕ, ◌+◌, ◌<◌, ◌≤◌, Bool, true, false, ◌||◌, List, [], ◌∷◌, ◌++◌, map, Option, Some, None, Result, Ok, Err, refl, sym, ap, subst, ◌∙◌, append-nil, inr, arith}
+use Rattle.std.proofs.Common.{◌≡◌, ◌≢◌, ℕ, ◌+◌, ◌<◌, ◌≤◌, Bool, true, false, ◌||◌, List, [], ◌∷◌, ◌++◌, map, Option, Some, None, Ok, Err, refl, sym, ap, subst, ◌∙◌, inr, arith}
 use Rattle.std.specs.Prelude.{find}
 use Rattle.std.specs.List.{AllByRecursion, flat_map}
 use Rattle.outside.specs.declared.act.Act.{Act}
@@ -19,11 +19,10 @@ use Rattle.policy_model.specs.declared.event.Why.{Why}
 use Rattle.policy_model.specs.declared.event.Why.TheVariants as whys
 use Rattle.policy_model.specs.Asks.{exports, handle_of, is_lost, is_permit}
 use Rattle.policy_model.specs.Journal.{ask_count, has_event, openings_of}
-use Rattle.policy_model.specs.Phases.{table_row}
 use Rattle.policy_model.specs.Runs.{IsIdle, IsRun, IsServing}
 use Rattle.policy_model.specs.Settings.{Settings}
-use Rattle.policy_model.specs.Verdict.{verdict_by}
-use Rattle.policy_model.proofs.Runs.{OpensBy, begins, has_lost-now, idle_open, next_decision, next_session}
+use Rattle.policy_model.specs.Verdict.{verdict_of}
+use Rattle.policy_model.proofs.Runs.{Opens as OpensServing, begins, has_lost-now, idle_open, next_decision, next_session}
 use Rattle.policy_model.proofs.Verdicts.{session_of-begin, verdict_of-begin}
 use Rattle.session_laws.proofs.HandleLaws.{no_handles_before}
 use Rattle.session_laws.proofs.SessionEvents.{has_event-new, has_event-own}
@@ -101,7 +100,7 @@ idle_before setup worker a b e joins idle = subst (IsIdle joins.before) (sym joi
 -- the opening of an idle worker that isn't lost is permitted
 permitted : (setup : Settings) (worker : ℕ) (a b : List Event) (e : Event) → (joins : Joins setup worker asks.Begin a b e) → IsIdle a worker → is_lost e.decision ≡ false → e.decision ≡ decisions.Permit (openings_of joins.before + 1)
 permitted setup worker a b e joins idle kept =
-    next_decision setup joins.before e joins.next kept ∙ ap (verdict_by table_row setup joins.before e.worker) joins.asks ∙ verdict_of-begin table_row setup joins.before e.worker (idle_open setup joins.before e joins.next (idle_before setup worker a b e joins idle) kept)
+    next_decision setup joins.before e joins.next kept ∙ ap (verdict_of setup joins.before e.worker) joins.asks ∙ verdict_of-begin setup joins.before e.worker (idle_open setup joins.before e joins.next (idle_before setup worker a b e joins idle) kept)
 
 -- a session that was opened, with all that followed
 sitting_opened : (service : Service) (worker value : ℕ) (why : Why) (a b c : List Event) (e : Event) (s v : Option Scene) → Joins service.setup worker asks.Begin a b e → e.decision ≡ decisions.Permit value → HasRest service e.session worker why b c s v → HasSitting service worker why a c s v
@@ -171,7 +170,7 @@ opens service rights_old rights_new a b e may joins kept =
     let before = joins.before in
     let worker = rights_old.worker in
     let now : IsRun setup (before ++ e ∷ []) = subst (IsRun setup) joins.grown joins.run in
-    let begun : is_lost e.decision ≡ false → OpensBy table_row setup before e = λ well. begins setup before e joins.others.run joins.next joins.asks (event_at setup before e [] now).below well (idle_open setup before e joins.next (idle_before setup worker a b e joins may.idle) well) in
+    let begun : is_lost e.decision ≡ false → OpensServing setup before e = λ well. begins setup before e joins.others.run joins.next joins.asks (event_at setup before e [] now).below well (idle_open setup before e joins.next (idle_before setup worker a b e joins may.idle) well) in
     let number : is_lost e.decision ≡ false → e.session ≡ openings_of before + 1 = λ well. next_session setup before e joins.next ∙ ap (λ ask. Rattle.policy_model.specs.Legal.session_of before e.worker ask e.decision) joins.asks ∙ ap (Rattle.policy_model.specs.Legal.session_of before e.worker asks.Begin) (permitted setup worker a b e joins may.idle well) ∙ session_of-begin before e.worker (openings_of before + 1) in
     let count : is_lost e.decision ≡ false → ask_count b e.session ≡ 0 = λ well. ap (λ j. ask_count j e.session) joins.grown ∙ (begun well).asks in
     record {

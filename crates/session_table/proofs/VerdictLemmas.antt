@@ -126,7 +126,7 @@ cell_decides setup row journal session ask kind r =
       same true true false = refl
       same true false b = refl
 
-own_decides : (setup : Settings) (row : SessionRow) (journal : List Event) (session : ℕ) (ask : Ask) → RowStands setup row journal session → came_by_frame ask ≡ true → unwrap_or (own_refusal row ask) (kind_verdict setup journal session ask) ≡ own_verdict table_row setup journal session ask
+own_decides : (setup : Settings) (row : SessionRow) (journal : List Event) (session : ℕ) (ask : Ask) → RowStands setup row journal session → came_by_frame ask ≡ true → unwrap_or (own_refusal row ask) (kind_verdict setup journal session ask) ≡ own_verdict setup journal session ask
 own_decides setup row journal session asks.Begin r by = absurd cc
 own_decides setup row journal session (asks.End why) r by = absurd cc
 own_decides setup row journal session (asks.Bad rule detail) r by = refl
@@ -144,7 +144,7 @@ own_decides setup row journal session (asks.Info number) r by = cell_decides set
 own_decides setup row journal session (asks.Note text) r by = cell_decides setup row journal session (asks.Note text) _ r
 own_decides setup row journal session asks.Finish r by = cell_decides setup row journal session asks.Finish _ r
 
-pub refusal_decides : (setup : Settings) (row : SessionRow) (journal : List Event) (session : ℕ) (ask : Ask) → RowStands setup row journal session → session ≢ 0 → came_by_frame ask ≡ true → unwrap_or (refusal_of row setup.requests ask) (kind_verdict setup journal session ask) ≡ request_verdict table_row setup journal session ask
+pub refusal_decides : (setup : Settings) (row : SessionRow) (journal : List Event) (session : ℕ) (ask : Ask) → RowStands setup row journal session → session ≢ 0 → came_by_frame ask ≡ true → unwrap_or (refusal_of row setup.requests ask) (kind_verdict setup journal session ask) ≡ request_verdict setup journal session ask
 refusal_decides setup row journal session ask r some by =
     let zero : eqb session 0 ≡ false = grind (arith, nat_tests, some) in
     steps (is_over_phase row.phase) (eqb row.asked setup.requests) (own_refusal row ask)
@@ -152,7 +152,7 @@ refusal_decides setup row journal session ask r some by =
     ∙ ap (λ b. cond b (Deny not_in_phase (request_number ask)) (cond (eqb row.asked setup.requests) (Deny asks_spent setup.requests) (unwrap_or (own_refusal row ask) (kind_verdict setup journal session ask)))) (over_is journal session)
     ∙ ap (λ n. cond (is_over journal session) (Deny not_in_phase (request_number ask)) (cond (eqb n setup.requests) (Deny asks_spent setup.requests) (unwrap_or (own_refusal row ask) (kind_verdict setup journal session ask)))) r.asked
     ∙ ap (λ d. cond (is_over journal session) (Deny not_in_phase (request_number ask)) (cond (eqb (ask_count journal session) setup.requests) (Deny asks_spent setup.requests) d)) (own_decides setup row journal session ask r by)
-    ∙ sym (ap (λ z. cond (z || is_over journal session) (Deny not_in_phase (request_number ask)) (cond (eqb (ask_count journal session) setup.requests) (Deny asks_spent setup.requests) (own_verdict table_row setup journal session ask))) zero) where
+    ∙ sym (ap (λ z. cond (z || is_over journal session) (Deny not_in_phase (request_number ask)) (cond (eqb (ask_count journal session) setup.requests) (Deny asks_spent setup.requests) (own_verdict setup journal session ask))) zero) where
       steps : (o a : Bool) (own : Option Decision) → unwrap_or (cond o (Some (Deny not_in_phase (request_number ask))) (cond a (Some (Deny asks_spent setup.requests)) own)) (kind_verdict setup journal session ask) ≡ cond o (Deny not_in_phase (request_number ask)) (cond a (Deny asks_spent setup.requests) (unwrap_or own (kind_verdict setup journal session ask)))
       steps true a own = refl
       steps false true own = refl

@@ -44,7 +44,7 @@ refusal_of row requests ask =
 
 -- for each journal that the row stands for, what isn't refused so is decided by the rules of the request's kind
 pub record IsRefusal (row : SessionRow) (requests : ℕ) (ask : Ask) (refusal : Option Decision) : Type 0 where
-  pub by_journal : (setup : Settings) (journal : List Event) (session : ℕ) → RowStands setup row journal session → session ≢ 0 → setup.requests ≡ requests → came_by_frame ask ≡ true → request_verdict table_row setup journal session ask ≡ unwrap_or refusal (kind_verdict setup journal session ask)
+  pub by_journal : (setup : Settings) (journal : List Event) (session : ℕ) → RowStands setup row journal session → session ≢ 0 → setup.requests ≡ requests → came_by_frame ask ≡ true → request_verdict setup journal session ask ≡ unwrap_or refusal (kind_verdict setup journal session ask)
 
 -- a decision on an OPEN is the policy's, where these are the files and the grants of a row that is logged in
 pub record IsOpenVerdict (live : List LiveHandle) (grants : List Grant) (mode : ℕ) (name : Label) (decision : Decision) : Type 0 where

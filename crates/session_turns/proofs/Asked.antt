@@ -6,10 +6,9 @@ use Rattle.policy_model.specs.declared.event.Decision.{Decision}
 use Rattle.policy_model.specs.declared.event.Decision.TheVariants.{Permit, Deny, Lost}
 use Rattle.policy_model.specs.declared.event.Event.{Event}
 use Rattle.policy_model.specs.Asks.{is_lost}
-use Rattle.policy_model.specs.Phases.{table_row}
 use Rattle.policy_model.specs.Runs.{IsRun}
 use Rattle.policy_model.specs.Settings.{Settings}
-use Rattle.policy_model.specs.Verdict.{NamesRule, verdict_by}
+use Rattle.policy_model.specs.Verdict.{NamesRule, verdict_of}
 use Rattle.policy_model.proofs.Runs.{next_decision}
 use Rattle.policy_model.proofs.Verdicts.{named, verdict_of-is}
 use Rattle.turn_cell.specs.Facts.{EndsWith, StartsWith}
@@ -62,7 +61,7 @@ names_rule : (setup : Settings) (before : List Event) (e : Event) → IsEventOf 
 names_rule setup before e is = go (is_lost e.decision) refl where
   go : (b : Bool) → is_lost e.decision ≡ b → NamesRule e.decision
   go true h = lost_names e.decision h
-  go false h = subst NamesRule (sym (next_decision setup before e is.next h)) (named (verdict_by table_row setup before e.worker e.ask) (verdict_of-is table_row setup before e.worker e.ask is.proper))
+  go false h = subst NamesRule (sym (next_decision setup before e is.next h)) (named (verdict_of setup before e.worker e.ask) (verdict_of-is setup before e.worker e.ask is.proper))
 
 -- the event of a call joined the journal
 pub joins : (setup : Settings) (worker : ℕ) (ask : Ask) (old new mine : List Event) (e : Event) → IsRun setup old → IsRun setup new → StartsWith new old → EndsWith new e → own worker old ≡ mine → own worker new ≡ mine ++ e ∷ [] → e.worker ≡ worker → e.ask ≡ ask → Joins setup worker ask old new e
