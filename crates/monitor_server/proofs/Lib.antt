@@ -1,4 +1,3 @@
 pub mod Apart
 pub mod Told
-pub mod Served
 pub mod Whole

@@ -23,10 +23,8 @@ use Rattle.renew_mode.specs.Errors as renews
 use Rattle.renew_mode.specs.Outcome.{Spares}
 use Rattle.serve_mode.specs.declared.error.ServeError.TheVariants as serve_errors
 use Rattle.serve_mode.specs.Errors as serves
-use Rattle.serve_mode.specs.Headline.{is_run_status, serve_statuses}
-use Rattle.serve_mode.specs.Services.{plain_service}
 use Rattle.serve_mode.specs.Words.{Plain, Source, serve_command}
-use Rattle.serve_mode.proofs.Promises.{unserved_causes, unserved_promises}
+use Rattle.serve_mode.proofs.Promises.{not_served_tells, unserved_ended}
 use Rattle.monitor_server.specs.declared.report.Detail.{Detail}
 use Rattle.monitor_server.specs.declared.report.Detail.TheVariants.{Nothing}
 use Rattle.monitor_server.specs.Commands.{IsCommand, asks_audit, asks_check, asks_child, asks_otp, asks_renew, asks_serve}
@@ -252,16 +250,10 @@ module _ {F S E K P : Type 0} {words : List (List ℕ)} {forms : List Key} {stat
     unremembered_serve source is =
         let logs = subst (λ h. Gains held_old [] h) (sym held) (Gains-none held_old) in
         let placed = subst (λ l. Gains listens_old [] l) (sym listens) (Gains-none listens_old) in
-        let not_run : is_run_status status ≡ false = ap is_run_status is in
         record {
           end = Err serve_errors.OutOfMemory;
           status_is = is;
           detail_is = plain;
-          unread = λ error e. absurd cc;
-          causes = unserved_causes source (plain_service forms) status journal posts scene faults unused.events unused.workers ReadRose ListenRose LogRose ReplaceRose (subst (λ n. list_any (λ s. s == n) serve_statuses ≡ true) (sym is) refl) not_run (λ e. absurd (omega (arith, is, e))) (λ e. absurd (omega (arith, is, e)));
-          served = inl unused.workers;
-          promises = λ service _. unserved_promises source service status journal posts scene faults unused.events unused.workers old new listens_old listens_new held_old held_new ReadRose ReplaceRose ListenRose LogRose not_run goes placed logs (λ _. is);
-          unlogged = λ _. logs;
-          unlistened = λ _. placed;
-          unchanged = λ _. goes;
+          ended = unserved_ended source forms serve_errors.OutOfMemory (Err serve_errors.OutOfMemory) journal posts scene faults old new listens_old listens_new held_old held_new ReadRose ReplaceRose ListenRose LogRose
+              refl (not_served_tells serve_errors.OutOfMemory ReadRose ListenRose (inl refl)).tells (λ _ _ _ _. refl) (λ other e. absurd cc) unused.events unused.workers goes placed logs;
         }

@@ -6,16 +6,13 @@ use Rattle.outside.specs.declared.place.Place.{Place as SitePlace}
 use Rattle.outside.specs.Files.{Contents, SameFiles}
 use Rattle.outside.specs.Link.{Link}
 use Rattle.outside.specs.Scene.{Scene}
-use Rattle.outside.specs.Told.{Gains, Goes}
+use Rattle.outside.specs.Told.{Goes}
 use Rattle.policy_model.specs.declared.event.Event.{Event}
-use Rattle.service_model.specs.Service.{Service}
-use Rattle.service_reading.specs.declared.error.ServiceError.{ServiceError}
 use Rattle.service_reading.specs.declared.error.ServiceError.TheVariants as service_errors
 use Rattle.serve_mode.specs.declared.error.ServeError.{ServeError}
 use Rattle.serve_mode.specs.declared.error.ServeError.TheVariants as serve_errors
 use Rattle.serve_mode.specs.Errors as serves
-use Rattle.serve_mode.specs.Headline.{ServeHasCause, ServePromises}
-use Rattle.serve_mode.specs.Services.{IsServiceOf}
+use Rattle.serve_mode.specs.Headline.{ServeEnded}
 use Rattle.serve_mode.specs.Words.{Plain, Source}
 use Rattle.otp_mode.specs.declared.fault.OtpFault.{OtpFault}
 use Rattle.otp_mode.specs.declared.fault.OtpFault.TheVariants as faults
@@ -57,20 +54,12 @@ serve_detail (Err (serve_errors.Unread service_errors.WordsMissing)) = Missing W
 serve_detail (Err (serve_errors.Unread (service_errors.WordsRefused fault))) = WordsBad fault
 serve_detail _ = Nothing
 
--- the mode `serve` came to an end that is told by status and detail, with its causes; where somebody was served, the promises hold of
--- the service that was served by; where the files tell, they hold of the one that these spell; and where nobody was served, neither
--- the log nor a file changed, and the site didn't listen
+-- the mode `serve` came to an end that is told by status and detail
 pub record ServeRan {P : Type 0} (source : Source) (forms : List Key) (status : ℕ) (detail : Detail) (journal : List Event) (posts : List P) (scene : P → Option Scene) (faults : P → Faults) (old new : Option Contents) (listens_old listens_new : Option (List SitePlace)) (held_old held_new : Option (List ℕ)) (ReadRose ReplaceRose ListenRose LogRose : Type 0) : Type 0 where
   pub end : Result (Unit {0}) ServeError
   pub status_is : status ≡ serves.status_of end
   pub detail_is : detail ≡ serve_detail end
-  pub unread : (error : ServiceError) → end ≡ Err (serve_errors.Unread error) → serves.IsUnread source forms new ReadRose error
-  pub causes : ServeHasCause status journal posts scene faults ReadRose ListenRose LogRose ReplaceRose
-  pub served : (posts ≡ []) ⊎ ((service : Service) × ServePromises source service status journal posts scene faults old new listens_old listens_new held_old held_new ReadRose ReplaceRose ListenRose LogRose)
-  pub promises : (service : Service) → IsServiceOf source forms old new service → ServePromises source service status journal posts scene faults old new listens_old listens_new held_old held_new ReadRose ReplaceRose ListenRose LogRose
-  pub unlogged : posts ≡ [] → Gains held_old [] held_new
-  pub unlistened : posts ≡ [] → Gains listens_old [] listens_new
-  pub unchanged : posts ≡ [] → Goes SameFiles old new
+  pub ended : ServeEnded source forms end journal posts scene faults old new listens_old listens_new held_old held_new ReadRose ReplaceRose ListenRose LogRose
 
 -- where the words are those of the mode `serve`, it ran
 pub record ServeMode {P : Type 0} (words : List (List ℕ)) (forms : List Key) (status : ℕ) (detail : Detail) (journal : List Event) (posts : List P) (scene : P → Option Scene) (faults : P → Faults) (old new : Option Contents) (listens_old listens_new : Option (List SitePlace)) (held_old held_new : Option (List ℕ)) (ReadRose ReplaceRose ListenRose LogRose : Type 0) : Type 0 where

@@ -1,12 +1,11 @@
-ghost use Rattle.std.specs.Prelude.{◌≡◌, ◌<◌, ◌≤◌, [], All, IfOk, length};
-ghost use Rattle.info_hooks.specs.Texts.{info_bytes};
+ghost use Rattle.std.specs.Prelude.{◌<◌, ◌≤◌, All, IfOk, length};
 ghost use Rattle.outside.specs.MemPost.{faults_of, scene_of};
 ghost use Rattle.outside.specs.Scene.{IsFresh};
 
 use super::{Detail, FileKind, Report, otplogd};
 use account_file::{SetupFault, SetupKey, SetupRule};
 use audit_check::AuditWhy;
-use info_hooks::{Card, Form, Hook, Hooks, InfoText};
+use info_hooks::Hooks;
 use otp_words::{DictFault, DictRule};
 use outside::{
     Accepted, Act, Bytes, MemFiles, MemPost, MemSink, MemSite, MemStream, Role, Script, Word,
@@ -46,19 +45,9 @@ fn post(alloc: Global, pre: &[u8], cuts: &[usize]) -> Result<MemPost, AllocError
     MemPost::new(alloc, vec![in alloc; script]?, cuts, &[0], 100, &[])
 }
 
-/// Says nothing.
-fn say_nothing(_card: &Card) -> InfoText
-    ensures { info_bytes result ≡ [] }
-{
-    InfoText::of(b"")
-}
-
-/// One hook, of number 1, that says nothing.
-#[tactic(auto, unfolding(info_hooks::specs::Said::said))]
-fn one_hook(alloc: Global) -> Result<Hooks, Fault> {
-    let mut list = Vec::new(alloc);
-    list.push(Hook::new(1, Form::of(&[]), say_nothing))?;
-    Ok(Hooks::new(list).ok().ok_or("hooks")?)
+/// No information.
+fn no_hooks(alloc: Global) -> Result<Hooks, Fault> {
+    Ok(Hooks::new(Vec::new(alloc)).ok().ok_or("hooks")?)
 }
 
 /// A run of `serve` with one such post.
@@ -101,7 +90,7 @@ fn sent_to_child(report: &Report<MemPost, MemSink>) -> Option<&[u8]> {
 #[test]
 fn the_smallest_run_succeeds(rt: HostRuntime) -> Result<(), Fault> {
     let alloc = rt.alloc();
-    let hooks = one_hook(alloc)?;
+    let hooks = no_hooks(alloc)?;
     let acts = vec![in alloc;
         Act::Accept {
             outcome: Accepted::Came
@@ -351,7 +340,7 @@ fn run_unserved<R: Threads + Wait + Sync>(
 
 #[test]
 fn other_words_serve_nobody(rt: HostRuntime) -> Result<(), Fault> {
-    let hooks = one_hook(rt.alloc())?;
+    let hooks = no_hooks(rt.alloc())?;
     for row in &UNSERVED {
         let (status, detail, sent, posts) = run_unserved(&rt, rt.alloc(), row, &hooks)?;
         assert_eq!(rt; status, row.status, "{}", row.line);
@@ -395,7 +384,7 @@ fn words_that_are_no_command(rt: HostRuntime) -> Result<(), Fault> {
     let alloc = rt.alloc();
     let mut files = MemFiles::new(alloc, &[], &[])?;
     let mut ends = MemStream::new(alloc, PHRASE, &[100], &[])?;
-    let hooks = one_hook(alloc)?;
+    let hooks = no_hooks(alloc)?;
     let mut site: MemSite<MemPost> = MemSite::new(alloc, Vec::new(alloc))?;
     for line in NO_COMMANDS.split('\n') {
         let words = words_of(alloc, line)?;

@@ -27,10 +27,10 @@ use Rattle.service_reading.specs.Found.{service_in}
 use Rattle.session_core.proofs.ReplayLemmas.{consequences}
 use Rattle.serve_mode.specs.declared.error.ServeError.{ServeError}
 use Rattle.serve_mode.specs.declared.error.ServeError.TheVariants as errors
-use Rattle.serve_mode.specs.Errors.{IsUnread, error_status, run_end, status_of, unread_status}
-use Rattle.serve_mode.specs.Headline.{AccountsMatch, AreAccountsWritten, ListensAt, NoFault, ServeHasCause, ServePromises, is_run_status, is_unserved_status, serve_statuses, setup_place}
-use Rattle.serve_mode.specs.Services.{IsServiceOf}
-use Rattle.serve_mode.specs.Steps.{WritesBack, WritesNamed}
+use Rattle.serve_mode.specs.Errors.{IsUnread, error_status, status_of, unread_status}
+use Rattle.serve_mode.specs.Headline.{AccountsMatch, AreAccountsWritten, ListensAt, NoFault, ServeEnded, ServeHasCause, ServePromises, is_run_status, is_unserved_status, serve_statuses, setup_place}
+use Rattle.serve_mode.specs.Services.{IsServiceOf, plain_service}
+use Rattle.serve_mode.specs.Steps.{WritesBack, WritesNamed, run_end}
 use Rattle.serve_mode.specs.Words.{Named, Plain, Source}
 use Rattle.serve_mode.proofs.Once.{service_still}
 
@@ -230,13 +230,40 @@ accounts_match : (source : Source) (setup : Settings) (ledger : LedgerParts) (en
 accounts_match Plain setup ledger end written lost failed journal old mid new ReplaceRose tells stands kept w is = same_then old mid new SameFiles same_through kept w.1
 accounts_match (Named name) setup ledger end written lost failed journal old mid new ReplaceRose tells stands kept w is = accounts_named name setup ledger end written lost failed journal old mid new ReplaceRose tells stands kept w is
 
+-- a run that was served doesn't end by what could not be read
+pub served_read : (source : Source) (setup : Settings) (ledger : LedgerParts) (old new : Option Contents) (ReplaceRose : Type 0) (written : Result (Unit {0}) ServeError) (lost failed : Bool) (error : ServiceError) → WritesBack source setup ledger old new ReplaceRose written → run_end written lost failed ≡ Err (errors.Unread error) → ⊥
+served_read source setup ledger old new ReplaceRose written lost failed error w is = at (written_end source setup ledger old new ReplaceRose written w) where
+  go : (written : Result (Unit {0}) ServeError) (lost failed : Bool) → run_end written lost failed ≡ Err (errors.Unread error) → IsWritten written → ⊥
+  go (Ok done) true failed is w = absurd cc
+  go (Ok done) false true is w = absurd cc
+  go (Ok done) false false is w = absurd cc
+  go (Err errors.OutOfMemory) lost failed is w = absurd cc
+  go (Err errors.ReplaceFailed) true failed is w = absurd cc
+  go (Err errors.ReplaceFailed) false true is w = absurd cc
+  go (Err errors.ReplaceFailed) false false is w = absurd cc
+  go (Err (errors.Unread other)) lost failed is (inl e) = absurd cc
+  go (Err (errors.Unread other)) lost failed is (inr (inl e)) = absurd cc
+  go (Err (errors.Unread other)) lost failed is (inr (inr e)) = absurd cc
+  go (Err errors.ListenFailed) lost failed is (inl e) = absurd cc
+  go (Err errors.ListenFailed) lost failed is (inr (inl e)) = absurd cc
+  go (Err errors.ListenFailed) lost failed is (inr (inr e)) = absurd cc
+  go (Err errors.LogLost) lost failed is (inl e) = absurd cc
+  go (Err errors.LogLost) lost failed is (inr (inl e)) = absurd cc
+  go (Err errors.LogLost) lost failed is (inr (inr e)) = absurd cc
+  go (Err errors.AcceptFailed) lost failed is (inl e) = absurd cc
+  go (Err errors.AcceptFailed) lost failed is (inr (inl e)) = absurd cc
+  go (Err errors.AcceptFailed) lost failed is (inr (inr e)) = absurd cc
+
+  at : IsWritten written → ⊥
+  at w = go written lost failed is w
+
 -- ---- where somebody was served
 
 module _ {P : Type 0} (source : Source) (service : Service) (ledger : LedgerParts) (written : Result (Unit {0}) ServeError) (failed : Bool) (journal : List Event) (posts : List P) (scene : P → Option Scene) (faults : P → Faults) (old mid new : Option Contents) (held_old held_new : Option (List ℕ)) (log_old log_new : ℕ) (ReadRose ReplaceRose ListenRose : Type 0) (ran : RunPromises service failed journal posts scene faults held_old held_new log_old log_new) (writes : WritesBack source service.setup ledger mid new ReplaceRose written) where
   tells : EndTells (run_end written (has_lost journal) failed) written (has_lost journal) failed
   tells = end_tells written (has_lost journal) failed (written_end source service.setup ledger mid new ReplaceRose written writes)
 
-  pub served_causes : 1 ≤ service.setup.workers → ServeHasCause (status_of (run_end written (has_lost journal) failed)) journal posts scene faults ReadRose ListenRose (Rose log_old log_new) ReplaceRose
+  served_causes : 1 ≤ service.setup.workers → ServeHasCause (status_of (run_end written (has_lost journal) failed)) journal posts scene faults ReadRose ListenRose (Rose log_old log_new) ReplaceRose
   served_causes some = record {
     listed = tells.listed;
     unserved = λ h. absurd (let f : true ≡ false = sym h ∙ tells.served in cc);
@@ -262,7 +289,7 @@ module _ {P : Type 0} (source : Source) (service : Service) (ledger : LedgerPart
     go true is = absurd (let some = ran.accept_failed is in omega (arith, some.counted, (none.each.each some.worker some.post some.stands).no_accept_fault))
     go false is = refl
 
-  pub served_promises : (listens_old listens_new : Option (List SitePlace)) → 1 ≤ service.setup.workers → StandsFor ledger (kept_events journal) → Goes SameFiles old mid → Gains listens_old (setup_place service.setup ∷ []) listens_new
+  served_promises : (listens_old listens_new : Option (List SitePlace)) → 1 ≤ service.setup.workers → StandsFor ledger (kept_events journal) → Goes SameFiles old mid → Gains listens_old (setup_place service.setup ∷ []) listens_new
       → ServePromises source service (status_of (run_end written (has_lost journal) failed)) journal posts scene faults old new listens_old listens_new held_old held_new ReadRose ReplaceRose ListenRose (Rose log_old log_new)
   served_promises listens_old listens_new some stands kept listens = record {
     legal = ran.legal;
@@ -286,6 +313,23 @@ module _ {P : Type 0} (source : Source) (service : Service) (ledger : LedgerPart
     listened [] none = absurd (omega (arith, none, some))
     listened (post ∷ posts) one_each = listens
 
+  -- all of it, under the name of the end that was handed out
+  pub served_ended : (forms : List Key) (end : Result (Unit {0}) ServeError) (listens_old listens_new : Option (List SitePlace)) → end ≡ run_end written (has_lost journal) failed → ((other : Service) → IsServiceOf source forms old new other → other ≡ service) → 1 ≤ service.setup.workers → StandsFor ledger (kept_events journal) → Goes SameFiles old mid → Gains listens_old (setup_place service.setup ∷ []) listens_new
+      → ServeEnded source forms end journal posts scene faults old new listens_old listens_new held_old held_new ReadRose ReplaceRose ListenRose (Rose log_old log_new)
+  served_ended forms end listens_old listens_new is same some stands kept listens =
+      let promises = served_promises listens_old listens_new some stands kept listens in
+      subst (λ e. ServeEnded source forms e journal posts scene faults old new listens_old listens_new held_old held_new ReadRose ReplaceRose ListenRose (Rose log_old log_new)) (sym is) (record {
+        causes = served_causes some;
+        unread = λ error e. absurd (served_read source service.setup ledger mid new ReplaceRose written (has_lost journal) failed error writes e);
+        served = inr (service, promises);
+        promises = λ other asked. subst (λ s. ServePromises source s (status_of (run_end written (has_lost journal) failed)) journal posts scene faults old new listens_old listens_new held_old held_new ReadRose ReplaceRose ListenRose (Rose log_old log_new)) (sym (same other asked)) promises;
+        unlogged = λ none. absurd (unserved none);
+        unlistened = λ none. absurd (unserved none);
+        unchanged = λ none. absurd (unserved none);
+      }) where
+        unserved : posts ≡ [] → ⊥
+        unserved none = let f : length posts ≡ 0 = ap length none in omega (arith, f, ran.one_each, some)
+
 -- ---- where nobody was served
 
 no_post : {P : Type 0} {X : Type 0} (posts : List P) (worker : ℕ) (post : P) → posts ≡ [] → slice_get posts worker ≡ Some post → X
@@ -300,7 +344,7 @@ module _ {P : Type 0} (source : Source) (service : Service) (status : ℕ) (jour
   legal : JournalIsLegal service.setup journal
   legal = subst (JournalIsLegal service.setup) (sym events) (record { legal = IsLegal-none service.setup; proper = tt; workers = tt; few = omega arith })
 
-  pub unserved_promises : (old new : Option Contents) (listens_old listens_new : Option (List SitePlace)) (held_old held_new : Option (List ℕ)) (ReadRose ReplaceRose ListenRose LogRose : Type 0)
+  unserved_promises : (old new : Option Contents) (listens_old listens_new : Option (List SitePlace)) (held_old held_new : Option (List ℕ)) (ReadRose ReplaceRose ListenRose LogRose : Type 0)
       → is_run_status status ≡ false → Goes SameFiles old new → Gains listens_old [] listens_new → Gains held_old [] held_new → (NoFault ReadRose ReplaceRose ListenRose LogRose faults posts → status ≡ 9)
       → ServePromises source service status journal posts scene faults old new listens_old listens_new held_old held_new ReadRose ReplaceRose ListenRose LogRose
   unserved_promises old new listens_old listens_new held_old held_new ReadRose ReplaceRose ListenRose LogRose not_run kept listens log nine = record {
@@ -338,7 +382,7 @@ module _ {P : Type 0} (source : Source) (service : Service) (status : ℕ) (jour
       either (inl e) = not 7 refl e
       either (inr e) = not 10 refl e
 
-  pub unserved_causes : (ReadRose ListenRose LogRose ReplaceRose : Type 0) → list_any (λ s. s == status) serve_statuses ≡ true → is_run_status status ≡ false → (status ≡ 3 → ReadRose) → (status ≡ 6 → ListenRose) → ServeHasCause status journal posts scene faults ReadRose ListenRose LogRose ReplaceRose
+  unserved_causes : (ReadRose ListenRose LogRose ReplaceRose : Type 0) → list_any (λ s. s == status) serve_statuses ≡ true → is_run_status status ≡ false → (status ≡ 3 → ReadRose) → (status ≡ 6 → ListenRose) → ServeHasCause status journal posts scene faults ReadRose ListenRose LogRose ReplaceRose
   unserved_causes ReadRose ListenRose LogRose ReplaceRose listed not_run read listen = record {
     listed = listed;
     unserved = λ _. none;
@@ -353,21 +397,28 @@ module _ {P : Type 0} (source : Source) (service : Service) (status : ℕ) (jour
     not : (n : ℕ) → is_run_status n ≡ true → status ≡ n → ⊥
     not n is e = let f : true ≡ false = sym is ∙ ap is_run_status (sym e) ∙ not_run in absurd cc
 
+-- nobody was served, for an error that isn't that of a run
+pub record TellsUnserved (error : ServeError) (ReadRose ListenRose : Type 0) : Type 0 where
+  pub listed : list_any (λ s. s == error_status error) serve_statuses ≡ true
+  pub not_run : is_run_status (error_status error) ≡ false
+  pub three : error_status error ≡ 3 → ReadRose
+  pub six : error_status error ≡ 6 → ListenRose
+
+pub unserved_ended : {P : Type 0} (source : Source) (forms : List Key) (error : ServeError) (end : Result (Unit {0}) ServeError) (journal : List Event) (posts : List P) (scene : P → Option Scene) (faults : P → Faults) (old new : Option Contents) (listens_old listens_new : Option (List SitePlace)) (held_old held_new : Option (List ℕ)) (ReadRose ReplaceRose ListenRose LogRose : Type 0)
+    → end ≡ Err error → TellsUnserved error ReadRose ListenRose → ((service : Service) → IsServiceOf source forms old new service → ¬ ReadRose → ¬ ListenRose → error_status error ≡ 9) → ((other : ServiceError) → error ≡ errors.Unread other → IsUnread source forms new ReadRose other) → journal ≡ [] → posts ≡ [] → Goes SameFiles old new → Gains listens_old [] listens_new → Gains held_old [] held_new
+    → ServeEnded source forms end journal posts scene faults old new listens_old listens_new held_old held_new ReadRose ReplaceRose ListenRose LogRose
+unserved_ended source forms error end journal posts scene faults old new listens_old listens_new held_old held_new ReadRose ReplaceRose ListenRose LogRose is tells nine unread events none kept listens log =
+    subst (λ e. ServeEnded source forms e journal posts scene faults old new listens_old listens_new held_old held_new ReadRose ReplaceRose ListenRose LogRose) (sym is) (record {
+      causes = unserved_causes source (plain_service forms) (error_status error) journal posts scene faults events none ReadRose ListenRose LogRose ReplaceRose tells.listed tells.not_run tells.three tells.six;
+      unread = λ other e. unread other (let f : ◌≡◌ {A = Result (Unit {0}) ServeError} (Err error) (Err (errors.Unread other)) = e in cc);
+      served = inl none;
+      promises = λ service asked. unserved_promises source service (error_status error) journal posts scene faults events none old new listens_old listens_new held_old held_new ReadRose ReplaceRose ListenRose LogRose tells.not_run kept listens log (λ fault. nine service asked fault.read fault.listen);
+      unlogged = λ _. log;
+      unlistened = λ _. listens;
+      unchanged = λ _. kept;
+    })
+
 -- ---- why nobody was served
-
--- nothing was read to serve with: a status of it, and its cause
-pub record UnreadTells (error : ServiceError) : Type 0 where
-  pub listed : list_any (λ s. s == unread_status error) serve_statuses ≡ true
-  pub not_run : is_run_status (unread_status error) ≡ false
-  pub six : unread_status error ≢ 6
-
-pub unread_tells : (error : ServiceError) → UnreadTells error
-unread_tells unread.Failed = record { listed = refl; not_run = refl; six = λ e. omega (arith, e) }
-unread_tells unread.OutOfMemory = record { listed = refl; not_run = refl; six = λ e. omega (arith, e) }
-unread_tells unread.SetupMissing = record { listed = refl; not_run = refl; six = λ e. omega (arith, e) }
-unread_tells unread.WordsMissing = record { listed = refl; not_run = refl; six = λ e. omega (arith, e) }
-unread_tells (unread.SetupRefused fault) = record { listed = refl; not_run = refl; six = λ e. omega (arith, e) }
-unread_tells (unread.WordsRefused fault) = record { listed = refl; not_run = refl; six = λ e. omega (arith, e) }
 
 -- it is 3 only where a reading failed
 pub read_failed : (source : Source) (forms : List Key) (contents : Option Contents) (ReadRose : Type 0) (error : ServiceError) → IsUnread source forms contents ReadRose error → unread_status error ≡ 3 → ReadRose
@@ -401,27 +452,42 @@ unread_nine (Named name) forms old new ReadRose service error why kept is none =
   go (unread.SetupRefused fault) why = absurd (told (unread.SetupRefused fault) why)
   go (unread.WordsRefused fault) why = absurd (told (unread.WordsRefused fault) why)
 
+-- nothing was read to serve with: a status of it, and its cause
+pub unread_tells : (source : Source) (forms : List Key) (contents : Option Contents) (ReadRose ListenRose : Type 0) (error : ServiceError) → IsUnread source forms contents ReadRose error → TellsUnserved (errors.Unread error) ReadRose ListenRose
+unread_tells source forms contents ReadRose ListenRose error why = record { listed = listed error; not_run = not_run error; three = read_failed source forms contents ReadRose error why; six = λ e. absurd (six error e) } where
+  listed : (error : ServiceError) → list_any (λ s. s == unread_status error) serve_statuses ≡ true
+  listed unread.Failed = refl
+  listed unread.OutOfMemory = refl
+  listed unread.SetupMissing = refl
+  listed unread.WordsMissing = refl
+  listed (unread.SetupRefused fault) = refl
+  listed (unread.WordsRefused fault) = refl
+
+  not_run : (error : ServiceError) → is_run_status (unread_status error) ≡ false
+  not_run unread.Failed = refl
+  not_run unread.OutOfMemory = refl
+  not_run unread.SetupMissing = refl
+  not_run unread.WordsMissing = refl
+  not_run (unread.SetupRefused fault) = refl
+  not_run (unread.WordsRefused fault) = refl
+
+  six : (error : ServiceError) → unread_status error ≡ 6 → ⊥
+  six unread.Failed e = omega (arith, e)
+  six unread.OutOfMemory e = omega (arith, e)
+  six unread.SetupMissing e = omega (arith, e)
+  six unread.WordsMissing e = omega (arith, e)
+  six (unread.SetupRefused fault) e = omega (arith, e)
+  six (unread.WordsRefused fault) e = omega (arith, e)
+
 -- a run that could not begin
-pub record NotServedTells (error : ServeError) (ListenRose : Type 0) : Type 0 where
-  pub listed : list_any (λ s. s == error_status error) serve_statuses ≡ true
-  pub not_run : is_run_status (error_status error) ≡ false
-  pub three : error_status error ≢ 3
-  pub six : error_status error ≡ 6 → ListenRose
+pub record NotServedTells (error : ServeError) (ReadRose ListenRose : Type 0) : Type 0 where
+  pub tells : TellsUnserved error ReadRose ListenRose
   pub nine : ¬ ListenRose → error_status error ≡ 9
+  pub read : (other : ServiceError) → error ≢ errors.Unread other
 
-pub not_served_tells : (error : ServeError) (ListenRose : Type 0) → (error ≡ errors.OutOfMemory) ⊎ ((error ≡ errors.ListenFailed) × ListenRose) → NotServedTells error ListenRose
-not_served_tells error ListenRose (inl oom) = subst (λ e. NotServedTells e ListenRose) (sym oom) (record { listed = refl; not_run = refl; three = λ e. omega (arith, e); six = λ e. absurd (omega (arith, e)); nine = λ _. refl })
-not_served_tells error ListenRose (inr (failed, rose)) = subst (λ e. NotServedTells e ListenRose) (sym failed) (record { listed = refl; not_run = refl; three = λ e. omega (arith, e); six = λ _. rose; nine = λ none. absurd (none rose) })
-
--- ---- under the names of what was handed out
-
-pub promised : {P : Type 0} {source : Source} {service service' : Service} {end end' : Result (Unit {0}) ServeError} {journal : List Event} {posts : List P} {scene : P → Option Scene} {faults : P → Faults} {old new : Option Contents} {listens_old listens_new : Option (List SitePlace)} {held_old held_new : Option (List ℕ)} {ReadRose ReplaceRose ListenRose LogRose : Type 0} → service' ≡ service → end' ≡ end → ServePromises source service (status_of end) journal posts scene faults old new listens_old listens_new held_old held_new ReadRose ReplaceRose ListenRose LogRose → ServePromises source service' (status_of end') journal posts scene faults old new listens_old listens_new held_old held_new ReadRose ReplaceRose ListenRose LogRose
-promised {P} {source} {service} {service'} {end} {end'} {journal} {posts} {scene} {faults} {old} {new} {listens_old} {listens_new} {held_old} {held_new} {ReadRose} {ReplaceRose} {ListenRose} {LogRose} s e is =
-    subst (λ x. ServePromises source x (status_of end') journal posts scene faults old new listens_old listens_new held_old held_new ReadRose ReplaceRose ListenRose LogRose) (sym s)
-    (subst (λ x. ServePromises source service (status_of x) journal posts scene faults old new listens_old listens_new held_old held_new ReadRose ReplaceRose ListenRose LogRose) (sym e) is)
-
-pub caused : {P : Type 0} {end end' : Result (Unit {0}) ServeError} {journal : List Event} {posts : List P} {scene : P → Option Scene} {faults : P → Faults} {ReadRose ListenRose LogRose ReplaceRose : Type 0} → end' ≡ end → ServeHasCause (status_of end) journal posts scene faults ReadRose ListenRose LogRose ReplaceRose → ServeHasCause (status_of end') journal posts scene faults ReadRose ListenRose LogRose ReplaceRose
-caused {P} {end} {end'} {journal} {posts} {scene} {faults} {ReadRose} {ListenRose} {LogRose} {ReplaceRose} e is = subst (λ x. ServeHasCause (status_of x) journal posts scene faults ReadRose ListenRose LogRose ReplaceRose) (sym e) is
+pub not_served_tells : (error : ServeError) (ReadRose ListenRose : Type 0) → (error ≡ errors.OutOfMemory) ⊎ ((error ≡ errors.ListenFailed) × ListenRose) → NotServedTells error ReadRose ListenRose
+not_served_tells error ReadRose ListenRose (inl oom) = subst (λ e. NotServedTells e ReadRose ListenRose) (sym oom) (record { tells = record { listed = refl; not_run = refl; three = λ e. absurd (omega (arith, e)); six = λ e. absurd (omega (arith, e)) }; nine = λ _. refl; read = λ other e. absurd cc })
+not_served_tells error ReadRose ListenRose (inr (failed, rose)) = subst (λ e. NotServedTells e ReadRose ListenRose) (sym failed) (record { tells = record { listed = refl; not_run = refl; three = λ e. absurd (omega (arith, e)); six = λ _. rose }; nine = λ none. absurd (none rose); read = λ other e. absurd cc })
 
 -- a fault of replacing that was counted behind a moment was counted behind an earlier one
 pub writes_more : (source : Source) (setup : Settings) (ledger : LedgerParts) (old new : Option Contents) (first mid last : ℕ) (written : Result (Unit {0}) ServeError) → first ≤ mid → WritesBack source setup ledger old new (Rose mid last) written → WritesBack source setup ledger old new (Rose first last) written
@@ -452,30 +518,3 @@ told_before source setup ledger None (Some new) ReplaceRose written w some = abs
     at (Err errors.ListenFailed) w = w
     at (Err errors.LogLost) w = w
     at (Err errors.AcceptFailed) w = w
-
--- a run that was served doesn't end by what could not be read
-pub served_read : (source : Source) (setup : Settings) (ledger : LedgerParts) (old new : Option Contents) (ReplaceRose : Type 0) (written : Result (Unit {0}) ServeError) (lost failed : Bool) (error : ServiceError) → WritesBack source setup ledger old new ReplaceRose written → run_end written lost failed ≡ Err (errors.Unread error) → ⊥
-served_read source setup ledger old new ReplaceRose written lost failed error w is = at (written_end source setup ledger old new ReplaceRose written w) where
-  go : (written : Result (Unit {0}) ServeError) (lost failed : Bool) → run_end written lost failed ≡ Err (errors.Unread error) → IsWritten written → ⊥
-  go (Ok done) true failed is w = absurd cc
-  go (Ok done) false true is w = absurd cc
-  go (Ok done) false false is w = absurd cc
-  go (Err errors.OutOfMemory) lost failed is w = absurd cc
-  go (Err errors.ReplaceFailed) true failed is w = absurd cc
-  go (Err errors.ReplaceFailed) false true is w = absurd cc
-  go (Err errors.ReplaceFailed) false false is w = absurd cc
-  go (Err (errors.Unread other)) lost failed is (inl e) = absurd cc
-  go (Err (errors.Unread other)) lost failed is (inr (inl e)) = absurd cc
-  go (Err (errors.Unread other)) lost failed is (inr (inr e)) = absurd cc
-  go (Err errors.ListenFailed) lost failed is (inl e) = absurd cc
-  go (Err errors.ListenFailed) lost failed is (inr (inl e)) = absurd cc
-  go (Err errors.ListenFailed) lost failed is (inr (inr e)) = absurd cc
-  go (Err errors.LogLost) lost failed is (inl e) = absurd cc
-  go (Err errors.LogLost) lost failed is (inr (inl e)) = absurd cc
-  go (Err errors.LogLost) lost failed is (inr (inr e)) = absurd cc
-  go (Err errors.AcceptFailed) lost failed is (inl e) = absurd cc
-  go (Err errors.AcceptFailed) lost failed is (inr (inl e)) = absurd cc
-  go (Err errors.AcceptFailed) lost failed is (inr (inr e)) = absurd cc
-
-  at : IsWritten written → ⊥
-  at w = go written lost failed is w

@@ -1,5 +1,5 @@
 -- Believed: why nobody was served, or the run ended other than well.
-use Rattle.std.specs.Prelude.{◌≡◌, ℕ, Bool, true, false, List, Option, Result, Ok, Err}
+use Rattle.std.specs.Prelude.{◌≡◌, ℕ, List, Option, Result, Ok, Err}
 use Rattle.info_hooks.specs.declared.key.Key.{Key}
 use Rattle.outside.specs.Files.{Contents}
 use Rattle.service_reading.specs.declared.error.ServiceError.{ServiceError}
@@ -31,13 +31,6 @@ error_status errors.ReplaceFailed = 8
 abbrev pub status_of : Result (Unit {0}) ServeError → ℕ
 status_of (Ok done) = 0
 status_of (Err error) = error_status error
-
--- how a run ends: the first of these, that the accounts found no memory, that a decision was lost, that an accept failed, and that the accounts were not written
-abbrev pub run_end : Result (Unit {0}) ServeError → Bool → Bool → Result (Unit {0}) ServeError
-run_end (Err errors.OutOfMemory) lost failed = Err errors.OutOfMemory
-run_end written true failed = Err errors.LogLost
-run_end written false true = Err errors.AcceptFailed
-run_end written false false = written
 
 -- why nothing was read to serve with: of the plain setup only memory may be wanted
 abbrev pub IsUnread : Source → List Key → Option Contents → Type 0 → ServiceError → Type 0

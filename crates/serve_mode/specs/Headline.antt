@@ -1,9 +1,10 @@
 -- Believed: what is promised of the mode `serve`, beside what is promised of a run.
-use Rattle.std.specs.Prelude.{◌≡◌, ◌⊎◌, ℕ, Bool, true, false, ◌==◌, List, [], ◌∷◌, length, Option, Ok}
+use Rattle.std.specs.Prelude.{◌≡◌, ◌⊎◌, ℕ, Bool, true, false, ◌==◌, List, [], ◌∷◌, length, Option, Result, Ok, Err}
 use Rattle.std.specs.List.{list_any}
 use Rattle.account_file.specs.Entries.{entries_of}
 use Rattle.account_file.specs.Setups.{setup_of}
 use Rattle.account_writer.specs.CurrentSetup.{setup_after}
+use Rattle.info_hooks.specs.declared.key.Key.{Key}
 use Rattle.monitor_book.specs.Lines.{LogMatches}
 use Rattle.monitor_run.specs.Headline.{AreFaultless, ConversationsMatch, FaultEndsAreCounted, IsAnsweredWhole, JournalIsLegal, NoAcceptFailed, OperationsMatch, RunsToQuota, SessionsInOrder, ShowsNoAccounts, SomeAcceptFailed}
 use Rattle.outside.specs.declared.faults.Faults.{Faults}
@@ -15,7 +16,12 @@ use Rattle.policy_model.specs.declared.event.Event.{Event}
 use Rattle.policy_model.specs.Journal.{has_lost, kept_events}
 use Rattle.policy_model.specs.Settings.{Settings}
 use Rattle.service_model.specs.Service.{Service}
+use Rattle.service_reading.specs.declared.error.ServiceError.{ServiceError}
 use Rattle.session_core.specs.Replayed.{HasConsequences}
+use Rattle.serve_mode.specs.declared.error.ServeError.{ServeError}
+use Rattle.serve_mode.specs.declared.error.ServeError.TheVariants.{Unread}
+use Rattle.serve_mode.specs.Errors.{IsUnread, status_of}
+use Rattle.serve_mode.specs.Services.{IsServiceOf}
 use Rattle.serve_mode.specs.Words.{Named, Plain, Source}
 
 -- ---- where it listens
@@ -114,3 +120,13 @@ pub record ServePromises {P : Type 0} (source : Source) (service : Service) (sta
   pub success : status ≡ 0 → SucceedsWhole service.setup journal posts scene
   pub accounts : AccountsMatch source service.setup status journal old new ReplaceRose
   pub complete : IsComplete service status journal posts scene (NoFault ReadRose ReplaceRose ListenRose LogRose faults posts)
+
+-- what the mode came to: it ended for a cause; where somebody was served, the promises hold of the service that was served by; where the files tell, they hold of the one that these spell; and where nobody was served, neither the log nor a file changed, and the site didn't listen
+pub record ServeEnded {P : Type 0} (source : Source) (forms : List Key) (end : Result (Unit {0}) ServeError) (journal : List Event) (posts : List P) (scene : P → Option Scene) (faults : P → Faults) (old new : Option Contents) (listens_old listens_new : Option (List SitePlace)) (held_old held_new : Option (List ℕ)) (ReadRose ReplaceRose ListenRose LogRose : Type 0) : Type 0 where
+  pub causes : ServeHasCause (status_of end) journal posts scene faults ReadRose ListenRose LogRose ReplaceRose
+  pub unread : (error : ServiceError) → end ≡ Err (Unread error) → IsUnread source forms new ReadRose error
+  pub served : (posts ≡ []) ⊎ ((service : Service) × ServePromises source service (status_of end) journal posts scene faults old new listens_old listens_new held_old held_new ReadRose ReplaceRose ListenRose LogRose)
+  pub promises : (service : Service) → IsServiceOf source forms old new service → ServePromises source service (status_of end) journal posts scene faults old new listens_old listens_new held_old held_new ReadRose ReplaceRose ListenRose LogRose
+  pub unlogged : posts ≡ [] → Gains held_old [] held_new
+  pub unlistened : posts ≡ [] → Gains listens_old [] listens_new
+  pub unchanged : posts ≡ [] → Goes SameFiles old new

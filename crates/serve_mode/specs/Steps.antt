@@ -1,5 +1,5 @@
--- Inner: the steps of serving: what was read, that nobody was served, what was written back.
-use Rattle.std.specs.Prelude.{◌≡◌, ◌⊎◌, ℕ, List, [], Option, Result, Ok, Err}
+-- Inner: the steps of serving: what was read, that nobody was served, what was written back, how it ended.
+use Rattle.std.specs.Prelude.{◌≡◌, ◌⊎◌, ℕ, Bool, true, false, List, [], Option, Result, Ok, Err}
 use Rattle.info_hooks.specs.declared.key.Key.{Key}
 use Rattle.monitor_run.specs.Prepared.{LogStays}
 use Rattle.otp_ledger.specs.Accounts.{LedgerParts}
@@ -40,3 +40,10 @@ WritesNamed name setup ledger old new ReplaceRose (Err error) = ⊥
 abbrev pub WritesBack : Source → Settings → LedgerParts → Option Contents → Option Contents → Type 0 → Result (Unit {0}) ServeError → Type 0
 WritesBack Plain setup ledger old new ReplaceRose written = (written ≡ Ok tt) × Goes SameFiles old new
 WritesBack (Named name) setup ledger old new ReplaceRose written = WritesNamed name setup ledger old new ReplaceRose written
+
+-- how a run ends: the first of these, that the accounts found no memory, that a decision was lost, that an accept failed, and that the accounts were not written
+abbrev pub run_end : Result (Unit {0}) ServeError → Bool → Bool → Result (Unit {0}) ServeError
+run_end (Err errors.OutOfMemory) lost failed = Err errors.OutOfMemory
+run_end written true failed = Err errors.LogLost
+run_end written false true = Err errors.AcceptFailed
+run_end written false false = written

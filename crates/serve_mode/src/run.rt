@@ -1,16 +1,11 @@
 //! The mode.
 
-ghost use Rattle.std.specs.Prelude.{◌≡◌, ◌⊎◌, [], Err};
+ghost use Rattle.std.specs.Prelude.{◌≡◌, [], Err};
 ghost use Rattle.monitor_run.specs.Prepared.{LogStays};
-ghost use Rattle.outside.specs.Files.{SameFiles};
-ghost use Rattle.outside.specs.Told.{Gains, Goes, Rose};
-ghost use Rattle.service_model.specs.Service.{Service};
-ghost use Rattle.service_reading.specs.declared.error.ServiceError.{ServiceError};
+ghost use Rattle.outside.specs.Told.{Rose};
 ghost use Rattle.serve_mode.specs.Commands.{source_of};
-ghost use Rattle.serve_mode.specs.declared.error.ServeError.TheVariants.{Unread};
-ghost use Rattle.serve_mode.specs.Errors.{IsUnread, run_end, status_of};
-ghost use Rattle.serve_mode.specs.Headline.{ServeHasCause, ServePromises};
-ghost use Rattle.serve_mode.specs.Services.{IsServiceOf};
+ghost use Rattle.serve_mode.specs.Headline.{ServeEnded};
+ghost use Rattle.serve_mode.specs.Steps.{run_end};
 ghost use Rattle.serve_mode.specs.Words.{Plain};
 
 use crate::accounts::write_back;
@@ -80,20 +75,10 @@ pub fn run_serve<F: Files, S: Site, K: Sink, I: Information + Sync, R: Threads +
     log: K,
     information: &I,
 ) -> Served<S::Post, K>
-    ensures promises { (service : Service) → IsServiceOf (source_of command.now) (I.forms information.now) (F.contents files.old) (F.contents files.new) service
-        → ServePromises (source_of command.now) service (status_of result.end) result.journal.items result.posts.items S.Post.scene S.Post.faults (F.contents files.old) (F.contents files.new)
-        (S.listens site.old) (S.listens site.new) (K.held log) (K.held result.log)
+    ensures ended { ServeEnded (source_of command.now) (I.forms information.now) result.end result.journal.items result.posts.items S.Post.scene S.Post.faults
+        (F.contents files.old) (F.contents files.new) (S.listens site.old) (S.listens site.new) (K.held log) (K.held result.log)
         (Rose (F.read_faults files.old) (F.read_faults files.new)) (Rose (F.replace_faults files.old) (F.replace_faults files.new)) (Rose (S.listen_faults site.old) (S.listen_faults site.new)) (Rose (K.faults log) (K.faults result.log)) }
-    ensures served { (result.posts.items ≡ []) ⊎ ((service : Service) × ServePromises (source_of command.now) service (status_of result.end) result.journal.items result.posts.items S.Post.scene S.Post.faults (F.contents files.old) (F.contents files.new)
-        (S.listens site.old) (S.listens site.new) (K.held log) (K.held result.log)
-        (Rose (F.read_faults files.old) (F.read_faults files.new)) (Rose (F.replace_faults files.old) (F.replace_faults files.new)) (Rose (S.listen_faults site.old) (S.listen_faults site.new)) (Rose (K.faults log) (K.faults result.log))) }
-    ensures causes { ServeHasCause (status_of result.end) result.journal.items result.posts.items S.Post.scene S.Post.faults
-        (Rose (F.read_faults files.old) (F.read_faults files.new)) (Rose (S.listen_faults site.old) (S.listen_faults site.new)) (Rose (K.faults log) (K.faults result.log)) (Rose (F.replace_faults files.old) (F.replace_faults files.new)) }
-    ensures unread { (error : ServiceError) → result.end ≡ Err (Unread error) → IsUnread (source_of command.now) (I.forms information.now) (F.contents files.new)
-        (Rose (F.read_faults files.old) (F.read_faults files.new)) error }
     ensures log { result.posts.items ≡ [] → LogStays (K.held log) (K.held result.log) (K.faults log) (K.faults result.log) }
-    ensures unlistened { result.posts.items ≡ [] → Gains (S.listens site.old) [] (S.listens site.new) }
-    ensures kept { result.posts.items ≡ [] → Goes SameFiles (F.contents files.old) (F.contents files.new) }
     ensures plain { source_of command.now ≡ Plain → files.new ≡ files.old }
 {
     match read_house(alloc, command, files, information) {

@@ -1,4 +1,4 @@
-use super::{Detail, one_hook, otplogd};
+use super::{Detail, no_hooks, otplogd};
 use audit_check::AuditWhy;
 use info_hooks::Hooks;
 use otp_extended::RenewFault;
@@ -108,7 +108,7 @@ fn comes<R: Threads + Wait + Sync>(
 fn a_log_is_audited_and_an_account_renewed(rt: HostRuntime) -> Result<(), Fault> {
     let alloc = rt.alloc();
     let mut files = files_of(alloc)?;
-    let hooks = one_hook(alloc)?;
+    let hooks = no_hooks(alloc)?;
     let renewed = Told {
         words: ["renew", "setup", "alice"],
         input: RESPONSE,

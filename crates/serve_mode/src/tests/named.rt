@@ -130,7 +130,7 @@ const UNSERVED: Case = Case {
     ..RIGHT
 };
 
-const CASES: [Case; 14] = [
+const CASES: [Case; 16] = [
     RIGHT,
     Case {
         name: "other",
@@ -166,6 +166,17 @@ const CASES: [Case; 14] = [
         fail: (CallKind::Read, 2),
         status: 3,
         ..UNSERVED
+    },
+    // The setup takes two readings and the list four, of which the last gives no bytes.
+    Case {
+        fail: (CallKind::Read, 6),
+        status: 3,
+        ..UNSERVED
+    },
+    // Nothing is read again: the seventh reading is the test's own.
+    Case {
+        fail: (CallKind::Read, 8),
+        ..RIGHT
     },
     // One post for two workers.
     Case {
