@@ -5,9 +5,9 @@
  * comes to these: there the two functions by which its code takes memory, rattle_alloc and rattle_realloc, are
  * overwritten by a jump to those below. Once so many lines with ` end ` were written to standard error
  * as REFUSE_ENDS says (0: from the start), the call with the number REFUSE_AT is refused (0: none). Into the
- * file REFUSE_MARKS it writes a line for each of these, with the count so far: `bind` and `accept`, where
- * these are called for the first time; `refused`, with the calls that lead there; and `exit`. It takes itself
- * out of the environment, so that the program's children run without it. */
+ * file REFUSE_MARKS it writes a line for each of these, with the count so far: `accept`, where that is called
+ * for the first time, and `refused`, with the calls that lead there. It takes itself out of the environment,
+ * so that the program's children run without it. */
 #define _GNU_SOURCE
 #include <dlfcn.h>
 #include <elf.h>
@@ -28,7 +28,7 @@ extern void *__libc_malloc(size_t), *__libc_calloc(size_t, size_t), *__libc_real
 
 static uintptr_t from, to, base;
 static atomic_long count;
-static atomic_int ends_left, has_accepted, has_bound;
+static atomic_int ends_left, has_accepted;
 static long refused_at;
 static char marks[256];
 static __thread int is_marking;
@@ -92,13 +92,6 @@ void *calloc(size_t many, size_t size)
 void *realloc(void *old, size_t size)
 {
 	return is_refused(__builtin_return_address(0)) ? NULL : __libc_realloc(old, size);
-}
-
-int bind(int socket, const struct sockaddr *at, socklen_t len)
-{
-	if (!atomic_exchange(&has_bound, 1))
-		mark("bind", 0);
-	return ((int (*)(int, const struct sockaddr *, socklen_t))dlsym(RTLD_NEXT, "bind"))(socket, at, len);
 }
 
 int accept4(int socket, struct sockaddr *at, socklen_t *len, int flags)
@@ -211,9 +204,4 @@ __attribute__((constructor)) static void begin(void)
 		own_malloc = (void *(*)(size_t))heap;
 		lead_all();
 	}
-}
-
-__attribute__((destructor)) static void end(void)
-{
-	mark("exit", 0);
 }
