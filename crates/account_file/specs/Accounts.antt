@@ -1,4 +1,4 @@
--- What the accounts of a setup file are read as.
+-- Believed: what the accounts of a setup file are read as.
 use Rattle.std.specs.Prelude.{ℕ, ◌+◌, Bool, not, List, [], ◌∷◌, Option, Some, None, Result, Ok, length, codes, ◌==◌}
 use Rattle.std.specs.Bool.{then_some}
 use Rattle.std.specs.List.{list_any, filter_map}

@@ -1,4 +1,4 @@
--- What a setup file says of its texts and its counts.
+-- Inner: what a setup file says of its texts and its counts.
 use Rattle.std.specs.Prelude.{Bool, ◌&&◌}
 use Rattle.policy_model.specs.Settings.{is_text}
 use Rattle.account_file.specs.declared.settings.Texts.{Texts}

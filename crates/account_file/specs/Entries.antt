@@ -1,4 +1,4 @@
--- What a setup file says, and what it says of a setup.
+-- Believed: what a setup file says, and what it says of a setup.
 use Rattle.std.specs.Prelude.{ℕ, Bool, List, map}
 use Rattle.otp_hash.specs.declared.chain.Algo.{Algo}
 use Rattle.otp_hash.specs.SeedBytes.{seed_bytes}

@@ -1,4 +1,4 @@
--- Values that are read, or the first fault.
+-- Believed: values that are read, or the first fault.
 use Rattle.std.specs.Prelude.{◌≡◌, Option, Some, None, Result, Ok, Err}
 use Rattle.account_file.specs.declared.fault.SetupRule.{SetupRule}
 use Rattle.account_file.specs.declared.fault.SetupFault.{SetupFault}

@@ -1,4 +1,4 @@
--- What single keys of a setup file are read as.
+-- Believed: what single keys of a setup file are read as.
 use Rattle.std.specs.Prelude.{ℕ, ℤ, pos, negsuc, Bool, true, List, Option, Some, None, Result, Ok, map, codes}
 use Rattle.std.specs.Bool.{then_some}
 use Rattle.std.specs.Char.{to_ascii_lowercase}

@@ -1,4 +1,4 @@
--- The keys that have a meaning, by the kind of table.
+-- Inner: the keys that have a meaning, by the kind of table.
 use Rattle.std.specs.Prelude.{ℕ, List}
 use Rattle.account_file.specs.declared.known.Level.{Level}
 use Rattle.account_file.specs.declared.known.Level.TheVariants as levels

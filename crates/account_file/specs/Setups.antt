@@ -1,4 +1,4 @@
--- The setup that the bytes of a file spell.
+-- Believed: the setup that the bytes of a file spell.
 use Rattle.std.specs.Prelude.{ℕ, ◌+◌, ◌*◌, List, [], ◌∷◌, Option, Some, None, Result, Ok, length, codes, ◌==◌, nat_le, if◌then◌else◌}
 use Rattle.std.specs.Bool.{then_some}
 use Rattle.std.specs.List.{list_all}

@@ -1,4 +1,4 @@
--- The words of keys and rules.
+-- Believed: the words of keys and rules.
 use Rattle.std.specs.Prelude.{ℕ, List, codes}
 use Rattle.account_file.specs.declared.fault.SetupKey.{SetupKey}
 use Rattle.account_file.specs.declared.fault.SetupKey.TheVariants as keys

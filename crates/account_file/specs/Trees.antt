@@ -1,4 +1,4 @@
--- Tables and arrays of a TOML document.
+-- Believed: tables and arrays of a TOML document.
 use Rattle.std.specs.Prelude.{ℕ, Bool, List, [], ◌∷◌, Result, Ok, length, map, take, slice_index_or, nat_le}
 use Rattle.std.specs.Bool.{then_some}
 use Rattle.std.specs.List.{list_all, list_any, filter_map, range_with_len}

@@ -1,4 +1,4 @@
--- Believed: the events of a log. A line shows all of an event but a reply's readings, so a reply of a log has none.
+-- Inner: the events of a log. A line shows all of an event but a reply's readings, so a reply of a log has none.
 use Rattle.std.specs.Prelude.{None}
 use Rattle.policy_model.specs.declared.event.Ask.{Ask}
 use Rattle.policy_model.specs.declared.event.Ask.TheVariants as asks

@@ -1,4 +1,4 @@
--- Believed: what a command asks for.
+-- Inner: what a command asks for.
 use Rattle.audit_mode.specs.declared.command.AuditCommand.{AuditCommand}
 use Rattle.audit_mode.specs.Words.{AuditParts}
 

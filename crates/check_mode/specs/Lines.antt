@@ -1,4 +1,4 @@
--- The line that the mode `check` sends.
+-- Believed: the line that the mode `check` sends.
 use Rattle.std.specs.Prelude.{ℕ, List, ◌++◌, codes}
 use Rattle.std.specs.Fmt.{decimal}
 use Rattle.otp_words.specs.declared.fault.DictRule.{DictRule}

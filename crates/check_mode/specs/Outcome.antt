@@ -1,4 +1,4 @@
--- What the mode `check` came to, and why.
+-- Believed: what the mode `check` came to, and why.
 use Rattle.std.specs.Prelude.{◌≡◌, ℕ, Bool, true, false, List, [], Option, Result, Ok, Err, IfSome}
 use Rattle.outside.specs.Files.{Contents}
 use Rattle.outside.specs.Link.{Exchanged, Link, SendsPart}

@@ -1,4 +1,4 @@
--- The words of the mode `check`.
+-- Believed: the words of the mode `check`.
 use Rattle.std.specs.Prelude.{ℕ, List, [], ◌∷◌, codes, Option, None}
 use Rattle.std.specs.Bool.{then_some}
 use Rattle.std.specs.Str.{bytes_eq}

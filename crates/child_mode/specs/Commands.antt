@@ -1,4 +1,4 @@
--- What a command asks for.
+-- Inner: what a command asks for.
 use Rattle.request_catalogue.specs.TextBytes.{name_bytes}
 use Rattle.child_protocol.specs.Says.{Pre, User}
 use Rattle.child_mode.specs.declared.command.ChildCommand.{ChildCommand}

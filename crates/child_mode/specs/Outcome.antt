@@ -1,4 +1,4 @@
--- What came of a child's mode.
+-- Believed: what came of a child's mode.
 use Rattle.std.specs.Prelude.{◌≡◌, ℕ, Option}
 use Rattle.outside.specs.Link.{Link}
 use Rattle.child_protocol.specs.declared.run.ChildEnd.{ChildEnd}

@@ -1,4 +1,4 @@
--- The frames of a child's requests, and its turns.
+-- Believed: the frames of a child's requests, and its turns.
 use Rattle.std.specs.Prelude.{◌≡◌, ℕ, List, ◌++◌, length, drop, Option, Some, None, Ok}
 use Rattle.imsg_frame.specs.Message.{Message, composed_of, spelling_of}
 use Rattle.request_catalogue.specs.declared.width.Width.{Width}

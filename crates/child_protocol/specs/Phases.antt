@@ -1,4 +1,4 @@
--- Believed: the phase of a child's session, by what it asked and was answered, and what the phase table says of its next request.
+-- Inner: the phase of a child's session, by what it asked and was answered, and what the phase table says of its next request.
 use Rattle.std.specs.Prelude.{◌≡◌, Bool, true, false, List, [], ◌∷◌, not, ◌&&◌, ◌||◌, ◌==◌}
 use Rattle.request_catalogue.specs.declared.kind.Kind.{Kind}
 use Rattle.request_catalogue.specs.Kinds.{kind_number}

@@ -1,4 +1,4 @@
--- The dialogue of the pre-authentication child.
+-- Believed: the dialogue of the pre-authentication child.
 use Rattle.std.specs.Prelude.{ℕ, zero, suc, Bool, true, false, List, [], ◌∷◌, ◌++◌, length, Option, Some, None, codes, cond}
 use Rattle.std.specs.Fmt.{decimal}
 use Rattle.request_catalogue.specs.Catalogue.{RequestValue, Banner, Challenge, Reply, Abandon, Export, ReadAt, WriteAt, Finish}

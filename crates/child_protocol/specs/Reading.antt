@@ -1,4 +1,4 @@
--- What was read of a line, in memory.
+-- Inner: what was read of a line, in memory.
 use Rattle.std.specs.Prelude.{◌≡◌, ℕ, ◌≤◌, true, List, length, drop, is_some}
 use Rattle.fixed_list.specs.FixedList.{list_of}
 use Rattle.request_catalogue.specs.TextBytes.{name_bytes, label_bytes, note_bytes}

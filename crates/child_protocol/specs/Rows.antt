@@ -1,4 +1,4 @@
--- A dialogue in full.
+-- Inner: a dialogue in full.
 use Rattle.std.specs.Prelude.{◌≡◌, List, [], ◌∷◌, ◌++◌, Some, None, codes}
 use Rattle.request_catalogue.specs.Catalogue.{Banner, Reply, Export, ReadAt, CloseFile, Finish, Import}
 use Rattle.request_catalogue.specs.Replies.{AnswerValue, Done, Denied, Device}

@@ -1,4 +1,4 @@
--- What a child's run sends and takes, and how it ends.
+-- Believed: what a child's run sends and takes, and how it ends.
 use Rattle.std.specs.Prelude.{◌≡◌, ◌⊎◌, ℕ, ◌<◌, ◌≤◌, List, [], ◌∷◌, ◌++◌, length, take, Option, Some, None, Result, Ok, Err, IfSome}
 use Rattle.imsg_frame.specs.Message.{Message, spelling_of, IsMessage}
 use Rattle.imsg_frame.specs.Cut.{IsWholeFront, IsPartialFront, IsBadFront}

@@ -1,4 +1,4 @@
--- What a pre-authentication child keeps, and the exchanges that it stands for.
+-- Inner: what a pre-authentication child keeps, and the exchanges that it stands for.
 use Rattle.std.specs.Prelude.{◌≡◌, ℕ, suc, ◌*◌, ◌≤◌, ◌<◌, Bool, true, false, List, [], length, Some, None}
 use Rattle.request_catalogue.specs.declared.kind.Kind.{Kind}
 use Rattle.request_catalogue.specs.declared.kind.Kind.TheVariants as kinds

@@ -1,4 +1,4 @@
--- The dialogue of the user child.
+-- Believed: the dialogue of the user child.
 use Rattle.std.specs.Prelude.{ℕ, ◌≤◌, ◌<◌, ◌^◌, IsTrue, ◌+◌, ◌-◌, ◌*◌, fold, zero, suc, Bool, true, false, List, [], ◌∷◌, ◌++◌, length, take, drop, position, Option, Some, None, Result, Ok, Err, codes, nat_le, ◌==◌, ◌&&◌, ◌||◌, not, if◌then◌else◌, cond}
 use Rattle.std.specs.Fmt.{decimal}
 use Rattle.std.specs.List.{list_all}

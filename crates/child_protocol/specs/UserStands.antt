@@ -1,4 +1,4 @@
--- What a user child keeps, and the exchanges that it stands for.
+-- Inner: what a user child keeps, and the exchanges that it stands for.
 use Rattle.std.specs.Prelude.{◌≡◌, ℕ, suc, ◌≤◌, false, true, List, [], length, Some, None}
 use Rattle.request_catalogue.specs.TextBytes.{name_bytes}
 use Rattle.request_catalogue.specs.Catalogue.{ReadAt, WriteAt, OpenFile, CloseFile, Info, Note, Finish}

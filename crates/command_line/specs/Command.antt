@@ -1,3 +1,4 @@
+-- Inner: how `clap` is told to read the words of a command.
 use Rattle.std.specs.Prelude.{ℕ, true, ◌++◌, List, [], codes, Some, option_map, unwrap_or}
 use Rattle.std.specs.Option.{option_to_list}
 use Rattle.clap.specs.Lexer.{usize_max}

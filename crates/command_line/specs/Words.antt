@@ -1,3 +1,4 @@
+-- Believed: which words a command may have.
 use Rattle.std.specs.Prelude.{ℕ, Bool, false, not, ◌==◌, List, [], ◌∷◌, map, Option}
 use Rattle.std.specs.Bool.{then_some}
 use Rattle.std.specs.List.{list_any}

@@ -1,4 +1,4 @@
--- Believed: what a line that was read says.
+-- Inner: what a line that was read says.
 use Rattle.request_catalogue.specs.TextBytes.{label_bytes, name_bytes, note_bytes}
 use Rattle.decision_log.specs.declared.logged.Logged.{Logged}
 use Rattle.decision_log.specs.declared.logged.LoggedAsk.{LoggedAsk}

@@ -1,4 +1,4 @@
--- Word lists that stand in files.
+-- Believed: word lists that stand in files.
 use Rattle.std.specs.Prelude.{◌≡◌, ℕ, List, take, Option, Some, None, option_map, Result, Err, IfSome}
 use Rattle.outside.specs.Files.{Contents}
 use Rattle.otp_words.specs.declared.fault.DictError.{DictError}

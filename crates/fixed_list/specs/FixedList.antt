@@ -1,4 +1,4 @@
--- What contracts see of a list of fixed room: its bytes.
+-- Believed: what contracts see of a list of fixed room: its bytes.
 use Rattle.std.specs.Prelude.{ℕ, List, take}
 use Rattle.fixed_list.specs.declared.FixedList.{FixedList}
 

@@ -1,4 +1,4 @@
--- What the reader answers, and what it holds then.
+-- Inner: what the reader answers, and what it holds then.
 use Rattle.std.specs.Prelude.{◌≡◌, ℕ, ◌+◌, ◌<◌, ◌≤◌, ◌^◌, ◌↔◌, List, ◌++◌, length, ⊤}
 use Rattle.std.specs.Borrow.{follows_so, Fml, MutBor}
 use mathlib.Core.Option.{none}

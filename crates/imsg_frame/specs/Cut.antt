@@ -1,4 +1,4 @@
--- Fronts of a stream, and its cut into messages.
+-- Believed: fronts of a stream, and its cut into messages.
 use Rattle.std.specs.Prelude.{◌≡◌, ℕ, ◌<◌, ◌≤◌, ◌⊎◌, List, [], ◌++◌, length, min}
 use Rattle.std.specs.List.{flat_map, AllByRecursion}
 use Rattle.request_catalogue.specs.declared.width.Width.{Width}

@@ -1,4 +1,4 @@
--- What a reader holds.
+-- Inner: what a reader holds.
 use Rattle.std.specs.Prelude.{ℕ, List}
 use Rattle.request_catalogue.specs.declared.width.Width.{Width}
 

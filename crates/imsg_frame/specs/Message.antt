@@ -1,4 +1,4 @@
--- A message, and the one spelling that it has in each width.
+-- Believed: a message, and the one spelling that it has in each width.
 use Rattle.std.specs.Prelude.{◌≡◌, ℕ, ◌+◌, ◌<◌, ◌≤◌, ◌^◌, List, ◌++◌, length, map}
 use Rattle.std.specs.Int.{w32, to_le_bytes}
 use Rattle.request_catalogue.specs.declared.width.Width.{Width}

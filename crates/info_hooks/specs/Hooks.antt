@@ -1,4 +1,4 @@
--- Believed: hooks by their numbers.
+-- Inner: hooks by their numbers.
 use Rattle.std.specs.Prelude.{ℕ, ◌<◌, ◌≤◌, ◌==◌, List, map, filter, length}
 use Rattle.info_hooks.specs.declared.key.HooksFault.{HooksFault}
 use Rattle.info_hooks.specs.declared.key.HooksFault.TheVariants.{OutOfMemory, Twice}

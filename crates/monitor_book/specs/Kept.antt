@@ -1,4 +1,4 @@
--- What a book keeps.
+-- Inner: what a book keeps.
 use Rattle.std.specs.Prelude.{◌≡◌, ℕ, ◌≤◌, Bool, true, false, List, Option}
 use Rattle.outside.specs.Told.{Rose}
 use Rattle.policy_model.specs.declared.event.Event.{Event}

@@ -1,4 +1,4 @@
--- The hash step and the password chain (RFC 2289).
+-- Believed: the hash step and the password chain (RFC 2289).
 use Rattle.std.specs.Prelude.{ℕ, zero, suc, ◌+◌, List, ◌++◌, bit_xor, map, slice_index}
 use Rattle.std.specs.Int.{w32, w64, from_be_bytes, to_be_bytes, to_le_bytes}
 use Rattle.std.specs.List.{range_with_len}

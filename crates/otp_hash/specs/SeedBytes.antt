@@ -1,4 +1,4 @@
--- What contracts see of a seed: its bytes.
+-- Believed: what contracts see of a seed: its bytes.
 use Rattle.std.specs.Prelude.{ℕ, List}
 use Rattle.fixed_list.specs.FixedList.{list_of}
 use Rattle.otp_hash.specs.declared.seed.Seed.{Seed}

@@ -1,4 +1,4 @@
--- The rules for the bytes of a seed.
+-- Believed: the rules for the bytes of a seed.
 use Rattle.std.specs.Prelude.{ℕ, Bool, List, length, nat_le, ◌&&◌, ◌||◌}
 use Rattle.std.specs.Char.{is_ascii_alphanumeric, is_ascii_lowercase, is_ascii_digit}
 use Rattle.std.specs.List.{list_all}

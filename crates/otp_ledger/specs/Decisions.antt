@@ -1,4 +1,4 @@
--- What a ledger decides on CHALLENGE and REPLY.
+-- Inner: what a ledger decides on CHALLENGE and REPLY.
 use Rattle.std.specs.Prelude.{ℕ, ◌+◌, ◌-◌, nat_lt, Bool, not, ◌&&◌, ◌==◌, List, length, Option, Some, None, if◌then◌else◌}
 use Rattle.std.specs.List.{find, list_any}
 use Rattle.otp_hash.specs.Hashing.{hash_of}

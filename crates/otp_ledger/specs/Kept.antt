@@ -1,4 +1,4 @@
--- The rising array of accepted passwords.
+-- Inner: the rising array of accepted passwords.
 use Rattle.std.specs.Prelude.{ℕ, ◌≡◌, ◌≤◌, ◌<◌, ◌==◌, ◌&&◌, ◌||◌, Bool, List, length, slice_index_or, nat_lt}
 use Rattle.std.specs.List.{list_any}
 use Rattle.std.specs.Ordering.{nat_cmp, ordering_then}

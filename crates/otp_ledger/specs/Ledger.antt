@@ -1,4 +1,4 @@
--- What contracts see of a ledger's fields, and what holds of them.
+-- Inner: what contracts see of a ledger's fields, and what holds of them.
 use Rattle.std.specs.Prelude.{ℕ, ◌≡◌, ◌≤◌, ◌<◌, ◌+◌, length, map, slice_index_or, vec_len, vec_capacity}
 use Rattle.request_catalogue.specs.declared.texts.Name.{Name}
 use Rattle.policy_model.specs.Settings.{IsInRange, account_number}

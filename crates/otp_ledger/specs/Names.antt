@@ -1,4 +1,4 @@
--- The rising array of names.
+-- Inner: the rising array of names.
 use Rattle.std.specs.Prelude.{ℕ, ◌≡◌, ◌<◌, ◌≤◌, List, length, slice_index_or, Option, Some, None, option_map, position, if◌then◌else◌}
 use Rattle.std.specs.List.{find}
 use Rattle.std.specs.Ordering.{nat_cmp}

@@ -1,4 +1,4 @@
--- What is kept of an account, and what it stands for.
+-- Inner: what is kept of an account, and what it stands for.
 use Rattle.std.specs.Prelude.{ℕ, zero, suc, false, ◌-◌, List, [], ◌∷◌, reverse, slice_index_or, slice_set, Some, None, if◌then◌else◌}
 use Rattle.otp_hash.specs.declared.chain.Algo.{Algo}
 use Rattle.otp_hash.specs.declared.chain.Algo.TheVariants as algos

@@ -1,4 +1,4 @@
--- What a journal says of each account, and a ledger that knows it.
+-- Inner: what a journal says of each account, and a ledger that knows it.
 use Rattle.std.specs.Prelude.{ℕ, ◌≡◌, ◌<◌, ◌||◌, true, false, List, [], ◌∷◌, ◌++◌, Some, length, map, slice_get}
 use Rattle.request_catalogue.specs.declared.texts.Name.{Name}
 use Rattle.policy_model.specs.declared.account.Account.{Account}

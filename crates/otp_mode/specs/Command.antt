@@ -1,4 +1,4 @@
--- What contracts see of a command.
+-- Inner: what contracts see of a command.
 use Rattle.std.specs.Option.{option_copied}
 use Rattle.otp_hash.specs.SeedBytes.{seed_bytes}
 use Rattle.otp_mode.specs.declared.command.OtpCommand.{OtpCommand}

@@ -1,4 +1,4 @@
--- When the mode `otp` must answer so, where the files and the ends tell.
+-- Believed: when the mode `otp` must answer so, where the files and the ends tell.
 use Rattle.std.specs.Prelude.{◌≡◌, ◌⊎◌, ℕ, true, List, Option, Some, None, Result, Ok, Err}
 use Rattle.outside.specs.Files.{Contents}
 use Rattle.outside.specs.Link.{Link}

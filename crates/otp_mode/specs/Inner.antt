@@ -1,4 +1,4 @@
--- What the clauses of functions inside the crate cite: what is received before a password is printed.
+-- Inner: what the clauses of functions inside the crate cite: what is received before a password is printed.
 use Rattle.std.specs.Prelude.{◌≡◌, ℕ, ◌≤◌, List, [], length, Option, Some}
 use Rattle.outside.specs.Link.{Exchanged, Link}
 use Rattle.outside.specs.Told.{Goes}

@@ -1,4 +1,4 @@
--- What the mode `otp` came to, and why.
+-- Believed: what the mode `otp` came to, and why.
 use Rattle.std.specs.Prelude.{◌≡◌, ◌⊎◌, ℕ, ◌≤◌, Bool, true, false, List, [], length, take, Option, Some, None, Result, Ok, Err, IsSome}
 use Rattle.outside.specs.Files.{Contents}
 use Rattle.outside.specs.Link.{Exchanged, Link}

@@ -1,4 +1,4 @@
--- What the mode `otp` prints.
+-- Believed: what the mode `otp` prints.
 use Rattle.std.specs.Prelude.{ℕ, List, [], ◌∷◌, ◌++◌, Option, Some, None}
 use Rattle.otp_hash.specs.Hashing.{chain_of}
 use Rattle.otp_words.specs.Hex.{hex_text}

@@ -1,4 +1,4 @@
--- The pass phrase in an input.
+-- Believed: the pass phrase in an input.
 use Rattle.std.specs.Prelude.{ℕ, Bool, nat_le, ◌==◌, ◌&&◌, List, length, take, Option, Some, None}
 use Rattle.std.specs.Bool.{then_some}
 use Rattle.std.specs.List.{list_all, position}

@@ -1,4 +1,4 @@
--- The words of the mode `otp`.
+-- Believed: the words of the mode `otp`.
 use Rattle.std.specs.Prelude.{ℕ, ◌+◌, ◌-◌, ◌*◌, Bool, nat_le, ◌&&◌, if◌then◌else◌, List, [], ◌∷◌, length, map, fold, codes, Option, Some, None, option_map}
 use Rattle.std.specs.Char.{is_ascii_digit, to_ascii_lowercase}
 use Rattle.std.specs.List.{list_all}

@@ -1,4 +1,4 @@
--- Spaces and tabs.
+-- Believed: spaces and tabs.
 use Rattle.std.specs.Prelude.{◌≡◌, ℕ, ◌≤◌, Bool, true, not, List, length, ◌==◌, ◌||◌}
 use Rattle.std.specs.List.{list_all}
 

@@ -1,4 +1,4 @@
--- The passwords that a text spells.
+-- Believed: the passwords that a text spells.
 use Rattle.std.specs.Prelude.{◌≡◌, ℕ, ◌^◌, ◌<◌, List, Option, Some, IfSome}
 use Rattle.otp_words.specs.Hex.{hex_reading}
 use Rattle.otp_words.specs.Words.{IsSixWords}

@@ -1,4 +1,4 @@
--- The text of a challenge (RFC 2289).
+-- Believed: the text of a challenge (RFC 2289).
 use Rattle.std.specs.Prelude.{◌≡◌, ℕ, ◌+◌, ◌-◌, ◌*◌, ◌≤◌, Bool, true, List, [], ◌∷◌, ◌++◌, length, map, fold, codes, ◌==◌, ◌||◌}
 use Rattle.std.specs.Char.{is_ascii_digit, to_ascii_lowercase}
 use Rattle.std.specs.Fmt.{decimal}

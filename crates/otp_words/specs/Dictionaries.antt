@@ -1,4 +1,4 @@
--- Word lists.
+-- Believed: word lists.
 use Rattle.std.specs.Prelude.{◌≡◌, ℕ, ◌+◌, ◌/◌, ◌%◌, Bool, true, List, [], ◌∷◌, Some, length, map, nat_le, ◌&&◌, slice_get}
 use Rattle.std.specs.Char.{is_ascii_uppercase, to_ascii_uppercase}
 use Rattle.std.specs.List.{list_all, range_with_len}

@@ -1,4 +1,4 @@
--- Numbers and their digits, where a digit has a number of bits.
+-- Believed: numbers and their digits, where a digit has a number of bits.
 use Rattle.std.specs.Prelude.{ℕ, zero, suc, ◌+◌, ◌*◌, ◌/◌, ◌%◌, ◌^◌, List, [], ◌∷◌, fold}
 
 -- the last digits of a number, the most significant first

@@ -1,4 +1,4 @@
--- Passwords in hexadecimal digits.
+-- Believed: passwords in hexadecimal digits.
 use Rattle.std.specs.Prelude.{ℕ, List, ◌∷◌, ◌++◌, take, drop, filter, Option}
 use Rattle.std.specs.Int.{w64, from_be_bytes, to_be_bytes}
 use Rattle.std.specs.Option.{option_map}

@@ -1,4 +1,4 @@
--- What the clauses of functions inside the crate cite; no promise to a caller stands on it.
+-- Inner: what the clauses of functions inside the crate cite; no promise to a caller stands on it.
 use Rattle.std.specs.Prelude.{◌≡◌, ℕ, ◌+◌, ◌-◌, ◌/◌, ◌%◌, Bool, true, false, List, [], ◌∷◌, ◌++◌, Option, Some, slice_get, slice_index, nat_lt, ◌==◌, if◌then◌else◌}
 use Rattle.std.specs.Char.{is_ascii_digit, is_ascii_alphanumeric}
 use Rattle.std.specs.List.{list_all, prefix_len}

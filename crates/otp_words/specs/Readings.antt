@@ -1,4 +1,4 @@
--- What was read of a challenge.
+-- Inner: what was read of a challenge.
 use Rattle.std.specs.Prelude.{◌≡◌, ℕ, List}
 use Rattle.otp_hash.specs.declared.chain.Algo.{Algo}
 use Rattle.otp_hash.specs.SeedBytes.{seed_bytes}

@@ -1,4 +1,4 @@
--- Passwords in six words (RFC 2289).
+-- Believed: passwords in six words (RFC 2289).
 use Rattle.std.specs.Prelude.{◌≡◌, ℕ, ◌+◌, ◌*◌, ◌%◌, ◌≤◌, true, List, [], ◌∷◌, ◌++◌, length, map, sum, Some, slice_get, slice_index_or}
 use Rattle.std.specs.List.{list_all}
 use Rattle.otp_words.specs.Digits.{digits_of, number_of}

@@ -1,4 +1,4 @@
--- Believed: how the counts of faults move.
+-- Inner: how the counts of faults move.
 use Rattle.std.specs.Prelude.{◌≡◌, ℕ, ◌<◌, ◌≤◌, Result, Ok, Err}
 use Rattle.outside.specs.declared.act.Failed.{Failed}
 use Rattle.outside.specs.declared.faults.Faults.{Faults}

@@ -1,3 +1,4 @@
+-- Believed: what stands in files, and what a reading gives of it.
 use Rattle.std.specs.Prelude.{◌≡◌, ◌≢◌, ◌⊎◌, ℕ, List, take, drop, Option, Some, None, option_map}
 
 -- what stands in files: the bytes of the file of each name, if there is one

@@ -1,3 +1,4 @@
+-- Believed: what a stream tells, and what passes over it.
 use Rattle.std.specs.Prelude.{◌≡◌, ℕ, List, [], ◌++◌, take, Option, Result, Ok, Err}
 use Rattle.outside.specs.declared.act.Failed.{Failed}
 use Rattle.outside.specs.Told.{Goes}

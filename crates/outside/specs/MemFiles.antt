@@ -1,3 +1,4 @@
+-- Inner: what contracts see of files in memory.
 use Rattle.std.specs.Prelude.{ℕ, List, find, Option, option_map}
 use Rattle.std.specs.Str.{bytes_eq}
 use Rattle.outside.specs.declared.memory.fail.CallKind.TheVariants.{Read, Replace}

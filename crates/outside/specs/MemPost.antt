@@ -1,4 +1,4 @@
--- What contracts see of a post in memory.
+-- Inner: what contracts see of a post in memory.
 use Rattle.std.specs.Prelude.{◌≡◌, ℕ, ◌+◌, ◌-◌, ◌^◌, min, List, [], drop, get_or, length, slice_get, Option, option_map, unwrap_or}
 use Rattle.outside.specs.declared.faults.Faults.{Faults}
 use Rattle.outside.specs.declared.memory.conn.MemConn.{MemConn}

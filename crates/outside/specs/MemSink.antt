@@ -1,3 +1,4 @@
+-- Inner: what contracts see of a sink in memory.
 use Rattle.std.specs.Prelude.{ℕ, List, Option}
 use Rattle.outside.specs.declared.memory.fail.CallKind.TheVariants.{Append}
 use Rattle.outside.specs.declared.memory.fail.Fail.{Fail}

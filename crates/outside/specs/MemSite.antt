@@ -1,3 +1,4 @@
+-- Inner: what contracts see of a site in memory.
 use Rattle.std.specs.Prelude.{ℕ, List, [], Option, Some, None}
 use Rattle.outside.specs.declared.place.Place.{Place}
 use Rattle.outside.specs.declared.post.Post.{Ghosts as PostGhosts}

@@ -1,3 +1,4 @@
+-- Inner: what contracts see of a stream in memory.
 use Rattle.std.specs.Prelude.{◌≡◌, ℕ, List, take, drop, Option}
 use Rattle.outside.specs.declared.act.Role.{Role}
 use Rattle.outside.specs.declared.memory.fail.CallKind.TheVariants.{Recv, Send}

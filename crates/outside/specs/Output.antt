@@ -1,3 +1,4 @@
+-- Inner: what a sink of bytes in memory tells.
 use Rattle.std.specs.Prelude.{ℕ, List, Option}
 use Rattle.outside.specs.declared.memory.output.Output.{Output}
 use Rattle.outside.specs.Told.{told_if}

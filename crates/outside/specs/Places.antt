@@ -1,4 +1,4 @@
--- Believed: where a site listened.
+-- Inner: where a site listened.
 use Rattle.std.specs.Prelude.{List, [], ◌∷◌, Result, Ok, Err}
 use Rattle.outside.specs.declared.act.Failed.{Failed}
 use Rattle.outside.specs.declared.place.Place.{Place}

@@ -1,4 +1,4 @@
--- Lists whose last item repeats.
+-- Inner: lists whose last item repeats.
 use Rattle.std.specs.Prelude.{ℕ, List, [], ◌∷◌, Option, Some, None, unwrap_or}
 
 -- the next item, if there is one

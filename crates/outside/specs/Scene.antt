@@ -1,3 +1,4 @@
+-- Believed: what a post tells, and what each of its calls adds to that.
 use Rattle.std.specs.Prelude.{◌≡◌, ℕ, Bool, true, false, List, [], ◌∷◌, ◌++◌, count_by, slice_get, take, zero, suc, unwrap_or, Option, Some, None, option_map, Result, Ok, Err, IfSome}
 use Rattle.outside.specs.declared.act.Failed.{Failed}
 use Rattle.outside.specs.declared.act.Role.{Role}

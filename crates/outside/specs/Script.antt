@@ -1,3 +1,4 @@
+-- Inner: what the children of a post in memory have to send.
 use Rattle.std.specs.Prelude.{ℕ, List, map}
 use Rattle.outside.specs.declared.memory.script.Script.{Script}
 

@@ -1,3 +1,4 @@
+-- Inner: what a post in memory tells of what it was asked.
 use Rattle.std.specs.Prelude.{◌≡◌, ℕ, IsTrue, List, Option}
 use Rattle.outside.specs.declared.memory.transcript.Transcript.{Transcript}
 use Rattle.outside.specs.Scene.{Scene, came_count}

@@ -1,4 +1,4 @@
--- What stands in the users' files of a post in memory.
+-- Inner: what stands in the users' files of a post in memory.
 use Rattle.std.specs.Prelude.{◌≡◌, ◌≢◌, ◌⊎◌, ℕ, ◌+◌, ◌-◌, ◌==◌, ◌&&◌, Bool, List, [], ◌∷◌, ◌++◌, find, length, take, drop, replicate, Option, Some, option_map, unwrap_or}
 use Rattle.std.specs.Str.{bytes_eq}
 use Rattle.request_catalogue.specs.TextBytes.{label_bytes}

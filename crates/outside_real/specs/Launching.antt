@@ -1,3 +1,4 @@
+-- Inner: the words that a launcher is given.
 use Rattle.std.specs.Prelude.{ℕ, List, [], ◌∷◌, codes}
 use Rattle.std.specs.Fmt.{decimal}
 use Rattle.request_catalogue.specs.TextBytes.{name_bytes}

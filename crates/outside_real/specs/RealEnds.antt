@@ -1,3 +1,4 @@
+-- Inner: what contracts see of a real input and output.
 use Rattle.std.specs.Prelude.{ℕ}
 use Rattle.outside_real.specs.declared.ends.RealEnds.{RealEnds}
 

@@ -1,3 +1,4 @@
+-- Inner: what contracts see of real files.
 use Rattle.std.specs.Prelude.{ℕ}
 use Rattle.outside_real.specs.declared.files.RealFiles.{RealFiles}
 

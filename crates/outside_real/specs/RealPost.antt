@@ -1,4 +1,4 @@
--- What contracts see of a real post.
+-- Inner: what contracts see of a real post.
 use Rattle.std.specs.Prelude.{◌≡◌, None}
 use Rattle.outside.specs.declared.faults.Faults.{Faults}
 use Rattle.outside.specs.declared.place.Place.{Place}

@@ -1,3 +1,4 @@
+-- Inner: what contracts see of a real sink.
 use Rattle.std.specs.Prelude.{ℕ}
 use Rattle.outside_real.specs.declared.sink.RealSink.{RealSink}
 

@@ -1,3 +1,4 @@
+-- Inner: what contracts see of a real site.
 use Rattle.std.specs.Prelude.{ℕ}
 use Rattle.outside_real.specs.declared.site.RealSite.{RealSite}
 

@@ -1,3 +1,4 @@
+-- Inner: what contracts see of a real child's stream.
 use Rattle.std.specs.Prelude.{ℕ}
 use Rattle.outside.specs.declared.act.Role.{Role}
 use Rattle.outside_real.specs.declared.stream.RealStream.{RealStream}

@@ -1,4 +1,4 @@
--- What follows of every legal journal, for each user that the setup has an account of. Places are counted from 0.
+-- Believed: what follows of every legal journal, for each user that the setup has an account of. Places are counted from 0.
 use Rattle.std.specs.Prelude.{ℕ, ◌≡◌, ◌≢◌, ◌≤◌, ◌<◌, ◌==◌, true, List, length, take, slice_get, Some, is_some}
 use Rattle.request_catalogue.specs.declared.texts.Name.{Name}
 use Rattle.otp_hash.specs.Hashing.{hash_of}

@@ -1,4 +1,4 @@
--- What a session is told that nobody has logged in by: it depends on nothing but what the session asked and was told before.
+-- Believed: what a session is told that nobody has logged in by: it depends on nothing but what the session asked and was told before.
 use Rattle.std.specs.Prelude.{ℕ, ◌≡◌, Bool, true, false, not, ◌&&◌, ◌||◌, ◌==◌, List, filter, length, map, take, Option, Some, None, slice_get, if◌then◌else◌}
 use Rattle.std.specs.List.{last_or, list_any}
 use Rattle.request_catalogue.specs.declared.kind.Kind.{Kind}

@@ -1,4 +1,4 @@
--- What can be read off one ask, one decision and one event.
+-- Believed: what can be read off one ask, one decision and one event.
 use Rattle.std.specs.Prelude.{ℕ, Bool, true, false, not, ◌&&◌, ◌||◌, ◌==◌, nat_le, nat_lt, is_some, Option, Some, None, if◌then◌else◌}
 use Rattle.request_catalogue.specs.declared.texts.Name.{Name}
 use Rattle.request_catalogue.specs.declared.kind.Kind.{Kind}

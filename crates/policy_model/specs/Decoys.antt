@@ -1,4 +1,4 @@
--- Decoys: what a challenge names for a user that can't log in.
+-- Believed: decoys: what a challenge names for a user that can't log in.
 use Rattle.std.specs.Prelude.{ℕ, ◌/◌, ◌%◌, ◌==◌, List, take, if◌then◌else◌}
 use Rattle.std.specs.Int.{to_be_bytes, w64}
 use Rattle.hex.specs.Hex.{encode_lower}

@@ -1,4 +1,4 @@
--- The files that a session has open.
+-- Believed: the files that a session has open.
 use Rattle.std.specs.Prelude.{ℕ, not, ◌==◌, ◌&&◌, List, [], ◌∷◌, Option, is_none, unwrap_or, if◌then◌else◌}
 use Rattle.std.specs.List.{find, list_any}
 use Rattle.policy_model.specs.declared.event.Event.{Event}

@@ -1,4 +1,4 @@
--- What can be read off the one list of all events.
+-- Believed: what can be read off the one list of all events.
 use Rattle.std.specs.Prelude.{ℕ, Bool, ◌&&◌, ◌||◌, ◌==◌, not, List, [], ◌∷◌, ◌++◌, filter, count_by, Option, Some, None, if◌then◌else◌}
 use Rattle.std.specs.List.{last_or, list_any}
 use Rattle.policy_model.specs.declared.event.Event.{Event}

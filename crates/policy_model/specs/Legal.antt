@@ -1,4 +1,4 @@
--- The next event, and what a legal journal is.
+-- Believed: the next event, and what a legal journal is.
 use Rattle.std.specs.Prelude.{ℕ, ◌≡◌, ◌<◌, ◌+◌, true, List, length, take, slice_index_or, if◌then◌else◌}
 use Rattle.policy_model.specs.declared.event.Ask.{Ask}
 use Rattle.policy_model.specs.declared.event.Ask.TheVariants as asks

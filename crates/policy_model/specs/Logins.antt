@@ -1,4 +1,4 @@
--- Who takes and holds a user, and which passwords were accepted.
+-- Believed: who takes and holds a user, and which passwords were accepted.
 use Rattle.std.specs.Prelude.{ℕ, Bool, false, ◌||◌, ◌&&◌, ◌-◌, List, ◌∷◌, length, filter, Option, Some, None, nat_eq, nat_le, not, ◌==◌, unwrap_or, if◌then◌else◌}
 use Rattle.std.specs.List.{after_last, filter_map, find, last_or, list_any}
 use Rattle.request_catalogue.specs.declared.texts.Name.{Name}

@@ -1,4 +1,4 @@
--- The phases of a session, and the phase table.
+-- Believed: the phases of a session, and the phase table.
 use Rattle.std.specs.Prelude.{ℕ, Bool, true, false, not, ◌||◌, List, Option, Some, None, if◌then◌else◌}
 use Rattle.std.specs.List.{list_any}
 use Rattle.request_catalogue.specs.declared.kind.Kind.{Kind}

@@ -1,4 +1,4 @@
--- The salt of the plain setup, as a value.
+-- Believed: the salt of the plain setup, as a value.
 use Rattle.std.specs.Prelude.{ℕ, ◌≡◌, ◌<◌, zero, suc, true, nat_lt, List, [], ◌∷◌, ◌++◌, codes, replicate, slice_index}
 use Rattle.std.specs.List.{list_all}
 use Rattle.std.proofs.Common.{lit≤, refl}

@@ -1,4 +1,4 @@
--- What an operator settles before a run, and the ranges of a setup.
+-- Believed: what an operator settles before a run, and the ranges of a setup.
 use Rattle.std.specs.Prelude.{ℕ, ◌≡◌, ◌≤◌, ◌*◌, ◌+◌, Bool, true, not, ◌&&◌, ◌==◌, List, [], ◌∷◌, length, codes, nat_le, Option, position}
 use Rattle.std.specs.List.{list_all, list_any}
 use Rattle.std.specs.Str.{bytes_eq}

@@ -1,4 +1,4 @@
--- What contracts see of a setup: its settings, which are in their ranges.
+-- Inner: what contracts see of a setup: its settings, which are in their ranges.
 use Rattle.policy_model.specs.declared.setup.Setup.TheInside.{Inside}
 use Rattle.policy_model.specs.Settings.{Settings, IsInRange}
 

@@ -1,4 +1,4 @@
--- The verdict on an ask, by the whole list of events before it: the first rule that applies. A definition stands below those that it uses, so read from the last section up:
+-- Believed: the verdict on an ask, by the whole list of events before it: the first rule that applies. A definition stands below those that it uses, so read from the last section up:
 --   1. an opening, an end, any other ask (verdict_of)
 --   2. a session that is over, or has made all its asks (request_verdict)
 --   3. a frame that is no request, and the table (own_verdict, row_verdict)

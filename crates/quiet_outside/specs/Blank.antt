@@ -1,3 +1,4 @@
+-- Inner: users' files with fixed room, before anything stands in them.
 use Rattle.std.specs.Prelude.{◌≡◌, ℕ, ◌<◌, ◌≤◌, List, [], All, length, nat_le, Option, Some, None, if◌then◌else◌}
 use Rattle.outside.specs.Link.{Link}
 

@@ -1,3 +1,4 @@
+-- Inner: what an object with fixed room keeps.
 use Rattle.std.specs.Prelude.{ℕ, List, Option}
 use Rattle.outside.specs.Told.{told_if}
 use Rattle.quiet_outside.specs.declared.kept.Kept.{Kept}

@@ -1,4 +1,4 @@
--- What stands in a list of files.
+-- Inner: what stands in a list of files.
 use Rattle.std.specs.Prelude.{ℕ, ◌==◌, ◌&&◌, Bool, List, find, option_map}
 use Rattle.std.specs.Str.{bytes_eq}
 use Rattle.outside.specs.Vaults.{Vault}

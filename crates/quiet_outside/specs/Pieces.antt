@@ -1,4 +1,4 @@
--- Buffers that are taken beforehand.
+-- Inner: buffers that are taken beforehand.
 use Rattle.std.specs.Prelude.{ℕ, ◌+◌, ◌-◌, ◌==◌, ◌&&◌, ◌||◌, Bool, nat_le, nat_lt}
 use Rattle.quiet_outside.specs.declared.room.Pieces.{Pieces}
 

@@ -1,3 +1,4 @@
+-- Inner: what contracts see of a quiet connection.
 use Rattle.std.specs.Prelude.{◌≡◌, ℕ, ◌+◌, ◌-◌, ◌^◌, min, List, drop, get_or, length}
 use Rattle.outside.specs.declared.memory.script.Script.{Script}
 use Rattle.outside.specs.MemPost.{client_bytes}

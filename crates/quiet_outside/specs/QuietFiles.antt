@@ -1,3 +1,4 @@
+-- Inner: what contracts see of quiet files.
 use Rattle.std.specs.Prelude.{ℕ, Option}
 use Rattle.outside.specs.Files.{Contents}
 use Rattle.outside.specs.Told.{told_if}

@@ -1,4 +1,4 @@
--- What contracts see of a quiet post.
+-- Inner: what contracts see of a quiet post.
 use Rattle.std.specs.Prelude.{ℕ, ◌-◌, ◌&&◌, Bool, List, nat_lt, Option}
 use Rattle.outside.specs.declared.faults.Faults.{Faults}
 use Rattle.outside.specs.declared.memory.script.Script.{Script}

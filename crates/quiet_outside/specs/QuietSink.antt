@@ -1,3 +1,4 @@
+-- Inner: what contracts see of a quiet sink.
 use Rattle.std.specs.Prelude.{ℕ, List, Option}
 use Rattle.quiet_outside.specs.declared.sink.QuietSink.{QuietSink}
 use Rattle.quiet_outside.specs.Kept.{told_bytes}

@@ -1,3 +1,4 @@
+-- Inner: what contracts see of a quiet stream.
 use Rattle.std.specs.Prelude.{ℕ, List, Option}
 use Rattle.outside.specs.declared.act.Role.{Role}
 use Rattle.outside.specs.Link.{Link}

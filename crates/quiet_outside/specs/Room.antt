@@ -1,4 +1,4 @@
--- What objects with fixed room tell.
+-- Inner: what objects with fixed room tell.
 use Rattle.std.specs.Prelude.{ℕ, List, ◌++◌, length, nat_le, Option, Some, None, if◌then◌else◌}
 use Rattle.outside.specs.Link.{Link}
 

@@ -1,3 +1,4 @@
+-- Inner: the users' files of a quiet post.
 use Rattle.outside.specs.Vaults.{Vault}
 use Rattle.quiet_outside.specs.declared.shelf.Shelf.{Shelf}
 use Rattle.quiet_outside.specs.KeptFile.{files_of}

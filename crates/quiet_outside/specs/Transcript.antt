@@ -1,3 +1,4 @@
+-- Inner: what a quiet post tells of what it was asked.
 use Rattle.std.specs.Prelude.{◌≡◌, ℕ, IsTrue, List, Option}
 use Rattle.outside.specs.Scene.{Scene, came_count}
 use Rattle.outside.specs.Told.{told_if}

@@ -1,4 +1,4 @@
--- The catalogue of requests: what may be asked, and the one payload of each request.
+-- Believed: the catalogue of requests: what may be asked, and the one payload of each request.
 use Rattle.std.specs.Prelude.{◌≡◌, ℕ, ◌^◌, ◌<◌, ◌≤◌, List, [], ◌∷◌, ◌++◌, length, IsTrue}
 use Rattle.std.specs.Int.{w16, w32, w64, to_le_bytes}
 use Rattle.request_catalogue.specs.declared.width.Width.{Width}

@@ -1,4 +1,4 @@
--- Numbers that stand in bytes, lowest byte first.
+-- Believed: numbers that stand in bytes, lowest byte first.
 use Rattle.std.specs.Prelude.{◌≡◌, ℕ, ◌≤◌, List, length, take, drop}
 use Rattle.std.specs.Int.{Width, byte_len, from_le_bytes}
 

@@ -1,4 +1,4 @@
--- The kinds of requests and their numbers.
+-- Believed: the kinds of requests and their numbers.
 use Rattle.std.specs.Prelude.{ℕ, List, [], ◌∷◌, Option, find, ◌==◌}
 use Rattle.request_catalogue.specs.declared.kind.Kind.{Kind}
 use Rattle.request_catalogue.specs.declared.kind.Kind.TheVariants as kinds

@@ -1,4 +1,4 @@
--- Replies: what an answer is, and the one spelling of each.
+-- Believed: replies: what an answer is, and the one spelling of each.
 use Rattle.std.specs.Prelude.{ℕ, ◌+◌, ◌^◌, ◌<◌, ◌≤◌, List, [], ◌∷◌, length, Option, Some, None, if◌then◌else◌, nat_le, ◌==◌, ◌&&◌}
 use Rattle.std.specs.Bool.{then_some}
 use Rattle.std.specs.Int.{w32, to_le_bytes}

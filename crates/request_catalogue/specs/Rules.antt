@@ -1,4 +1,4 @@
--- The 22 rules by their names. A denial by one of the rules 1 to 7 ends the session.
+-- Believed: the 22 rules by their names. A denial by one of the rules 1 to 7 ends the session.
 use Rattle.std.specs.Prelude.{ℕ}
 
 -- the session has made as many asks as the setup allows

@@ -1,4 +1,4 @@
--- What the two widths of frames allow, in bytes.
+-- Believed: what the two widths of frames allow, in bytes.
 use Rattle.std.specs.Prelude.{ℕ}
 use Rattle.request_catalogue.specs.declared.width.Width.{Width}
 use Rattle.request_catalogue.specs.declared.width.Width.TheVariants as widths

@@ -1,4 +1,4 @@
--- Believed: what contracts see of a command of the mode `serve`.
+-- Inner: what contracts see of a command of the mode `serve`.
 use Rattle.serve_mode.specs.declared.command.ServeCommand.{ServeCommand}
 use Rattle.serve_mode.specs.declared.command.ServeCommand.TheVariants as commands
 use Rattle.serve_mode.specs.Words.{Named, Plain, Source}

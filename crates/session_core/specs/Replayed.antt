@@ -1,4 +1,4 @@
--- Inner: steps from the beginning of a run, and what follows of the journal that they give.
+-- Believed: steps from the beginning of a run, and what follows of the journal that they give.
 use Rattle.std.specs.Prelude.{ℕ, ◌<◌, List}
 use Rattle.policy_laws.specs.Consequences.{NoPasswordTwice, OneTakerAtATime, SequenceFalls, VerifiedBeforeExport}
 use Rattle.policy_laws.specs.Strangers.{StrangersAreToldAlike}

@@ -1,4 +1,4 @@
--- What makes a history of sums legal.
+-- Inner: what makes a history of sums legal.
 use Rattle.std.specs.Prelude.{ℕ, ◌+◌, ◌==◌, ◌&&◌, Bool, true, List, [], ◌∷◌}
 use Rattle.tally.specs.declared.object.Added.{Added}
 

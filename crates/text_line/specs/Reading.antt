@@ -1,4 +1,4 @@
--- The numbers that texts spell.
+-- Believed: the numbers that texts spell.
 use Rattle.std.specs.Prelude.{ℕ, ◌^◌, ◌&&◌, List, Option, nat_lt}
 use Rattle.std.specs.Bool.{then_some}
 use Rattle.std.specs.Fmt.{decimal}

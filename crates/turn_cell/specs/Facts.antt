@@ -1,4 +1,4 @@
--- The words of the contracts: what they see of a pass and of a cell.
+-- Inner: the words of the contracts: what they see of a pass and of a cell.
 use Rattle.std.specs.Prelude.{◌≡◌, ℕ, zero, suc, ◌<◌, ◌≤◌, ◌==◌, List, [], ◌∷◌, ◌++◌, filter, length, slice_index_or, Option, Some}
 use Rattle.std.specs.List.{All, Any}
 use Rattle.atomic_table.specs.Seated.{TableId}

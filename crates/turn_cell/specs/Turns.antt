@@ -1,4 +1,4 @@
--- The rule of a cell between any two steps, and what each step tells.
+-- Inner: the rule of a cell between any two steps, and what each step tells.
 use Rattle.std.specs.Prelude.{◌≡◌, ℕ, ◌+◌, ◌*◌, ◌^◌, ◌==◌, ◌<◌, ◌≤◌, ◌≢◌, ◌⊎◌, List, [], ◌∷◌, ◌++◌, length, true, false, MatchBool}
 use Rattle.std.specs.Prelude.{Option as Maybe, Some, None}
 use mathlib.Core.Option.{Option, none, some}
