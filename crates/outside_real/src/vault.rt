@@ -73,18 +73,40 @@ impl UserFile {
         offset: u64,
         bytes: &[u8],
     ) -> io::Result<()> {
-        let folder = self.folder.as_str();
-        if !has_folder(rt, folder)? {
-            DirBuilder::new().mode(FOLDER_MODE).create(rt, folder)?;
-        }
-        let mut options = OpenOptions::new();
-        options.write(true);
-        let mut file = match open_regular(rt, self.path.as_str(), &options)? {
-            Some(file) => file,
-            None => make(rt, self.path.as_str())?,
-        };
+        make_folder(rt, self.folder.as_str())?;
+        let mut file = open_or_make(rt, self.path.as_str())?;
         file.seek(SeekFrom::Start(offset))?;
         file.write_all(bytes)
+    }
+}
+
+/// Makes a user's folder where it is missing. One that another session has made meanwhile will do.
+fn make_folder<R: Files>(rt: &R, path: &str) -> io::Result<()> {
+    if has_folder(rt, path)? {
+        return Ok(());
+    }
+    match DirBuilder::new().mode(FOLDER_MODE).create(rt, path) {
+        Err(error) if error.kind() == ErrorKind::AlreadyExists => match has_folder(rt, path)? {
+            true => Ok(()),
+            false => Err(error),
+        },
+        made => made,
+    }
+}
+
+/// Opens a user's file to write it, and makes it where it is missing. One that another session has
+/// made meanwhile is opened.
+fn open_or_make<R: Files<File = File>>(rt: &R, path: &str) -> io::Result<File> {
+    let mut options = OpenOptions::new();
+    options.write(true);
+    if let Some(file) = open_regular(rt, path, &options)? {
+        return Ok(file);
+    }
+    match make(rt, path) {
+        Err(error) if error.kind() == ErrorKind::AlreadyExists => {
+            open_regular(rt, path, &options)?.ok_or(error)
+        }
+        made => made,
     }
 }
 
