@@ -130,7 +130,7 @@ const UNSERVED: Case = Case {
     ..RIGHT
 };
 
-const CASES: [Case; 16] = [
+const CASES: [Case; 17] = [
     RIGHT,
     Case {
         name: "other",
@@ -198,6 +198,11 @@ const CASES: [Case; 16] = [
         fail: (CallKind::Replace, 1),
         status: 8,
         is_written: false,
+        ..RIGHT
+    },
+    // The accounts are written once.
+    Case {
+        fail: (CallKind::Replace, 2),
         ..RIGHT
     },
     Case {
