@@ -1,0 +1,168 @@
+//! Frames that are no request before the login, and the limit of requests.
+
+use super::*;
+
+/// A frame of this kind, flags and body.
+fn frame(alloc: Global, kind: u32, flags: u16, body: &[u8]) -> Result<Vec<u8>, AllocError> {
+    let len = u16::try_from(body.len()).unwrap_or(0).wrapping_add(16);
+    let mut frame = header(alloc, kind, len, flags)?;
+    frame.extend_from_slice(body)?;
+    Ok(frame)
+}
+
+/// A header.
+fn header(alloc: Global, kind: u32, len: u16, flags: u16) -> Result<Vec<u8>, AllocError> {
+    let mut header = Vec::new(alloc);
+    header.extend_from_slice(&kind.to_le_bytes())?;
+    header.extend_from_slice(&len.to_le_bytes())?;
+    header.extend_from_slice(&flags.to_le_bytes())?;
+    header.extend_from_slice(&[0; 8])?;
+    Ok(header)
+}
+
+/// The run of connections whose first child sends these bytes.
+fn run_of<R: Threads + Wait + Sync>(
+    rt: &R,
+    alloc: Global,
+    lines: &str,
+    pre: &[u8],
+    connections: usize,
+) -> Result<Came<MemPost>, Fault> {
+    let setup = setup_with(alloc, lines)?;
+    let list = word_list(alloc, 2_048)?;
+    let play = Play {
+        name: "setup",
+        setup: &setup,
+        list: &list,
+        connections,
+        client: b"",
+        pre,
+        user: b"",
+        piece: 4_096,
+        fails: &[],
+    };
+    come(rt, alloc, &play, 1)
+}
+
+/// Whether a header of this length ends the session as a bad frame.
+fn is_bad<R: Threads + Wait + Sync>(rt: &R, alloc: Global, len: u16) -> Result<bool, Fault> {
+    let header = header(alloc, 1, len, 0)?;
+    let came = run_of(rt, alloc, ONE, &header, 1)?;
+    let end = format!(in alloc; "1 w0 s1 open permit\n2 w0 s1 end bad-frame {len} permit\n")?;
+    let is_silent = sent(&came.posts, 0).is_empty();
+    Ok(came.status == 0 && came.log.held() == end.as_bytes() && is_silent)
+}
+
+#[test]
+fn lengths_that_no_frame_has(rt: HostRuntime) -> Result<(), Fault> {
+    assert!(&rt; is_bad(&rt, rt.alloc(), 0)?);
+    assert!(&rt; is_bad(&rt, rt.alloc(), 15)?);
+    assert!(&rt; is_bad(&rt, rt.alloc(), 16_385)?);
+    assert!(&rt; is_bad(&rt, rt.alloc(), 65_535)?);
+    Ok(())
+}
+
+/// Whether a frame is denied by this rule with this detail, and its session ends.
+fn is_refused<R: Threads + Wait + Sync>(
+    rt: &R,
+    alloc: Global,
+    pre: &[u8],
+    rule: u8,
+    detail: u32,
+) -> Result<bool, Fault> {
+    let came = run_of(rt, alloc, ONE, pre, 1)?;
+    let log = format!(in alloc;
+        "1 w0 s1 open permit\n2 w0 s1 bad {rule} {detail} deny {rule} {detail}\n3 w0 s1 end violation {rule} permit\n"
+    )?;
+    // The reply has the request's kind only where that is known and the flags are 0.
+    let kind = match pre.first() {
+        Some(kind) if rule == 5 => *kind,
+        _ => 0,
+    };
+    let mut body = vec![in alloc; 1, rule]?;
+    body.extend_from_slice(&detail.to_le_bytes())?;
+    let mut reply = header(alloc, u32::from(kind) | 256, 22, 0)?;
+    reply.truncate(12);
+    reply.extend_from_slice(&[1, 0, 0, 0])?;
+    reply.extend_from_slice(&body)?;
+    Ok(
+        came.status == 0
+            && came.log.held() == log.as_bytes()
+            && sent(&came.posts, 0) == reply.as_slice(),
+    )
+}
+
+#[test]
+fn kinds_that_no_request_has(rt: HostRuntime) -> Result<(), Fault> {
+    let alloc = rt.alloc();
+    for kind in [0, 14, u32::MAX] {
+        let frame = frame(alloc, kind, 0, b"")?;
+        assert!(&rt; is_refused(&rt, alloc, &frame, 4, kind)?);
+    }
+    let marked = frame(alloc, 13, u16::MAX, b"")?;
+    assert!(&rt; is_refused(&rt, alloc, &marked, 2, 65_535)?);
+    Ok(())
+}
+
+/// Whether a request with this body is refused as malformed.
+fn is_malformed<R: Threads + Wait + Sync>(
+    rt: &R,
+    alloc: Global,
+    kind: u32,
+    body: &[u8],
+) -> Result<bool, Fault> {
+    let frame = frame(alloc, kind, 0, body)?;
+    is_refused(rt, alloc, &frame, 5, kind)
+}
+
+/// The body of a READ of the connection of at most so many bytes.
+fn read_body(max: u32) -> [u8; 16] {
+    let mut body = [0; 16];
+    body[12..].copy_from_slice(&max.to_le_bytes());
+    body
+}
+
+#[test]
+fn bodies_that_no_request_has(rt: HostRuntime) -> Result<(), Fault> {
+    let alloc = rt.alloc();
+    let long = vec![in alloc; 0; 16_013]?;
+    assert!(&rt; is_malformed(&rt, alloc, 1, b"x")?);
+    assert!(&rt; is_malformed(&rt, alloc, 2, b"")?);
+    assert!(&rt; is_malformed(&rt, alloc, 7, &read_body(0))?);
+    assert!(&rt; is_malformed(&rt, alloc, 7, &read_body(16_001))?);
+    assert!(&rt; is_malformed(&rt, alloc, 8, &[0; 12])?);
+    assert!(&rt; is_malformed(&rt, alloc, 8, &long)?);
+    assert!(&rt; is_malformed(&rt, alloc, 9, b"\x04notes")?);
+    assert!(&rt; is_malformed(&rt, alloc, 12, &[b'a'; 65])?);
+    Ok(())
+}
+
+const BUDGET_LOG: &str = "1 w0 s1 open permit
+2 w0 s1 note 61 permit
+3 w0 s1 note 61 permit
+4 w0 s1 note 61 permit
+5 w0 s1 note 61 permit
+6 w0 s1 note 61 permit
+7 w0 s1 note 61 permit
+8 w0 s1 note 61 permit
+9 w0 s1 note 61 permit
+10 w0 s1 note 61 deny 1 8
+11 w0 s1 end violation 1 permit
+12 w0 s2 open permit
+13 w0 s2 note 61 permit
+";
+
+#[test]
+fn a_session_s_requests_are_limited(rt: HostRuntime) -> Result<(), Fault> {
+    let alloc = rt.alloc();
+    let note = frame(alloc, 12, 0, b"a")?;
+    let mut notes = Vec::new(alloc);
+    for _ in 0..9 {
+        notes.extend_from_slice(&note)?;
+    }
+    let came = run_of(&rt, alloc, "workers = 1\nrequests = 8", &notes, 2)?;
+    let last = b"\x0c\x01\0\0\x16\0\0\0\0\0\0\0\x01\0\0\0\x01\x01\x08\0\0\0";
+    assert!(&rt; came.log.held().starts_with(BUDGET_LOG.as_bytes()));
+    assert!(&rt; sent(&came.posts, 0).ends_with(last));
+    Ok(())
+}

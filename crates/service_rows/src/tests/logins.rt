@@ -1,0 +1,185 @@
+//! Whole logins by the shipped children. The children and the monitor take turns: the service runs
+//! once more with what the children say to all replies so far, until they say no more.
+
+ghost use Rattle.std.specs.Prelude.{◌≤◌};
+
+use super::children::{said_before, said_by_bob};
+use super::*;
+
+/// What the client sends.
+pub(super) const CLIENT: &[u8] = b"user bob
+resp bb9e 6ae1 979d 8ff4
+get notes
+put notes new
+quit
+";
+
+/// What the client is sent.
+const TOLD: &[u8] = b"OTP login
+otp-sha1 0 test
+welcome bob
+size 4
+old
+done
+bye
+";
+
+pub(super) const LOG: &str = "1 w0 s1 open permit
+2 w0 s1 banner permit
+3 w0 s1 write 0 0 10 permit
+4 w0 s1 read 0 0 512 permit
+5 w0 s1 challenge bob 1000 permit 0
+6 w0 s1 write 0 0 16 permit
+7 w0 s1 reply permit bb9e6ae1979d8ff4
+8 w0 s1 export 50 permit 0
+9 w0 s1 import permit
+10 w0 s1 write 0 0 12 permit
+11 w0 s1 grant 1 6e6f746573 permit 1
+12 w0 s1 read 1 0 4000 permit
+13 w0 s1 close 1 permit
+14 w0 s1 write 0 0 11 permit
+15 w0 s1 grant 2 6e6f746573 permit 1
+16 w0 s1 write 1 0 3 permit
+17 w0 s1 close 1 permit
+18 w0 s1 write 0 0 5 permit
+19 w0 s1 write 0 0 4 permit
+20 w0 s1 finish permit
+21 w0 s1 end finished permit
+";
+
+/// The most requests and replies of a login.
+const TURNS: u32 = 500;
+
+/// What both children of a connection send.
+#[derive(Drop)]
+pub(super) struct Said {
+    pub(super) pre: Vec<u8>,
+    pub(super) user: Vec<u8>,
+}
+
+/// A whole login: the setup's file and the word list's, what its children said to the end, and what
+/// came of it.
+#[derive(Drop)]
+pub(super) struct Login {
+    pub(super) setup: Vec<u8>,
+    pub(super) list: Vec<u8>,
+    pub(super) said: Said,
+    pub(super) came: Came<MemPost>,
+}
+
+/// What the children say to all that they were sent.
+fn said_to(alloc: Global, posts: &[MemPost]) -> Result<Said, Fault> {
+    Ok(Said {
+        pre: said_before(alloc, sent(posts, 0))?,
+        user: said_by_bob(alloc, sent(posts, 1))?,
+    })
+}
+
+/// Runs the service by a setup that begins with these lines until the children say no more.
+pub(super) fn log_in<R: Threads + Wait + Sync>(
+    rt: &R,
+    alloc: Global,
+    lines: &str,
+    piece: usize,
+) -> Result<Login, Fault>
+    requires { 1 ≤ piece }
+{
+    let setup = setup_with(alloc, lines)?;
+    let list = word_list(alloc, 2_048)?;
+    let mut said = said_to(alloc, &[])?;
+    for _ in 0..TURNS {
+        let play = Play {
+            name: "setup",
+            setup: &setup,
+            list: &list,
+            connections: 1,
+            client: CLIENT,
+            pre: &said.pre,
+            user: &said.user,
+            piece,
+            fails: &[],
+        };
+        let came = come(rt, alloc, &play, 1)?;
+        let next = said_to(alloc, &came.posts)?;
+        if next.pre.len() == said.pre.len() && next.user.len() == said.user.len() {
+            return Ok(Login {
+                setup,
+                list,
+                said,
+                came,
+            });
+        }
+        said = next;
+    }
+    Err(Fault::from("a login without an end"))
+}
+
+/// What stands in bob's file behind a run.
+pub(super) fn holds(posts: &[MemPost], want: &[u8]) -> Result<bool, Fault> {
+    let name = notes()?;
+    let Some(post) = posts.first() else {
+        return Ok(false);
+    };
+    Ok(post.user_file(1_001, &name) == Some(want))
+}
+
+/// Whether a client who logs in is told and served as the formats say, by a setup that begins with
+/// these lines.
+fn is_served<R: Threads + Wait + Sync>(
+    rt: &R,
+    alloc: Global,
+    lines: &str,
+    piece: usize,
+) -> Result<bool, Fault>
+    requires { 1 ≤ piece }
+{
+    let Login { came, .. } = log_in(rt, alloc, lines, piece)?;
+    let told = told(alloc, &came.posts)?;
+    let is_new = holds(&came.posts, b"new\n")?;
+    Ok(came.status == 0 && told.as_slice() == TOLD && is_new)
+}
+
+#[test]
+fn a_whole_login(rt: HostRuntime) -> Result<(), Fault> {
+    let alloc = rt.alloc();
+    let Login { mut came, .. } = log_in(&rt, alloc, ONE, 4_096)?;
+    assert_eq!(&rt; came.log.held(), LOG.as_bytes());
+    assert_eq!(&rt; came.status, 0);
+    let left = chain_in(alloc, &setup_in(alloc, &mut came.files)?)?;
+    assert!(&rt; left == (0, 0xBB9E_6AE1_979D_8FF4));
+    Ok(())
+}
+
+/// A request for each byte that the client sends, and those of the login.
+const NARROW: &str = "workers = 1
+    requests = 200";
+
+const WIDE: &str = "workers = 1
+    frames = \"wide\"
+    requests = 200";
+
+#[test]
+fn logins_in_narrow_frames(rt: HostRuntime) -> Result<(), Fault> {
+    assert!(&rt; is_served(&rt, rt.alloc(), NARROW, 4_096)?);
+    assert!(&rt; is_served(&rt, rt.alloc(), NARROW, 7)?);
+    Ok(())
+}
+
+#[test]
+fn logins_in_wide_frames(rt: HostRuntime) -> Result<(), Fault> {
+    assert!(&rt; is_served(&rt, rt.alloc(), WIDE, 4_096)?);
+    assert!(&rt; is_served(&rt, rt.alloc(), WIDE, 7)?);
+    Ok(())
+}
+
+#[test]
+fn a_login_byte_by_byte(rt: HostRuntime) -> Result<(), Fault> {
+    assert!(&rt; is_served(&rt, rt.alloc(), NARROW, 1)?);
+    Ok(())
+}
+
+#[test]
+fn a_login_byte_by_byte_in_wide_frames(rt: HostRuntime) -> Result<(), Fault> {
+    assert!(&rt; is_served(&rt, rt.alloc(), WIDE, 1)?);
+    Ok(())
+}
