@@ -15,6 +15,7 @@ use outside_real::{RealEnds, RealFiles, RealSink, RealSite, fill_standard_stream
 use std::alloc::{AllocError, Global};
 use std::env;
 use std::env::Args;
+use std::io::ErrorKind;
 use std::process::ExitCode;
 use std::rt::Env;
 
@@ -39,6 +40,15 @@ fn words_of(alloc: Global, args: Args) -> Result<Vec<Word>, AllocError> {
     Ok(words)
 }
 
+/// The words of the command line, or the status where they can't be had.
+fn words_given(rt: &HostRuntime) -> Result<Vec<Word>, u8> {
+    match env::args(rt) {
+        Ok(args) => words_of(rt.alloc(), args).map_err(|_| NO_MEMORY),
+        Err(error) if error.kind() == ErrorKind::OutOfMemory => Err(NO_MEMORY),
+        Err(_) => Err(NO_COMMAND),
+    }
+}
+
 /// Says why nobody was served, and gives the exit status.
 fn complain(rt: &impl Eprint, status: u8, detail: Detail) -> ExitCode {
     let _ = rt.eprintln(Complaint { status, detail });
@@ -50,11 +60,9 @@ fn main(rt: HostRuntime) -> ExitCode {
         return complain(&rt, NO_STREAM, Detail::Nothing);
     }
     let alloc = rt.alloc();
-    let Ok(args) = env::args(&rt) else {
-        return complain(&rt, NO_COMMAND, Detail::Nothing);
-    };
-    let Ok(words) = words_of(alloc, args) else {
-        return complain(&rt, NO_MEMORY, Detail::Nothing);
+    let words = match words_given(&rt) {
+        Ok(words) => words,
+        Err(status) => return complain(&rt, status, Detail::Nothing),
     };
     let hooks = vec![in alloc;
         Hook::new(1, person_form(), say_person),
