@@ -6,8 +6,8 @@
  *
  *     floor SOCKET LAUNCHER VAULT WORKERS CONNECTIONS [wait]
  *
- * With `wait` it waits for a child's end by one call; without, it looks for it each millisecond, as the
- * monitor does. */
+ * With `wait` it waits for a child's end by one call; without, it looks for it behind naps that grow, as
+ * the monitor does. */
 #define _GNU_SOURCE
 #include <errno.h>
 #include <fcntl.h>
@@ -28,6 +28,7 @@
 
 enum { BANNER = 1, CHALLENGE, REPLY, ABANDON, EXPORT, IMPORT, READ, WRITE, OPEN, CLOSE, INFO, NOTE, FINISH };
 enum { MOST = 16384, PIECE = 4096, CLIENT_SECONDS = 120, CHILD_SECONDS = 30 };
+enum { FIRST_NAP = 50000, LONGEST_NAP = 1000000 }; /* nanoseconds */
 
 extern char **environ;
 
@@ -136,10 +137,12 @@ static void close_socket(int socket)
 
 static void finish(struct session *s)
 {
-	struct timespec nap = { 0, 1000000 };
+	struct timespec nap = { 0, FIRST_NAP };
 	close_socket(s->link);
-	while (waitpid(s->child, NULL, waits ? 0 : WNOHANG) == 0)
+	while (waitpid(s->child, NULL, waits ? 0 : WNOHANG) == 0) {
 		nanosleep(&nap, NULL);
+		nap.tv_nsec = nap.tv_nsec * 2 < LONGEST_NAP ? nap.tv_nsec * 2 : LONGEST_NAP;
+	}
 }
 
 static void start_pre(struct session *s)

@@ -22,8 +22,11 @@ const PRE_MODE: &str = "child-pre";
 /// The word that tells a launcher to start a user's child.
 const USER_MODE: &str = "child-user";
 
-/// How many milliseconds are slept before a child's end is looked for once more.
-const NAP: u64 = 1;
+/// How many microseconds are slept before a child's end is looked for a second time.
+const FIRST_NAP: u64 = 50;
+
+/// The most microseconds that are slept before it is looked for once more.
+const LONGEST_NAP: u64 = 1_000;
 
 /// A child program, over a socket that is both its standard input and its standard output.
 #[derive(Drop)]
@@ -144,13 +147,15 @@ pub fn close<R: Clock>(rt: &R, child: RealStream, limit: Duration) -> u64
     faults.saturating_add(1)
 }
 
-/// Whether a child ends within a time.
+/// Whether a child ends within a time. It is looked for again after naps that grow, since most
+/// children are gone at once.
 fn has_ended<R: Clock>(
     rt: &R,
     program: &mut Child<SystemProcess>,
     limit: Duration,
 ) -> io::Result<bool> {
     let start = Instant::now(rt)?;
+    let mut nap = FIRST_NAP;
     for _ in 0..u64::MAX {
         if program.try_wait()?.is_some() {
             return Ok(true);
@@ -158,7 +163,8 @@ fn has_ended<R: Clock>(
         if start.elapsed(rt)? >= limit {
             break;
         }
-        thread::sleep(rt, Duration::from_millis(NAP));
+        thread::sleep(rt, Duration::from_micros(nap));
+        nap = nap.saturating_mul(2).min(LONGEST_NAP);
     }
     Ok(false)
 }
