@@ -8,6 +8,10 @@ import sys
 
 ROUND_LEN = 196_608
 work, runs = sys.argv[1], int(sys.argv[2])
+# glibc copies 2,048 bytes and more by `rep movsb` on many processors, whose speed depends by a third on where both
+# blocks lie in their pages. With COPY=vector all programs copy by vector instructions.
+if os.environ.get("COPY") == "vector":
+    os.environ["GLIBC_TUNABLES"] = "glibc.cpu.x86_rep_movsb_threshold=1073741824"
 
 
 def read(program, words):

@@ -1,8 +1,8 @@
 -- The part of an array that is held, after a write behind it and after a move to the front.
-use Rattle.std.proofs.Common.{◌≡◌, ℕ, ◌+◌, ◌-◌, ◌≤◌, List, ◌++◌, length, take, drop, sym, ap, ◌∙◌, append_assoc, arith}
+use Rattle.std.proofs.Common.{◌≡◌, ℕ, ◌+◌, ◌-◌, ◌≤◌, List, ◌++◌, length, take, drop, sym, ap, ◌∙◌, append_assoc, arith, slice_set, slice_index_or, refl, [], ◌∷◌}
 use Rattle.std.specs.List.{between, copy_within}
 use borrow.Rule.Slice.PartMut.{put_mid}
-use Rattle.std.proofs.lemmas.List.{drop_at, take_at, length-append, length-drop, length-take-le, drop-append-le, drop-drop, drop-take, take-take, take-append-drop}
+use Rattle.std.proofs.lemmas.List.{drop_at, take_at, length-append, length-drop, length-take-le, drop-append-le, drop-drop, drop-take, take-take, take-append-drop, take_more_set}
 use Rattle.std.proofs.lemmas.List.Edits.{take-paste}
 use Rattle.std.proofs.lemmas.Slice.{between_is, between_from_start, take-put_mid}
 
@@ -64,3 +64,18 @@ between-appended i j k len items xs ys same xs_len le fits ys_len =
     ∙ ap (between i (j + k)) (take_at (put_mid j k xs ys) (drop (length (put_mid j k xs ys)) items) len (length-put_mid j k xs ys (omega arith) ys_len ∙ xs_len))
     ∙ between-put_mid_behind i j k xs ys le (omega arith) ys_len
     ∙ ap (λ (all : List ℕ). between i j all ++ ys) same
+
+first_byte : (piece : List ℕ) → length piece ≡ 1 → slice_index_or piece 0 0 ∷ [] ≡ take 1 piece
+first_byte (byte ∷ []) len = refl
+first_byte (byte ∷ more ∷ rest) len = absurd (omega arith)
+first_byte [] len = absurd (omega arith)
+
+-- a piece of one byte was written right behind the part from i to j
+pub between-written : (i j : ℕ) (xs piece : List ℕ) → i ≤ j → j + 1 ≤ length xs → length piece ≡ 1 → between i (j + 1) (slice_set xs j (slice_index_or piece 0 0)) ≡ between i j xs ++ take 1 piece
+between-written i j xs piece le fits len =
+    let byte = slice_index_or piece 0 0 in
+    between_is (slice_set xs j byte) i (j + 1)
+    ∙ ap (drop i) (take_more_set xs j byte (omega arith))
+    ∙ drop-append-le i (take j xs) (byte ∷ []) (omega (arith, length-take-le j xs (omega arith)))
+    ∙ ap (λ (part : List ℕ). part ++ (byte ∷ [])) (sym (between_is xs i j))
+    ∙ ap (λ (behind : List ℕ). between i j xs ++ behind) (first_byte piece len)

@@ -157,3 +157,7 @@ wrong_len len max not_right =
       | inl lt ↦ inl lt
       | inr low ↦ elim (cases_lt max len) [ inl gt ↦ inr gt | inr high ↦ absurd (not_right (low, high)) ]
     ]
+
+-- a length of at least a header's that a front doesn't have
+pub not_whole : (len held : ℕ) → 16 ≤ len → ((16 ≤ len) × (len ≤ held) → ⊥) → held < len
+not_whole len held low not_right = elim (cases_lt held len) [ inl lt ↦ lt | inr high ↦ absurd (not_right (low, high)) ]

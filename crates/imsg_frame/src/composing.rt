@@ -50,7 +50,7 @@ pub fn compose(
         peerid,
         pid,
     };
-    out[..HEADER_LEN].copy_from_slice(&header.to_bytes(width));
+    header.write(width, out);
     out[HEADER_LEN..len].copy_from_slice(body);
     Ok(len)
 }

@@ -1,4 +1,4 @@
-ghost use Rattle.std.specs.Prelude.{◌≡◌, ◌+◌, ◌*◌, ◌<◌, ◌≤◌, length, take};
+ghost use Rattle.std.specs.Prelude.{◌≡◌, ◌+◌, ◌*◌, ◌++◌, ◌<◌, ◌≤◌, drop, length, take};
 ghost use Rattle.std.specs.List.{between};
 ghost use Rattle.std.specs.Int.{w16, w32, to_le_bytes};
 
@@ -44,7 +44,17 @@ impl Header {
         }
     }
 
-    pub(crate) fn to_bytes(self, width: Width) -> [u8; HEADER_LEN]
+    /// Writes the header to the front of `out`, which needs room for it. What stands behind it stays as it
+    /// was: with a body of `len` less 16 bytes there, `out` begins with the frame.
+    pub fn write(self, width: Width, out: &mut [u8])
+        requires fields { FitsFields width self }
+        requires room { 16 ≤ length out.old }
+        ensures { out.new ≡ header_bytes width self ++ drop 16 out.old }
+    {
+        out[..HEADER_LEN].copy_from_slice(&self.to_bytes(width));
+    }
+
+    fn to_bytes(self, width: Width) -> [u8; HEADER_LEN]
         requires { FitsFields width self }
         ensures { result ≡ header_bytes width self }
     {

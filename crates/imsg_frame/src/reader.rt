@@ -27,11 +27,13 @@ pub enum Next<'a> {
 pub struct Reader {
     width: Width,
     max: usize,
-    // Twice `max` bytes, of which those from `start` to `end` are held. They are moved to the front only
-    // where a piece has too little room behind them, and so not before `max` bytes were given.
+    // An eighth more than `max` bytes, of which those from `start` to `end` are held. `feed_piece` says when
+    // they are moved to the front, and what that costs.
     bytes: Vec<u8>,
     start: usize,
     end: usize,
+    // Up to here a byte may be written behind `end`: it lies in the array, and no more than `max` are held.
+    limit: usize,
 }
 
 impl Model for Reader {
@@ -44,7 +46,7 @@ impl Model for Reader {
 
     ghost view = { λ r. record { width = r.width; max = r.max; bytes = between r.start r.end r.bytes.items } };
 
-    ghost invariant = { λ r. IsLaidOut r.width r.max r.start r.end (vec_len r.bytes) };
+    ghost invariant = { λ r. IsLaidOut r.width r.max r.start r.end r.limit (vec_len r.bytes) };
 }
 
 impl Reader {
@@ -66,9 +68,10 @@ impl Reader {
         Ok(Reader {
             width,
             max,
-            bytes: vec![in alloc; 0; 2 * max]?,
+            bytes: vec![in alloc; 0; max + max / 8]?,
             start: 0,
             end: 0,
+            limit: max,
         })
     }
 
@@ -94,6 +97,7 @@ impl Reader {
     {
         self.start = 0;
         self.end = 0;
+        self.limit = self.max;
     }
 
     /// Takes as many bytes of the piece, from its front, as there is room for, and answers how many.
@@ -103,8 +107,33 @@ impl Reader {
         ensures width { self.new.width ≡ self.old.width }
         ensures max { self.new.max ≡ self.old.max }
     {
+        // A piece of one byte is written without a call.
+        if piece.len() == 1 && self.end < self.limit {
+            let end = self.end;
+            self.bytes[end] = piece[0];
+            self.end = end + 1;
+            return 1;
+        }
+        self.feed_piece(piece)
+    }
+
+    // What `feed` does with a piece of any length.
+    //
+    // What is held is moved to the front only where the piece has too little room behind it; a reader that
+    // holds nothing begins again at the front. With the piece at most `max` bytes are held, so a move comes
+    // only once `start` is above `max / 8`, that is where more bytes than these were given since the move
+    // before, and it moves fewer than `max`. So fewer than eight bytes are moved for each that was fed,
+    // whatever the frames and the pieces. A caller that takes each whole frame before it feeds has each byte
+    // moved at most once: what is held then is part of one frame, and at the front that has room to its end.
+    #[inline(never)]
+    fn feed_piece(&mut self, piece: &[u8]) -> usize
+        ensures taken { result ≡ min (length piece.now) (self.old.max - length self.old.bytes) }
+        ensures bytes { self.new.bytes ≡ self.old.bytes ++ take result piece.now }
+        ensures width { self.new.width ≡ self.old.width }
+        ensures max { self.new.max ≡ self.old.max }
+    {
         let taken = piece.len().min(self.room());
-        if self.bytes.len() - self.end < taken {
+        if self.start == self.end || self.bytes.len() - self.end < taken {
             self.bytes.copy_within(self.start..self.end, 0);
             self.end -= self.start;
             self.start = 0;
@@ -112,6 +141,7 @@ impl Reader {
         let end = self.end + taken;
         self.bytes[self.end..end].copy_from_slice(&piece[..taken]);
         self.end = end;
+        self.limit = (self.start + self.max).min(self.bytes.len());
         taken
     }
 
@@ -134,13 +164,14 @@ impl Reader {
         }
         let header = Header::from_front(self.width, held);
         let len = header.len as usize;
-        if !is_right_len(len, self.max) {
+        // At most `max` bytes are held, so a length that they reach is right.
+        if !is_right_len(len, held.len()) {
+            if is_right_len(len, self.max) {
+                return Next::NotYet;
+            }
             return Next::Bad {
                 len: told_len(header.len),
             };
-        }
-        if held.len() < len {
-            return Next::NotYet;
         }
         let body = self.start + HEADER_LEN;
         self.start += len;
@@ -151,10 +182,11 @@ impl Reader {
     }
 }
 
-fn is_right_len(len: usize, max: usize) -> bool
-    ensures { IsTrue result ↔ ((HEADER_LEN ≤ len) × (len ≤ max)) }
+// Whether a length is from a header's to `most`.
+fn is_right_len(len: usize, most: usize) -> bool
+    ensures { IsTrue result ↔ ((HEADER_LEN ≤ len) × (len ≤ most)) }
 {
-    (HEADER_LEN..=max).contains(&len)
+    (HEADER_LEN..=most).contains(&len)
 }
 
 // A length as `Next::Bad` tells it.

@@ -2,4 +2,5 @@ pub mod FileLemmas
 pub mod Knowing
 pub mod Done
 pub mod Answering
+pub mod Framing
 pub mod Served

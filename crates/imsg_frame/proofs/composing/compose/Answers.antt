@@ -7,7 +7,7 @@ use Rattle.imsg_frame.proofs.composing.compose.Goals as goal
 pub returns-clause-written : goal.returns-clause-written
 unfolding spelling_of
 returns-clause-written c =
-    rw (c.copy_from_slice.ensures.after, c.copy_from_slice-2.ensures.after, c.to_bytes.ensures) (put_mid-behind_front c.args.out.now _ c.args.body.now 16 (length-header_bytes _ _))
+    rw (c.write.ensures, c.copy_from_slice.ensures.after) (put_mid-behind_front c.args.out.now _ c.args.body.now 16 (length-header_bytes _ _))
 
 pub returns-clause-alike : goal.returns-clause-alike
 returns-clause-alike c short either =
