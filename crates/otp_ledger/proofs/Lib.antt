@@ -1,4 +1,5 @@
 pub mod KeptLemmas
+pub mod PlacingLemmas
 pub mod RowLemmas
 pub mod EntryLemmas
 pub mod NameLemmas

@@ -1,6 +1,7 @@
 //! The accepted passwords of all accounts, in one rising array.
 
 ghost use Rattle.std.specs.Prelude.{◌≡◌, ◌<◌, ◌≤◌, ◌+◌, IfErr, IfOk, vec_capacity, vec_len};
+ghost use Rattle.std.specs.List.{insert};
 ghost use Rattle.otp_ledger.specs.Kept.{AddsEntry, IsGap, IsHere, IsRising, has_entry};
 
 /// A password of an account that was accepted.
@@ -29,6 +30,22 @@ pub(crate) fn has_entry(kept: &[Kept], account: u32, password: u64) -> bool
     search(kept, &Kept { account, password }).is_ok()
 }
 
+/// The entry stands at this place of the array, which has room for it, and the later ones one place on.
+/// They are copied, since `Vec::insert` takes twice the time to move entries of two fields.
+fn insert_at(kept: &mut Vec<Kept>, place: usize, entry: Kept)
+    requires within { place ≤ vec_len kept.old }
+    requires room { vec_len kept.old < vec_capacity kept.old }
+    ensures items { kept.new.items ≡ insert kept.old.items place entry }
+    ensures len { vec_len kept.new ≡ vec_len kept.old + 1 }
+    ensures capacity { vec_capacity kept.old ≤ vec_capacity kept.new }
+{
+    let end = kept.len();
+    if kept.push(entry).is_ok() {
+        kept.copy_within(place..end, place + 1);
+        kept[place] = entry;
+    }
+}
+
 /// The entry is in the array, which has room for it.
 pub(crate) fn keep(kept: &mut Vec<Kept>, entry: Kept)
     requires rising { IsRising kept.old.items }
@@ -39,6 +56,6 @@ pub(crate) fn keep(kept: &mut Vec<Kept>, entry: Kept)
     ensures capacity { vec_capacity kept.old ≤ vec_capacity kept.new }
 {
     if let Err(place) = search(kept.as_slice(), &entry) {
-        let _ = kept.insert(place, entry);
+        insert_at(kept, place, entry);
     }
 }

@@ -1,4 +1,4 @@
-use Rattle.std.proofs.Common.{◌≡◌, ◌∙◌, cond, sym, ap, subst}
+use Rattle.std.proofs.Common.{◌≡◌, ◌∙◌, sym, ap, subst}
 use Rattle.std.specs.List.{insert}
 use Rattle.otp_ledger.specs.Kept.{IsGap, IsHere, IsRising, has_entry}
 use Rattle.otp_ledger.proofs.KeptLemmas.{entries_insert, entries_there, rising_insert}
@@ -7,13 +7,13 @@ use Rattle.otp_ledger.proofs.kept.keep.Goals as goal
 pub returns-in-Err-clause-rising : goal.returns-in-Err-clause-rising
 returns-in-Err-clause-rising c =
     let old = c.args.kept.now.items in
-    let items : c.insert.new.self.items ≡ insert old c.in-Err.place c.args.entry = c.insert.ensures.items ∙ ap (λ b. cond b (insert old c.in-Err.place c.args.entry) old) (c.insert.ensures.succeeds c.requires.room) in
+    let items : c.insert_at.new.kept.items ≡ insert old c.in-Err.place c.args.entry = c.insert_at.ensures.items in
     subst IsRising (sym items) (rising_insert old c.args.entry c.in-Err.place c.requires.rising (subst (λ xs. IsGap xs c.args.entry c.in-Err.place) c.as_slice.ensures.value c.in-Err.ensures.absent))
 
 pub returns-in-Err-clause-entries : goal.returns-in-Err-clause-entries
 returns-in-Err-clause-entries c account password =
     let old = c.args.kept.now.items in
-    let items : c.insert.new.self.items ≡ insert old c.in-Err.place c.args.entry = c.insert.ensures.items ∙ ap (λ b. cond b (insert old c.in-Err.place c.args.entry) old) (c.insert.ensures.succeeds c.requires.room) in
+    let items : c.insert_at.new.kept.items ≡ insert old c.in-Err.place c.args.entry = c.insert_at.ensures.items in
     ap (has_entry account password) items ∙ entries_insert old c.args.entry c.in-Err.place account password
 
 pub returns-in_default-clause-entries : goal.returns-in_default-clause-entries
