@@ -9,5 +9,8 @@ pub mod Journals
 pub mod Witness
 pub mod LogLaws
 pub mod Recent
+pub mod OwnEvents
+pub mod Gates
+pub mod KeptLemmas
 pub mod Writable
 pub mod OneAnswer

@@ -60,22 +60,22 @@ any_none session p (x ∷ xs) h = go (eqb x.session session) h (any_none session
 events_recent : (session : ℕ) (front ys : List Event) → events_of front session ≡ [] → events_of (front ++ ys) session ≡ events_of ys session
 events_recent session front ys none = filter-append (λ e. eqb e.session session) front ys ∙ ap (λ xs. xs ++ events_of ys session) none
 
-has_recent : (session : ℕ) (p : Event → Bool) (front ys : List Event) → events_of front session ≡ [] → has_event (front ++ ys) session p ≡ has_event ys session p
+pub has_recent : (session : ℕ) (p : Event → Bool) (front ys : List Event) → events_of front session ≡ [] → has_event (front ++ ys) session p ≡ has_event ys session p
 has_recent session p front ys none = list_any-append (is_own session p) front ys ∙ ap (λ b. b || has_event ys session p) (any_none session p front none)
 
-last_recent : (session : ℕ) (p : Event → Bool) (front ys : List Event) → events_of front session ≡ [] → last_event (front ++ ys) session p ≡ last_event ys session p
+pub last_recent : (session : ℕ) (p : Event → Bool) (front ys : List Event) → events_of front session ≡ [] → last_event (front ++ ys) session p ≡ last_event ys session p
 last_recent session p front ys none = ap (last_or None) (filter-append (is_own session p) front ys ∙ ap (λ xs. xs ++ filter (is_own session p) ys) (own_none session p front none))
 
-over_recent : (session : ℕ) (front ys : List Event) → events_of front session ≡ [] → is_over (front ++ ys) session ≡ is_over ys session
+pub over_recent : (session : ℕ) (front ys : List Event) → events_of front session ≡ [] → is_over (front ++ ys) session ≡ is_over ys session
 over_recent session front ys none = ap (λ own. not (list_any opens own) || list_any ends_session own) (events_recent session front ys none)
 
-asked_recent : (session : ℕ) (front ys : List Event) → events_of front session ≡ [] → ask_count (front ++ ys) session ≡ ask_count ys session
+pub asked_recent : (session : ℕ) (front ys : List Event) → events_of front session ≡ [] → ask_count (front ++ ys) session ≡ ask_count ys session
 asked_recent session front ys none = ap (count_by (λ e. came_by_frame e.ask)) (events_recent session front ys none)
 
 abbrev phase_by : Bool → Bool → Bool → Bool → Phase
 phase_by over exported accepted challenged = cond over Over (cond exported User (cond accepted Verified (cond challenged Challenged Pre)))
 
-phase_recent : (session : ℕ) (front ys : List Event) → events_of front session ≡ [] → phase_of (front ++ ys) session ≡ phase_of ys session
+pub phase_recent : (session : ℕ) (front ys : List Event) → events_of front session ≡ [] → phase_of (front ++ ys) session ≡ phase_of ys session
 unfolding phase_of
 phase_recent session front ys none =
     let xs : List Event = front ++ ys in
@@ -88,7 +88,7 @@ challenged_recent : (session : ℕ) (front ys : List Event) → events_of front 
 unfolding challenged_user
 challenged_recent session front ys none = ap user_named (last_recent session takes front ys none)
 
-none_pushed : (b : Bool) (xs : List Event) (e : Event) → xs ++ cond b (e ∷ []) [] ≡ [] → (xs ≡ []) × (b ≡ false)
+pub none_pushed : (b : Bool) (xs : List Event) (e : Event) → xs ++ cond b (e ∷ []) [] ≡ [] → (xs ≡ []) × (b ≡ false)
 none_pushed true [] e h = absurd cc
 none_pushed true (x ∷ xs) e h = absurd cc
 none_pushed false [] e h = (refl, refl)
@@ -103,7 +103,7 @@ verified_none session = by_push (λ f. events_of f session ≡ [] → verified_u
       ∙ ap (λ b. cond (b && accepts e) (challenged_user f session) (verified_user f session)) both.1
       ∙ before both.0
 
-verified_recent : (session : ℕ) (front : List Event) → events_of front session ≡ [] → (ys : List Event) → verified_user (front ++ ys) session ≡ verified_user ys session
+pub verified_recent : (session : ℕ) (front : List Event) → events_of front session ≡ [] → (ys : List Event) → verified_user (front ++ ys) session ≡ verified_user ys session
 verified_recent session front none = by_push (λ ys. verified_user (front ++ ys) session ≡ verified_user ys session) start more where
   start : verified_user (front ++ []) session ≡ verified_user [] session
   start = ap (λ xs. verified_user xs session) (append-nil front) ∙ verified_none session front none ∙ sym (verified_user-none session)
@@ -160,7 +160,7 @@ request_recent setup session front ys none ask h =
 -- 3. Behind a worker's last permitted opening or end
 
 -- in a legal log no event has a greater session than were opened
-numbered : (setup : Settings) (events : List Event) → IsLegalLog setup events → AreNumbered events (openings_of events)
+pub numbered : (setup : Settings) (events : List Event) → IsLegalLog setup events → AreNumbered events (openings_of events)
 numbered setup = by_log setup (λ xs. AreNumbered xs (openings_of xs)) tt more where
   more : (xs : List Event) (e : Event) → MayFollow setup xs e → AreNumbered xs (openings_of xs) → AreNumbered (xs ++ e ∷ []) (openings_of (xs ++ e ∷ []))
   more xs e may before =
@@ -171,14 +171,14 @@ numbered setup = by_log setup (λ xs. AreNumbered xs (openings_of xs)) tt more w
 last_cons : (xs : List Event) (t : Event) (rest : List Event) → rest ≡ [] → last_or None (xs ++ t ∷ rest) ≡ Some t
 last_cons xs t rest none = ap (λ r. last_or None (xs ++ t ∷ r)) none ∙ last_or-push None xs t
 
-open_recent : (worker : ℕ) (front : List Event) (t : Event) (rest : List Event) → is_turn_of worker t ≡ true → filter (is_turn_of worker) rest ≡ [] → open_session_of (front ++ t ∷ rest) worker ≡ session_opened (Some t)
+pub open_recent : (worker : ℕ) (front : List Event) (t : Event) (rest : List Event) → is_turn_of worker t ≡ true → filter (is_turn_of worker) rest ≡ [] → open_session_of (front ++ t ∷ rest) worker ≡ session_opened (Some t)
 open_recent worker front t rest turn none =
     ap (λ xs. session_opened (last_or None xs)) (filter-append (is_turn_of worker) front (t ∷ rest))
     ∙ ap (λ b. session_opened (last_or None (filter (is_turn_of worker) front ++ cond b (t ∷ filter (is_turn_of worker) rest) (filter (is_turn_of worker) rest)))) turn
     ∙ ap session_opened (last_cons (filter (is_turn_of worker) front) t (filter (is_turn_of worker) rest) none)
 
 -- before an opening no event has its session
-fresh : (setup : Settings) (front : List Event) (t : Event) (rest : List Event) → IsLegalLog setup (front ++ t ∷ rest) → is_begin t.ask ≡ true → is_permit t.decision ≡ true → events_of front t.session ≡ []
+pub fresh : (setup : Settings) (front : List Event) (t : Event) (rest : List Event) → IsLegalLog setup (front ++ t ∷ rest) → is_begin t.ask ≡ true → is_permit t.decision ≡ true → events_of front t.session ≡ []
 fresh setup front t rest legal begin permit =
     let may = legal_last setup front t rest legal in
     let number : t.session ≡ openings_of front + 1 = may.session ∙ opening_number front t.worker t.ask t.decision begin permit in

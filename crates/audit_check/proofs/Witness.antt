@@ -109,7 +109,7 @@ session_witness before worker (asks.Reply words hex) Lost = refl
 session_witness before worker _ d = refl
 
 -- it follows the journal
-next_witness : (setup : Settings) (before : List Event) (e : Event) → MayFollow setup before e → has_lost (map witness before) ≡ false → IsNext setup (map witness before) (witness e) × (is_lost (witness e).decision ≡ false)
+pub next_witness : (setup : Settings) (before : List Event) (e : Event) → MayFollow setup before e → has_lost (map witness before) ≡ false → IsNext setup (map witness before) (witness e) × (is_lost (witness e).decision ≡ false)
 next_witness setup before e may kept = (record { decided = decided; lost = λ h. absurd (false≢true (sym kept ∙ h)) }, not_lost) where
   w : Event
   w = witness e

@@ -1,22 +1,27 @@
 -- Inner: steps of the search through a log.
-use Rattle.std.specs.Prelude.{ℕ, ◌≡◌, ◌+◌, ◌==◌, ◌⊎◌, Bool, true, false, List, [], ◌∷◌, drop, filter, nat_le, if◌then◌else◌}
-use Rattle.request_catalogue.specs.Rules.{no_reading}
+use Rattle.std.specs.Prelude.{ℕ, ◌≡◌, ◌≢◌, ◌+◌, ◌==◌, ◌&&◌, ◌||◌, not, ◌⊎◌, Bool, true, false, List, [], ◌∷◌, ◌++◌, drop, filter, nat_le}
+use Rattle.request_catalogue.specs.Rules.{no_match, no_reading, password_used, user_held}
 use Rattle.policy_model.specs.declared.event.Ask.{Ask}
 use Rattle.policy_model.specs.declared.event.Ask.TheVariants as asks
 use Rattle.policy_model.specs.declared.event.Decision.{Decision}
-use Rattle.policy_model.specs.declared.event.Decision.TheVariants.{Deny}
+use Rattle.policy_model.specs.declared.event.Decision.TheVariants.{Permit, Deny, Lost}
 use Rattle.policy_model.specs.declared.event.Event.{Event}
-use Rattle.policy_model.specs.Asks.{decoys_from, takes, value_of}
-use Rattle.policy_model.specs.Journal.{is_own, is_turn_of}
+use Rattle.policy_model.specs.Journal.{events_of, is_turn_of, open_session_of}
 
--- what an event makes of whether a session's last permitted CHALLENGE names a decoy
-abbrev pub decoyed_after : Bool → ℕ → Event → Bool
-decoyed_after decoyed session e = if is_own session takes e then nat_le decoys_from (value_of e.decision) else decoyed
+-- a decision that may rest on what stands before its session: a permit, or a denial by one of the rules 12 to 16
+abbrev pub rests_on_accounts : Decision → Bool
+rests_on_accounts (Permit value) = true
+rests_on_accounts (Deny rule detail) = nat_le user_held rule && nat_le rule no_match
+rests_on_accounts Lost = false
 
 -- a denial for want of a reading
 abbrev pub is_no_reading : Decision → Bool
 is_no_reading (Deny rule detail) = rule == no_reading
 is_no_reading _ = false
+
+-- a denial that may be one on a reply whose readings decide, behind a challenge that names a decoy or doesn't
+abbrev pub may_be_denied : ℕ → ℕ → Bool → Bool
+may_be_denied rule detail decoyed = detail == 0 && (rule == no_reading || rule == no_match || rule == password_used && not decoyed)
 
 -- an ask whose verdict rests on its own session alone, and not on a user's logins or on how many sessions were opened
 abbrev pub is_local : Ask → Bool
@@ -36,3 +41,9 @@ pub record LastTurn (events : List Event) (worker place : ℕ) : Type 0 where
 -- a worker's last permitted opening or end stands at the place, or it is the first
 abbrev pub IsTurnStart : List Event → ℕ → ℕ → Type 0
 IsTurnStart events worker place = (place ≡ 0) ⊎ LastTurn events worker place
+
+-- the worker has no open session, or all events of it stand in this end of the log
+pub record IsRecent (recent : List Event) (worker : ℕ) (events : List Event) : Type 0 where
+  pub front : List Event
+  pub parts : events ≡ front ++ recent
+  pub none : open_session_of events worker ≢ 0 → events_of front (open_session_of events worker) ≡ []

@@ -3,3 +3,4 @@ pub mod Legal
 pub mod Said
 pub mod Following
 pub mod Consequences
+pub mod History

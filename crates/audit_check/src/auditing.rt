@@ -6,11 +6,13 @@ ghost use Rattle.policy_model.specs.declared.event.Event.{Event};
 ghost use Rattle.policy_model.specs.Journal.{kept_events};
 ghost use Rattle.decision_log.specs.Log.{log_text};
 ghost use Rattle.audit_check.specs.Consequences.{IsJournalOf};
-ghost use Rattle.audit_check.specs.Legal.{IsLegalLog, MayFollow};
+ghost use Rattle.audit_check.specs.History.{IsKept};
+ghost use Rattle.audit_check.specs.Legal.{MayFollow};
 ghost use Rattle.audit_check.specs.Said.{IsAnswer, IsFault, Says, events_max, first_line};
 
 use crate::answer::{Audit, AuditWhy};
 use crate::following::may_follow;
+use crate::history::History;
 use crate::said::event_said;
 use decision_log::read_line;
 use policy_model::{Event, Setup};
@@ -42,24 +44,25 @@ fn line_len(text: &[u8]) -> usize
 }
 
 /// The event of a line that stands behind these, or what is wrong with it.
-fn next_event(setup: &Setup, events: &[Event], line: &[u8]) -> Result<Event, AuditWhy>
-    requires legal { IsLegalLog setup.now events.now }
-    requires few { length events.now ≤ events_max }
+fn next_event(setup: &Setup, history: &History, line: &[u8]) -> Result<Event, AuditWhy>
+    requires kept { IsKept setup.now history.now }
+    requires few { length history.now.events.items ≤ events_max }
     ensures { MatchResult result
-        (λ e. (length events.now < events_max) × Says (length events.now + 1) line.now e × MayFollow setup.now events.now e)
-        (IsFault setup.now events.now line.now) }
+        (λ e. (length history.now.events.items < events_max) × Says (length history.now.events.items + 1) line.now e × MayFollow setup.now history.now.events.items e)
+        (IsFault setup.now history.now.events.items line.now) }
 {
-    if events.len() >= EVENTS_MAX {
+    let count = history.events.len();
+    if count >= EVENTS_MAX {
         return Err(AuditWhy::Count);
     }
     let Ok(logged) = read_line(line) else {
         return Err(AuditWhy::Text);
     };
-    if logged.number as usize != events.len() + 1 {
+    if logged.number as usize != count + 1 {
         return Err(AuditWhy::Count);
     }
     let event = event_said(&logged);
-    if may_follow(setup, events, &event) {
+    if may_follow(setup, history, &event) {
         Ok(event)
     } else {
         Err(AuditWhy::Event)
@@ -70,15 +73,15 @@ fn next_event(setup: &Setup, events: &[Event], line: &[u8]) -> Result<Event, Aud
 fn read_log(alloc: Global, setup: &Setup, text: &[u8]) -> Result<Audit, AllocError>
     ensures { IfOk result (IsAnswer setup.now text.now) }
 {
-    let mut events = Vec::new(alloc);
+    let mut history = History::new(alloc, setup)?;
     let mut rest = text;
     while !rest.is_empty() {
         let (line, behind) = rest.split_at(line_len(rest));
-        match next_event(setup, events.as_slice(), line) {
-            Ok(event) => events.push(event)?,
+        match next_event(setup, &history, line) {
+            Ok(event) => history.push(setup, event)?,
             Err(why) => {
                 return Ok(Audit::No {
-                    line: events.len() as u32 + 1,
+                    line: history.events.len() as u32 + 1,
                     why,
                 });
             }
@@ -86,7 +89,7 @@ fn read_log(alloc: Global, setup: &Setup, text: &[u8]) -> Result<Audit, AllocErr
         rest = behind;
     }
     Ok(Audit::Yes {
-        events: events.len() as u32,
+        events: history.events.len() as u32,
     })
 }
 

@@ -1,77 +1,23 @@
 //! Whether an event may stand behind others in a log.
 
-ghost use Rattle.std.specs.Prelude.{◌≡◌, ◌≤◌, ◌^◌, ◌-◌, ◌<◌, ◌==◌, true, length};
+ghost use Rattle.std.specs.Prelude.{◌≡◌, ◌^◌, ◌-◌, ◌<◌, List, false, true, length};
 ghost use Rattle.std.specs.Bool.{MatchBool};
-ghost use Rattle.policy_model.specs.declared.event.Decision.TheVariants.{Permit};
-ghost use Rattle.policy_model.specs.Asks.{is_reply};
-ghost use Rattle.policy_model.specs.Journal.{is_turn_of, open_session_of};
-ghost use Rattle.policy_model.specs.Legal.{session_of};
-ghost use Rattle.policy_model.specs.Logins.{was_decoyed};
+ghost use Rattle.policy_model.specs.Journal.{open_session_of, openings_of};
+ghost use Rattle.policy_model.specs.Legal.{opening_session, session_of};
+ghost use Rattle.policy_model.specs.declared.event.Event.{Event};
 ghost use Rattle.policy_model.specs.Settings.{Settings};
 ghost use Rattle.policy_model.specs.Verdict.{verdict_of};
 ghost use Rattle.policy_laws.specs.Strangers.{without_readings};
-ghost use Rattle.audit_check.specs.Legal.{IsDecided, IsLegalLog, MayFollow, is_open, may_be_decided, readings_decide};
-ghost use Rattle.audit_check.specs.Following.{IsTurnStart, decoyed_after, is_local, is_no_reading};
+ghost use Rattle.audit_check.specs.Following.{is_local, is_no_reading, may_be_denied, rests_on_accounts};
+ghost use Rattle.audit_check.specs.History.{IsKept};
+ghost use Rattle.audit_check.specs.Legal.{IsDecided, MayFollow, is_open, may_be_decided, readings_decide};
 
-use policy_model::{Ask, Decision, Event, Setup, event_after, judge, open_session};
+use crate::accounts::{judge_challenge, judge_info, judge_reply, permits};
+use crate::history::History;
+use crate::reading::is_reply;
+use crate::sessions::{is_decoy, login_of, recent};
+use policy_model::{Ask, Decision, Event, Setup, judge, open_session};
 use request_catalogue::rules;
-
-/// The value of a permitted CHALLENGE is below this, unless it names a decoy.
-const DECOYS_FROM: u64 = 10_000;
-
-/// Whether the session's last permitted CHALLENGE names a decoy, after one more event.
-fn decoyed_after(decoyed: bool, session: u32, event: &Event) -> bool
-    ensures { result ≡ decoyed_after decoyed session event.now }
-{
-    match (event.ask, event.decision) {
-        (Ask::Challenge { .. }, Decision::Permit { value }) if event.session == session => {
-            value >= DECOYS_FROM
-        }
-        _ => decoyed,
-    }
-}
-
-/// Whether the session's last permitted CHALLENGE names a decoy.
-fn was_decoyed(events: &[Event], session: u32) -> bool
-    ensures { result ≡ was_decoyed events.now session }
-{
-    let mut decoyed = false;
-    for event in events {
-        decoyed = decoyed_after(decoyed, session, event);
-    }
-    decoyed
-}
-
-/// Whether an event is a permitted opening or end of the worker.
-fn is_turn(event: &Event, worker: u32) -> bool
-    ensures { result ≡ is_turn_of worker event.now }
-{
-    event.worker == worker
-        && (event.ask.is_begin() || event.ask.is_end())
-        && event.decision.is_permit()
-}
-
-/// Where the worker's last permitted opening or end stands, or 0.
-fn turn_start(events: &[Event], worker: u32) -> usize
-    ensures start { IsTurnStart events.now worker result }
-    ensures within { result ≤ length events.now }
-{
-    let mut start = events.len();
-    while start > 0 && !is_turn(&events[start - 1], worker) {
-        start -= 1;
-    }
-    start.saturating_sub(1)
-}
-
-/// The events from the worker's last permitted opening or end on: all that its open session did, and
-/// what other sessions did meanwhile.
-fn recent(events: &[Event], worker: u32) -> &[Event]
-    ensures session { open_session_of result.now worker ≡ open_session_of events.now worker }
-    ensures verdict { (setup : Settings) (ask : _) → IsLegalLog setup events.now → is_local ask ≡ true →
-        verdict_of setup result.now worker ask ≡ verdict_of setup events.now worker ask }
-{
-    &events[turn_start(events, worker)..]
-}
 
 /// Whether the verdict on an ask rests on its own session alone.
 fn is_local(ask: &Ask) -> bool
@@ -83,20 +29,52 @@ fn is_local(ask: &Ask) -> bool
     )
 }
 
+/// Whether a decision may rest on what stands before its session: a permit, or a denial by one of the
+/// rules 12 to 16.
+fn rests_on_accounts(decision: &Decision) -> bool
+    ensures { result ≡ rests_on_accounts decision.now }
+{
+    match *decision {
+        Decision::Permit { .. } => true,
+        Decision::Deny { rule, .. } => rules::USER_HELD <= rule && rule <= rules::NO_MATCH,
+        Decision::Lost => false,
+    }
+}
+
+/// The policy's verdict on an opening, a CHALLENGE, a REPLY or an INFO.
+fn verdict_by_accounts(setup: &Setup, history: &History, event: &Event) -> Decision
+    requires kept { IsKept setup.now history.now }
+    requires shown { without_readings event.now.ask ≡ event.now.ask }
+    requires other { is_local event.now.ask ≡ false }
+    ensures { result ≡ verdict_of setup.now history.now.events.items event.now.worker event.now.ask }
+{
+    let recent = recent(history, event.worker);
+    let verdict = judge(setup, recent, event.worker, &event.ask);
+    if !rests_on_accounts(&verdict) {
+        return verdict;
+    }
+    let session = open_session(recent, event.worker);
+    match event.ask {
+        Ask::Challenge { user, now } => judge_challenge(setup, history, session, &user, now),
+        Ask::Reply { .. } => judge_reply(setup, history, event.worker),
+        Ask::Info { .. } => judge_info(setup, history, event.worker),
+        _ => Decision::Permit {
+            value: u64::from(history.opened) + 1,
+        },
+    }
+}
+
 /// The policy's verdict on the event's ask.
-fn verdict(setup: &Setup, events: &[Event], event: &Event) -> Decision
-    requires legal { IsLegalLog setup.now events.now }
-    ensures { result ≡ verdict_of setup.now events.now event.now.worker event.now.ask }
+fn verdict(setup: &Setup, history: &History, event: &Event) -> Decision
+    requires kept { IsKept setup.now history.now }
+    requires shown { without_readings event.now.ask ≡ event.now.ask }
+    ensures { result ≡ verdict_of setup.now history.now.events.items event.now.worker event.now.ask }
 {
     if is_local(&event.ask) {
-        judge(
-            setup,
-            recent(events, event.worker),
-            event.worker,
-            &event.ask,
-        )
+        let recent = recent(history, event.worker);
+        judge(setup, recent, event.worker, &event.ask)
     } else {
-        judge(setup, events, event.worker, &event.ask)
+        verdict_by_accounts(setup, history, event)
     }
 }
 
@@ -113,90 +91,88 @@ fn is_no_reading(verdict: &Decision) -> bool
     )
 }
 
-/// Whether this is a REPLY.
-fn is_reply(ask: &Ask) -> bool
-    ensures { result ≡ is_reply ask.now }
+/// Whether a denial may be one on a reply whose readings decide.
+fn may_be_denied(rule: u8, detail: u32, decoyed: bool) -> bool
+    ensures { result ≡ may_be_denied rule detail decoyed }
 {
-    matches!(ask, Ask::Reply { .. })
-}
-
-/// Whether the readings of a reply without any decide: the policy denies it only for want of one.
-fn is_open(setup: &Setup, events: &[Event], event: &Event) -> bool
-    ensures { result ≡ is_open setup.now events.now event.now }
-{
-    let silent = Ask::Reply {
-        words: None,
-        hex: None,
-    };
-    is_reply(&event.ask) && is_no_reading(&judge(setup, events, event.worker, &silent))
-}
-
-/// Whether a reply with this reading is permitted.
-fn permits(setup: &Setup, events: &[Event], worker: u32, password: u64) -> bool
-    requires { readings_decide setup.now events.now (open_session_of events.now worker) ≡ true }
-    ensures { result ≡ may_be_decided setup.now events.now (open_session_of events.now worker) (Permit password) }
-{
-    let reply = Ask::Reply {
-        words: Some(password),
-        hex: None,
-    };
-    judge(setup, events, worker, &reply).is_permit()
+    detail == 0
+        && (rule == rules::NO_READING
+            || rule == rules::NO_MATCH
+            || rule == rules::PASSWORD_USED && !decoyed)
 }
 
 /// Whether the decision may be one on a reply whose readings decide.
-fn may_be_decided(setup: &Setup, events: &[Event], event: &Event) -> bool
-    requires { readings_decide setup.now events.now (open_session_of events.now event.now.worker) ≡ true }
-    ensures { result ≡ may_be_decided setup.now events.now (open_session_of events.now event.now.worker) event.now.decision }
+fn may_be_decided(setup: &Setup, history: &History, event: &Event) -> bool
+    requires kept { IsKept setup.now history.now }
+    requires open { readings_decide setup.now history.now.events.items (open_session_of history.now.events.items event.now.worker) ≡ true }
+    ensures { result ≡ may_be_decided setup.now history.now.events.items (open_session_of history.now.events.items event.now.worker) event.now.decision }
 {
+    let taking = login_of(history, event.worker);
     match event.decision {
-        Decision::Permit { value } => permits(setup, events, event.worker, value),
-        Decision::Deny { rule, detail } => {
-            detail == 0
-                && (rule == rules::NO_READING
-                    || rule == rules::NO_MATCH
-                    || rule == rules::PASSWORD_USED
-                        && !was_decoyed(
-                            events,
-                            open_session(recent(events, event.worker), event.worker),
-                        ))
-        }
+        Decision::Permit { value } => permits(setup, history, &taking, value),
+        Decision::Deny { rule, detail } => may_be_denied(rule, detail, is_decoy(&taking)),
         Decision::Lost => false,
     }
 }
 
-/// Whether the policy may give the event's decision.
-fn is_decided(setup: &Setup, events: &[Event], event: &Event) -> bool
-    requires legal { IsLegalLog setup.now events.now }
-    requires shown { without_readings event.now.ask ≡ event.now.ask }
-    ensures { MatchBool result (IsDecided setup.now events.now event.now) (IsDecided setup.now events.now event.now → ⊥) }
+/// Whether an event is a reply whose readings decide, by the policy's verdict on it: the policy denies
+/// it only for want of a reading.
+fn is_open(event: &Event, verdict: &Decision) -> bool
+    requires { without_readings event.now.ask ≡ event.now.ask }
+    ensures { (setup : Settings) (before : List Event) → verdict.now ≡ verdict_of setup before event.now.worker event.now.ask →
+        result ≡ is_open setup before event.now }
 {
-    if is_open(setup, events, event) {
-        may_be_decided(setup, events, event)
+    is_reply(&event.ask) && is_no_reading(verdict)
+}
+
+/// Whether the policy may give the event's decision.
+fn is_decided(setup: &Setup, history: &History, event: &Event) -> bool
+    requires kept { IsKept setup.now history.now }
+    requires shown { without_readings event.now.ask ≡ event.now.ask }
+    ensures { MatchBool result (IsDecided setup.now history.now.events.items event.now) (IsDecided setup.now history.now.events.items event.now → ⊥) }
+{
+    let verdict = verdict(setup, history, event);
+    if is_open(event, &verdict) {
+        may_be_decided(setup, history, event)
     } else {
-        event.decision == verdict(setup, events, event)
+        event.decision == verdict
+    }
+}
+
+/// The session of a worker's opening with this decision.
+fn opening_session(history: &History, worker: u32, decision: &Decision) -> u32
+    requires few { length history.now.events.items < 2 ^ 32 - 1 }
+    requires opened { history.now.opened ≡ openings_of history.now.events.items }
+    ensures { result ≡ opening_session history.now.events.items worker decision.now }
+{
+    match decision {
+        Decision::Permit { .. } => history.opened + 1,
+        Decision::Deny { .. } => open_session(recent(history, worker), worker),
+        Decision::Lost => 0,
     }
 }
 
 /// The session that an event with this ask and decision has behind these.
-fn session_after(events: &[Event], event: &Event) -> u32
-    requires { length events.now < 2 ^ 32 - 1 }
-    ensures { result ≡ session_of events.now event.now.worker event.now.ask event.now.decision }
+fn session_after(history: &History, event: &Event) -> u32
+    requires few { length history.now.events.items < 2 ^ 32 - 1 }
+    requires opened { history.now.opened ≡ openings_of history.now.events.items }
+    ensures { result ≡ session_of history.now.events.items event.now.worker event.now.ask event.now.decision }
 {
     if event.ask.is_begin() {
-        event_after(events, event.worker, &event.ask, &event.decision).session
+        opening_session(history, event.worker, &event.decision)
     } else {
-        open_session(recent(events, event.worker), event.worker)
+        open_session(recent(history, event.worker), event.worker)
     }
 }
 
 /// Whether an event may stand in a log behind these.
-pub(crate) fn may_follow(setup: &Setup, events: &[Event], event: &Event) -> bool
-    requires legal { IsLegalLog setup.now events.now }
-    requires few { length events.now < 2 ^ 32 - 1 }
+pub(crate) fn may_follow(setup: &Setup, history: &History, event: &Event) -> bool
+    requires kept { IsKept setup.now history.now }
+    requires few { length history.now.events.items < 2 ^ 32 - 1 }
     requires shown { without_readings event.now.ask ≡ event.now.ask }
-    ensures { MatchBool result (MayFollow setup.now events.now event.now) (MayFollow setup.now events.now event.now → ⊥) }
+    ensures { MatchBool result (MayFollow setup.now history.now.events.items event.now) (MayFollow setup.now history.now.events.items event.now → ⊥) }
 {
     event.worker < setup.workers()
-        && event.session == session_after(events, event)
-        && is_decided(setup, events, event)
+        && event.session == session_after(history, event)
+        && is_decided(setup, history, event)
 }

@@ -2,11 +2,15 @@
 //! `specs/Legal.antt` and `specs/Said.antt`; the mode `audit` stands above.
 #![tactic(auto)]
 
+mod accounts;
 mod answer;
 mod auditing;
 mod following;
+mod history;
 mod laws;
+mod reading;
 mod said;
+mod sessions;
 
 pub use answer::{Audit, AuditWhy};
 pub use auditing::audit;

@@ -1,6 +1,4 @@
-use Rattle.std.proofs.Common.{◌∙◌, ap, sym, subst, ◌≡◌, ◌++◌, drop, take, List, ℕ, length, ◌+◌, ◌<◌}
-use Rattle.audit_check.specs.Legal.{MayFollow}
-use Rattle.audit_check.specs.Said.{Says, events_max}
+use Rattle.std.proofs.Common.{◌∙◌, ap, sym, subst, ◌≡◌, ◌++◌, drop, take, List, ℕ}
 use Rattle.std.proofs.lemmas.List.{take-append-drop}
 use Rattle.policy_model.specs.declared.event.Event.{Event}
 use Rattle.audit_check.proofs.Fronts.{Stands, stands_next}
@@ -13,9 +11,9 @@ loop-rest-preserved c =
     let front : take n rest ≡ c.split_at.result.0.now = sym c.split_at.ensures.front in
     let back : drop n rest ≡ c.split_at.result.1.now = sym c.split_at.ensures.back in
     let parts : rest ≡ c.split_at.result.0.now ++ c.split_at.result.1.now = sym (take-append-drop n rest) ∙ ap (λ x. x ++ drop n rest) front ∙ ap (λ x. c.split_at.result.0.now ++ x) back in
-    let items : c.as_slice.result.now ≡ c.loop-rest.events.items = c.as_slice.ensures.value in
-    subst (λ (events : List Event). Stands c.args.setup.now c.args.text.now c.split_at.result.1.now events) (sym c.in_ok-push-in-Ok.ensures.items)
-    (stands_next c.args.setup.now c.args.text.now rest c.split_at.result.0.now c.split_at.result.1.now c.loop-rest.events.items c.in-Ok.event c.loop-rest.invariant parts
-    (subst (λ (xs : List Event). length xs < events_max) items c.in-Ok.ensures.0)
-    (subst (λ (xs : List Event). Says (length xs + 1) c.split_at.result.0.now c.in-Ok.event) items c.in-Ok.ensures.1)
-    (subst (λ (xs : List Event). MayFollow c.args.setup.now xs c.in-Ok.event) items c.in-Ok.ensures.2))
+    record {
+      stands =
+          subst (λ (events : List Event). Stands c.args.setup.now c.args.text.now c.split_at.result.1.now events) (sym c.in_ok-push-in-Ok.ensures.events)
+          (stands_next c.args.setup.now c.args.text.now rest c.split_at.result.0.now c.split_at.result.1.now c.loop-rest.history.events.items c.in-Ok.event c.loop-rest.invariant.stands parts c.in-Ok.ensures.0 c.in-Ok.ensures.1 c.in-Ok.ensures.2);
+      kept = c.in_ok-push-in-Ok.ensures.kept;
+    }

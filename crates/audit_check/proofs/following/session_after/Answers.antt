@@ -1,9 +1,15 @@
 use Rattle.std.proofs.Common.{◌∙◌, sym}
 use Rattle.policy_model.proofs.Verdicts.{session_of-other}
+use Rattle.audit_check.proofs.KeptLemmas.{begin_session}
 use Rattle.audit_check.proofs.following.session_after.Goals as goal
+
+pub returns-then-is_begin : goal.returns-then-is_begin
+returns-then-is_begin c =
+    c.opening_session.ensures
+    ∙ begin_session c.args.history.now.events.items c.args.event.now.worker c.args.event.now.ask c.args.event.now.decision (sym c.is_begin.ensures ∙ c.if-is_begin.true)
 
 pub returns-else-is_begin : goal.returns-else-is_begin
 returns-else-is_begin c =
     c.open_session.ensures
     ∙ c.recent.ensures.session
-    ∙ sym (session_of-other c.args.events.now c.args.event.now.worker c.args.event.now.ask c.args.event.now.decision (sym c.is_begin.ensures ∙ c.if-is_begin.false))
+    ∙ sym (session_of-other c.args.history.now.events.items c.args.event.now.worker c.args.event.now.ask c.args.event.now.decision (sym c.is_begin.ensures ∙ c.if-is_begin.false))

@@ -1,6 +1,6 @@
 use Rattle.std.proofs.Common.{◌≡◌, ◌≤◌, [], drop, filter, length}
 use Rattle.policy_model.specs.Journal.{is_turn_of}
-use Rattle.audit_check.proofs.following.turn_start.Given as goal
+use Rattle.audit_check.proofs.sessions.turn_start.Given as goal
 
 abbrev pub decreases-loop-start : goal.decreases-loop-start
 decreases-loop-start l = l.start

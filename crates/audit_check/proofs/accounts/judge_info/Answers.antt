@@ -1,0 +1,15 @@
+use Rattle.std.proofs.Common.{◌∙◌, ap}
+use Rattle.policy_model.specs.declared.event.Decision.TheVariants.{Permit}
+use Rattle.policy_model.specs.Logins.{verified_user}
+use Rattle.policy_model.specs.Verdict.{account_named, sequence_of}
+use Rattle.audit_check.proofs.OwnEvents.{verified_is}
+use Rattle.audit_check.proofs.accounts.judge_info.Goals as goal
+
+pub returns : goal.returns
+returns c = λ some.
+    ap (λ n. Permit n)
+    (c.sequence_of.ensures
+    ∙ ap (λ o. sequence_of c.args.history.now.events.items (account_named c.args.setup.now o))
+    (c.verified_user-user.ensures
+    ∙ ap (verified_user c.recent-recent.result.now) (c.open_session.ensures ∙ c.recent-recent.ensures.session)
+    ∙ verified_is c.recent-recent.result.now c.args.history.now.events.items c.args.worker (c.recent-recent.ensures.own c.args.setup.now c.requires.legal) some))

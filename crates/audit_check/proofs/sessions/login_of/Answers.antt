@@ -1,0 +1,11 @@
+use Rattle.std.proofs.Common.{◌∙◌, ap}
+use Rattle.policy_model.specs.Asks.{takes}
+use Rattle.policy_model.specs.Journal.{last_event}
+use Rattle.audit_check.proofs.OwnEvents.{taking_is}
+use Rattle.audit_check.proofs.sessions.login_of.Goals as goal
+
+pub returns : goal.returns
+returns c = λ setup legal some.
+    c.last_taking.ensures
+    ∙ ap (λ n. last_event c.recent-recent.result.now n takes) (c.open_session.ensures ∙ c.recent-recent.ensures.session)
+    ∙ taking_is c.recent-recent.result.now c.args.history.now.events.items c.args.worker (c.recent-recent.ensures.own setup legal) some

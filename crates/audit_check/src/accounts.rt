@@ -1,0 +1,280 @@
+//! What is decided by the accounts, where a session's own events decide nothing else.
+
+ghost use Rattle.std.specs.Prelude.{◌≡◌, ◌≢◌, ◌<◌, ◌+◌, ◌&&◌, [], ◌∷◌, None, Some, length, nat_eq, nat_lt, not, slice_get, unwrap_or};
+ghost use Rattle.std.specs.List.{last_or, list_any};
+ghost use Rattle.policy_model.specs.declared.account.Account.{Account};
+ghost use Rattle.policy_model.specs.declared.event.Decision.TheVariants.{Permit};
+ghost use Rattle.policy_model.specs.Journal.{open_session_of};
+ghost use Rattle.policy_model.specs.Logins.{account_of, current_sequence, is_decoy, user_named, verified_user};
+ghost use Rattle.policy_model.specs.Verdict.{account_named, account_verdict, decoy_challenge, is_holder, is_next_password, is_other, reply_verdict, sequence_of, user_verdict};
+ghost use Rattle.audit_check.specs.History.{IsKept, challenge_by, is_next_by, silent_by, standing_by};
+ghost use Rattle.audit_check.specs.Legal.{is_password_of};
+
+use crate::history::{History, Hold};
+use crate::reading::DECOYS_FROM;
+use crate::sessions::{is_decoy, login_of, recent, user_named, verified_user};
+use otp_hash::step;
+use policy_model::{Account, Decision, Event, Setup, open_session};
+use request_catalogue::{Name, rules};
+
+/// How many passwords an account's chain still has.
+fn sequence(setup: &Setup, history: &History, account: u32) -> u64
+    requires kept { IsKept setup.now history.now }
+    requires account { account < length setup.now.accounts }
+    ensures { (a : Account) → slice_get setup.now.accounts account ≡ Some a → result ≡ current_sequence history.now.events.items a }
+{
+    let first = setup.parts().accounts.as_slice()[account as usize].sequence;
+    u64::from(first).saturating_sub(history.replies[account as usize].len() as u64)
+}
+
+/// Whether some other session holds.
+fn is_other(session: u32, holder: Option<u32>) -> bool
+    ensures { result ≡ is_other session holder }
+{
+    match holder {
+        None => false,
+        Some(holder) => holder != session,
+    }
+}
+
+/// Whether `now` is less than `hold` milliseconds behind a moment, or before it.
+fn is_within(now: u64, moment: u64, hold: u32) -> bool
+    ensures { result ≡ nat_lt now (moment + hold) }
+{
+    now < moment || now - moment < u64::from(hold)
+}
+
+/// What a user is challenged with that can't log in.
+fn challenge_decoy(setup: &Setup, user: &Name) -> Decision
+    ensures { result ≡ decoy_challenge setup.now user.now }
+{
+    Decision::Permit {
+        value: DECOYS_FROM + u64::from(setup.decoy(user).n),
+    }
+}
+
+/// What is kept of an account.
+#[derive(Clone, Copy, Debug)]
+pub(crate) struct Standing {
+    pub(crate) enabled: bool,
+    /// How many passwords its chain still has.
+    pub(crate) sequence: u64,
+    pub(crate) hold: Hold,
+}
+
+/// What is kept of the account of a number.
+fn standing_of(setup: &Setup, history: &History, account: u32) -> Standing
+    requires kept { IsKept setup.now history.now }
+    requires account { account < length setup.now.accounts }
+    ensures { (a : Account) → slice_get setup.now.accounts account ≡ Some a → result ≡ standing_by history.now.events.items a }
+{
+    Standing {
+        enabled: setup.parts().accounts.as_slice()[account as usize].enabled,
+        sequence: sequence(setup, history, account),
+        hold: history.holds[account as usize],
+    }
+}
+
+/// A CHALLENGE of a session for the user of an account at a moment.
+fn challenge_by(setup: &Setup, user: &Name, session: u32, now: u64, standing: Standing) -> Decision
+    ensures { result ≡ challenge_by setup.now user.now session now standing }
+{
+    let hold = standing.hold;
+    if !standing.enabled || standing.sequence == 0 {
+        challenge_decoy(setup, user)
+    } else if is_other(session, hold.holder) && is_within(now, hold.moment, setup.parts().hold) {
+        Decision::Deny {
+            rule: rules::USER_HELD,
+            detail: hold.taker,
+        }
+    } else {
+        Decision::Permit {
+            value: standing.sequence - 1,
+        }
+    }
+}
+
+/// A CHALLENGE of a session for a user at a moment, where nothing but the user's account decides.
+pub(crate) fn judge_challenge(
+    setup: &Setup,
+    history: &History,
+    session: u32,
+    user: &Name,
+    now: u64,
+) -> Decision
+    requires { IsKept setup.now history.now }
+    ensures { result ≡ account_verdict setup.now history.now.events.items session user.now now (account_of setup.now user.now) }
+{
+    match setup.find(user) {
+        None => challenge_decoy(setup, user),
+        Some(account) => challenge_by(
+            setup,
+            user,
+            session,
+            now,
+            standing_of(setup, history, account),
+        ),
+    }
+}
+
+/// Whether the session holds.
+fn is_holder(session: u32, holder: Option<u32>) -> bool
+    ensures { result ≡ is_holder session holder }
+{
+    match holder {
+        None => false,
+        Some(holder) => holder == session,
+    }
+}
+
+/// A REPLY without readings of a session for a user, by the user's hold.
+fn silent_by(session: u32, hold: Hold) -> Decision
+    ensures { result ≡ silent_by session hold }
+{
+    if is_holder(session, hold.holder) {
+        Decision::Deny {
+            rule: rules::NO_READING,
+            detail: 0,
+        }
+    } else {
+        Decision::Deny {
+            rule: rules::HOLD_LOST,
+            detail: hold.taker,
+        }
+    }
+}
+
+/// A REPLY without readings of a session for a user.
+fn judge_user(setup: &Setup, history: &History, session: u32, user: &Name) -> Decision
+    requires { IsKept setup.now history.now }
+    ensures { result ≡ user_verdict setup.now history.now.events.items session [] user.now }
+{
+    match setup.find(user) {
+        None => Decision::Deny {
+            rule: rules::HOLD_LOST,
+            detail: 0,
+        },
+        Some(account) => silent_by(session, history.holds[account as usize]),
+    }
+}
+
+/// A REPLY without readings of a worker's open session, where nothing but its login decides.
+pub(crate) fn judge_reply(setup: &Setup, history: &History, worker: u32) -> Decision
+    requires { IsKept setup.now history.now }
+    ensures { open_session_of history.now.events.items worker ≢ 0 →
+        result ≡ reply_verdict setup.now history.now.events.items (open_session_of history.now.events.items worker) None None }
+{
+    let taking = login_of(history, worker);
+    if is_decoy(&taking) {
+        return Decision::Deny {
+            rule: rules::NO_READING,
+            detail: 0,
+        };
+    }
+    match user_named(&taking) {
+        None => Decision::Deny {
+            rule: rules::HOLD_LOST,
+            detail: 0,
+        },
+        Some(user) => judge_user(
+            setup,
+            history,
+            open_session(recent(history, worker), worker),
+            &user,
+        ),
+    }
+}
+
+/// The current sequence of a user that is there and has an account, or 0.
+fn sequence_of(setup: &Setup, history: &History, user: Option<Name>) -> u64
+    requires { IsKept setup.now history.now }
+    ensures { result ≡ sequence_of history.now.events.items (account_named setup.now user) }
+{
+    let Some(user) = user else {
+        return 0;
+    };
+    match setup.find(&user) {
+        None => 0,
+        Some(account) => sequence(setup, history, account),
+    }
+}
+
+/// An INFO of a session that is logged in: the user's sequence.
+pub(crate) fn judge_info(setup: &Setup, history: &History, worker: u32) -> Decision
+    requires { IsKept setup.now history.now }
+    ensures { open_session_of history.now.events.items worker ≢ 0 →
+        result ≡ Permit (sequence_of history.now.events.items (account_named setup.now (verified_user history.now.events.items (open_session_of history.now.events.items worker)))) }
+{
+    let recent = recent(history, worker);
+    let user = verified_user(recent, open_session(recent, worker));
+    Decision::Permit {
+        value: sequence_of(setup, history, user),
+    }
+}
+
+/// The last of the passwords, or another.
+fn last_or(passwords: &[u64], other: u64) -> u64
+    ensures { result ≡ unwrap_or (last_or None passwords.now) other }
+{
+    match passwords {
+        [.., last] => *last,
+        [] => other,
+    }
+}
+
+/// Whether a password is one of the replies.
+fn was_replied(replies: &[u64], password: u64) -> bool
+    ensures { result ≡ list_any (nat_eq password) replies.now }
+{
+    replies.iter().any(|reply| password == *reply)
+}
+
+/// Whether a password is an account's first or one of its replies.
+fn is_used(first: u64, replies: &[u64], password: u64) -> bool
+    ensures { result ≡ list_any (nat_eq password) (first ∷ replies.now) }
+{
+    password == first || was_replied(replies, password)
+}
+
+/// Whether a password is the next one of an account with these replies.
+fn is_next_by(account: &Account, replies: &[u64], password: u64) -> bool
+    ensures { result ≡ is_next_by account.now replies.now password }
+{
+    step(account.algo, password) == last_or(replies, account.password)
+        && !is_used(account.password, replies, password)
+}
+
+/// Whether a password is the next one of an account.
+fn is_next(setup: &Setup, history: &History, account: u32, password: u64) -> bool
+    requires kept { IsKept setup.now history.now }
+    requires account { account < length setup.now.accounts }
+    ensures { (a : Account) → slice_get setup.now.accounts account ≡ Some a → result ≡ is_next_password history.now.events.items a password }
+{
+    is_next_by(
+        &setup.parts().accounts.as_slice()[account as usize],
+        history.replies[account as usize].as_slice(),
+        password,
+    )
+}
+
+/// Whether a reply with this reading is permitted, behind the session's last permitted CHALLENGE.
+pub(crate) fn permits(
+    setup: &Setup,
+    history: &History,
+    taking: &Option<Event>,
+    password: u64,
+) -> bool
+    requires { IsKept setup.now history.now }
+    ensures { result ≡ (not (is_decoy taking.now) && is_password_of history.now.events.items (account_named setup.now (user_named taking.now)) password) }
+{
+    if is_decoy(taking) {
+        return false;
+    }
+    let Some(user) = user_named(taking) else {
+        return false;
+    };
+    match setup.find(&user) {
+        None => false,
+        Some(account) => is_next(setup, history, account, password),
+    }
+}

@@ -1,0 +1,197 @@
+//! The events of a log so far, and beside them what they say of each account, so that nobody looks
+//! through all of them again.
+
+ghost use Rattle.std.specs.Prelude.{◌≡◌, ◌<◌, ◌-◌, ◌^◌, [], ◌∷◌, ◌++◌, ◌+◌, IfOk, IfSome, length, map, if◌then◌else◌};
+ghost use Rattle.policy_model.specs.Asks.{opens};
+ghost use Rattle.session_laws.specs.Tied.{holder_after};
+ghost use Rattle.audit_check.specs.Legal.{MayFollow};
+ghost use Rattle.audit_check.specs.History.{AreEmpty, AreReplied, IsKept, IsRenewed, IsReplyFor, first_hold, hold_after};
+
+use crate::reading::{accepts, leaves, moment, opens, reserves, takes, value};
+use crate::sessions::{login_of, user_named};
+use policy_model::{Account, Event, Setup};
+use request_catalogue::Name;
+use std::alloc::{AllocError, Global};
+
+/// Who took a user last and when, and who holds it.
+#[derive(Clone, Copy, Debug, PartialEq, Eq)]
+pub(crate) struct Hold {
+    /// The session of the last taking, or 0.
+    pub(crate) taker: u32,
+    /// Its moment, in milliseconds since the run began, or 0.
+    pub(crate) moment: u64,
+    pub(crate) holder: Option<u32>,
+}
+
+/// The events of a log so far, with what they say of each account of a setup.
+#[derive(Debug, Drop)]
+pub(crate) struct History {
+    pub(crate) events: Vec<Event>,
+    /// How many sessions were opened.
+    pub(crate) opened: u32,
+    /// By the accounts' numbers.
+    pub(crate) holds: Vec<Hold>,
+    /// The passwords of each account's permitted replies, in order.
+    pub(crate) replies: Vec<Vec<u64>>,
+}
+
+/// The holder of a user after an event that doesn't take it.
+fn holder_after(holder: Option<u32>, event: &Event) -> Option<u32>
+    ensures { result ≡ holder_after holder event.now }
+{
+    match holder {
+        Some(session) if event.session == session && leaves(event) => None,
+        _ => holder,
+    }
+}
+
+/// What an event makes of the hold of a user.
+fn hold_after(hold: Hold, event: &Event, user: &Name) -> Hold
+    ensures { result ≡ hold_after user.now event.now hold }
+{
+    if reserves(event, user) {
+        Hold {
+            taker: event.session,
+            moment: moment(&event.ask),
+            holder: Some(event.session),
+        }
+    } else {
+        Hold {
+            holder: holder_after(hold.holder, event),
+            ..hold
+        }
+    }
+}
+
+/// The holds of all accounts after an event.
+fn renew(holds: &mut Vec<Hold>, accounts: &[Account], event: &Event)
+    requires { length holds.old.items ≡ length accounts.now }
+    ensures { IsRenewed accounts.now event.now holds.old.items holds.new.items }
+{
+    for i in 0..accounts.len() {
+        holds[i] = hold_after(holds[i], event, &accounts[i].name);
+    }
+}
+
+/// The same, where most events change none.
+fn settle(holds: &mut Vec<Hold>, accounts: &[Account], event: &Event)
+    requires { length holds.old.items ≡ length accounts.now }
+    ensures { IsRenewed accounts.now event.now holds.old.items holds.new.items }
+{
+    if takes(event) || leaves(event) {
+        renew(holds, accounts, event);
+    }
+}
+
+/// A password is the last of the account's replies, where there is an account.
+fn accept(
+    replies: &mut Vec<Vec<u64>>,
+    account: Option<u32>,
+    password: u64,
+) -> Result<(), AllocError>
+    requires { IfSome account (λ n. n < length replies.old.items) }
+    ensures { IfOk result (λ done. AreReplied account password replies.old.items replies.new.items) }
+{
+    let Some(number) = account else {
+        return Ok(());
+    };
+    replies[number as usize].push(password)?;
+    Ok(())
+}
+
+/// How many sessions were opened after an event.
+fn opened_after(opened: u32, event: &Event) -> u32
+    requires { opened < 2 ^ 32 - 1 }
+    ensures { result ≡ opened + (if opens event.now then 1 else 0) }
+{
+    if opens(event) { opened + 1 } else { opened }
+}
+
+/// The hold of an account before the first event.
+fn first_hold(_account: &Account) -> Hold
+    ensures { result ≡ first_hold _account.now }
+{
+    Hold {
+        taker: 0,
+        moment: 0,
+        holder: None,
+    }
+}
+
+/// The holds of accounts before the first event.
+fn first_holds(alloc: Global, accounts: &[Account]) -> Result<Vec<Hold>, AllocError>
+    ensures { IfOk result (λ holds. holds.items ≡ map first_hold accounts.now) }
+{
+    let mut holds = Vec::with_capacity(alloc, accounts.len())?;
+    for account in accounts {
+        holds.push(first_hold(account))?;
+    }
+    Ok(holds)
+}
+
+/// The replies of so many accounts before the first event.
+fn no_replies(alloc: Global, count: usize) -> Result<Vec<Vec<u64>>, AllocError>
+    ensures same { IfOk result (λ replies. length replies.items ≡ count) }
+    ensures none { IfOk result (λ replies. AreEmpty replies.items) }
+{
+    let mut replies = Vec::with_capacity(alloc, count)?;
+    for _i in 0..count {
+        replies.push(Vec::new(alloc))?;
+    }
+    Ok(replies)
+}
+
+impl History {
+    /// What is kept of a log without an event.
+    ///
+    /// # Errors
+    ///
+    /// There isn't the memory.
+    pub(crate) fn new(alloc: Global, setup: &Setup) -> Result<History, AllocError>
+        ensures kept { IfOk result (IsKept setup.now) }
+        ensures none { IfOk result (λ history. history.events.items ≡ []) }
+    {
+        let accounts = setup.parts().accounts.as_slice();
+        Ok(History {
+            events: Vec::new(alloc),
+            opened: 0,
+            holds: first_holds(alloc, accounts)?,
+            replies: no_replies(alloc, accounts.len())?,
+        })
+    }
+
+    /// The account of a permitted reply's user.
+    fn account_of_reply(&self, setup: &Setup, event: &Event) -> Option<u32>
+        requires kept { IsKept setup.now self.now }
+        requires next { MayFollow setup.now self.now.events.items event.now }
+        ensures { IsReplyFor setup.now self.now.events.items event.now result }
+    {
+        if !accepts(event) {
+            return None;
+        }
+        match user_named(&login_of(self, event.worker)) {
+            None => None,
+            Some(user) => setup.find(&user),
+        }
+    }
+
+    /// An event more, which may follow.
+    ///
+    /// # Errors
+    ///
+    /// There isn't the memory.
+    pub(crate) fn push(&mut self, setup: &Setup, event: Event) -> Result<(), AllocError>
+        requires kept { IsKept setup.now self.old }
+        requires few { length self.old.events.items < 2 ^ 32 - 1 }
+        requires next { MayFollow setup.now self.old.events.items event }
+        ensures kept { IfOk result (λ done. IsKept setup.now self.new) }
+        ensures events { IfOk result (λ done. self.new.events.items ≡ self.old.events.items ++ event ∷ []) }
+    {
+        let account = self.account_of_reply(setup, &event);
+        accept(&mut self.replies, account, value(&event.decision))?;
+        settle(&mut self.holds, setup.parts().accounts.as_slice(), &event);
+        self.opened = opened_after(self.opened, &event);
+        self.events.push(event)?;
+        Ok(())
+    }
+}

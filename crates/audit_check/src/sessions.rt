@@ -1,0 +1,129 @@
+//! What a worker's open session did, by the events since it was opened.
+
+ghost use Rattle.std.specs.Prelude.{◌≡◌, ◌≢◌, ◌≤◌, ◌&&◌, ◌==◌, Some, length, true, if◌then◌else◌};
+ghost use Rattle.policy_model.specs.Asks.{accepts, takes};
+ghost use Rattle.policy_model.specs.Journal.{is_own, is_turn_of, last_event, open_session_of};
+ghost use Rattle.policy_model.specs.Logins.{challenged_user, is_decoy, user_named, verified_user};
+ghost use Rattle.policy_model.specs.Settings.{Settings};
+ghost use Rattle.policy_model.specs.Verdict.{verdict_of};
+ghost use Rattle.audit_check.specs.Legal.{IsLegalLog};
+ghost use Rattle.audit_check.specs.Following.{IsRecent, IsTurnStart, is_local};
+
+use crate::history::History;
+use crate::reading::{DECOYS_FROM, accepts, challenge_name, takes, value};
+use policy_model::{Event, open_session};
+use request_catalogue::Name;
+
+/// Whether an event is a permitted opening or end of the worker.
+fn is_turn(event: &Event, worker: u32) -> bool
+    ensures { result ≡ is_turn_of worker event.now }
+{
+    event.worker == worker
+        && (event.ask.is_begin() || event.ask.is_end())
+        && event.decision.is_permit()
+}
+
+/// Where the worker's last permitted opening or end stands, or 0.
+fn turn_start(events: &[Event], worker: u32) -> usize
+    ensures start { IsTurnStart events.now worker result }
+    ensures within { result ≤ length events.now }
+{
+    let mut start = events.len();
+    while start > 0 && !is_turn(&events[start - 1], worker) {
+        start -= 1;
+    }
+    start.saturating_sub(1)
+}
+
+/// The events from the worker's last permitted opening or end on: all that its open session did, and
+/// what other sessions did meanwhile.
+pub(crate) fn recent(history: &History, worker: u32) -> &[Event]
+    ensures session { open_session_of result.now worker ≡ open_session_of history.now.events.items worker }
+    ensures own { (setup : Settings) → IsLegalLog setup history.now.events.items → IsRecent result.now worker history.now.events.items }
+    ensures verdict { (setup : Settings) (ask : _) → IsLegalLog setup history.now.events.items → is_local ask ≡ true →
+        verdict_of setup result.now worker ask ≡ verdict_of setup history.now.events.items worker ask }
+{
+    let events = history.events.as_slice();
+    &events[turn_start(events, worker)..]
+}
+
+/// The session's last permitted CHALLENGE, after one more event.
+fn later(last: Option<Event>, event: &Event, session: u32) -> Option<Event>
+    ensures { result ≡ (if is_own session takes event.now then Some event.now else last) }
+{
+    if event.session == session && takes(event) {
+        Some(*event)
+    } else {
+        last
+    }
+}
+
+/// The session's last permitted CHALLENGE.
+fn last_taking(events: &[Event], session: u32) -> Option<Event>
+    ensures { result ≡ last_event events.now session takes }
+{
+    let mut last = None;
+    for event in events {
+        last = later(last, event, session);
+    }
+    last
+}
+
+/// Whether a taking is there and names a decoy.
+pub(crate) fn is_decoy(taking: &Option<Event>) -> bool
+    ensures { result ≡ is_decoy taking.now }
+{
+    match taking {
+        None => false,
+        Some(event) => value(&event.decision) >= DECOYS_FROM,
+    }
+}
+
+/// The user that a taking names.
+pub(crate) fn user_named(taking: &Option<Event>) -> Option<Name>
+    ensures { result ≡ user_named taking.now }
+{
+    match taking {
+        None => None,
+        Some(event) => challenge_name(&event.ask),
+    }
+}
+
+/// The last permitted CHALLENGE of the worker's open session.
+pub(crate) fn login_of(history: &History, worker: u32) -> Option<Event>
+    ensures { (setup : Settings) → IsLegalLog setup history.now.events.items → open_session_of history.now.events.items worker ≢ 0 →
+        result ≡ last_event history.now.events.items (open_session_of history.now.events.items worker) takes }
+{
+    let recent = recent(history, worker);
+    last_taking(recent, open_session(recent, worker))
+}
+
+/// The user of the session's last permitted CHALLENGE.
+#[tactic(auto, unfolding(policy_model::specs::Logins::challenged_user))]
+fn challenged_user(events: &[Event], session: u32) -> Option<Name>
+    ensures { result ≡ challenged_user events.now session }
+{
+    user_named(&last_taking(events, session))
+}
+
+/// The verified user after one more event.
+fn verified_after(user: Option<Name>, before: &[Event], event: &Event, session: u32) -> Option<Name>
+    ensures { result ≡ (if is_own session accepts event.now then challenged_user before.now session else user) }
+{
+    if event.session == session && accepts(event) {
+        challenged_user(before, session)
+    } else {
+        user
+    }
+}
+
+/// The user that the session is logged in as.
+pub(crate) fn verified_user(events: &[Event], session: u32) -> Option<Name>
+    ensures { result ≡ verified_user events.now session }
+{
+    let mut user = None;
+    for (i, event) in events.iter().enumerate() {
+        user = verified_after(user, &events[..i], event, session);
+    }
+    user
+}
