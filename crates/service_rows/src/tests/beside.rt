@@ -6,10 +6,14 @@ ghost use Rattle.outside.specs.Scene.{IsFresh};
 ghost use Rattle.service_rows.specs.Silent.{no_faults, silent_scene};
 
 use super::failing::lines_of;
-use super::*;
-use outside::{Failed, Role, Stream};
-use policy_model::{Ask, Why};
+use info_hooks::Hooks;
+use outside::{Failed, Post, Role, Stream};
+use policy_model::{Ask, Event, Why};
+use request_catalogue::Label;
+use service_play::{Play, Session, come, is_at, serve, setup_with, word_list};
+use std::alloc::{AllocError, Global};
 use std::sync::atomic::{AtomicU64, Ordering};
+use std::test::Fail as Fault;
 use std::thread;
 
 /// WRITE of `hi` to the client's connection.
@@ -93,6 +97,8 @@ impl<'a> Post for WaitingPost<'a> {
 
     ghost faults = { no_faults };
 
+    ghost counts_as_told = { λ _. tt };
+
     fn accept(&mut self) -> Result<Option<()>, Failed> {
         if self.has_come {
             return Ok(None);
@@ -147,18 +153,15 @@ impl<'a> Post for WaitingPost<'a> {
     }
 }
 
-/// A run of this many workers whose children send WRITE and FINISH.
-fn play_of<'a>(setup: &'a [u8], list: &'a [u8], pre: &'a [u8]) -> Play<'a>
+/// A run of one session a worker.
+fn play_of<'a>(setup: &'a [u8], list: &'a [u8], sessions: &'a [Session<'a>]) -> Play<'a>
     ensures { 1 ≤ result.piece }
 {
     Play {
         name: "setup",
         setup,
         list,
-        connections: 1,
-        client: b"",
-        pre,
-        user: b"",
+        sessions,
         piece: 4_096,
         fails: &[],
     }
@@ -192,7 +195,8 @@ fn two_workers_serve_at_once(rt: HostRuntime) -> Result<(), Fault> {
     let setup = setup_with(alloc, "workers = 2\nrequests = 64")?;
     let list = word_list(alloc, 2_048)?;
     let posts = waiting_posts(alloc, &answered)?;
-    let came = serve(&rt, alloc, &play_of(&setup, &list, b""), posts)?;
+    let hooks = Hooks::new(Vec::new(alloc)).ok().ok_or("hooks")?;
+    let came = serve(&rt, alloc, &play_of(&setup, &list, &[]), posts, &hooks)?;
     assert_eq!(&rt; came.status, 0);
     assert_eq!(&rt; finished(&came.journal), 2);
     assert!(&rt; is_at(&came.place, ["s", "l", "v"], 2));
@@ -205,7 +209,12 @@ fn sixty_four_workers_serve(rt: HostRuntime) -> Result<(), Fault> {
     let setup = setup_with(alloc, "workers = 64\nrequests = 64")?;
     let list = word_list(alloc, 2_048)?;
     let pre = [WRITE, FINISH].concat(alloc)?;
-    let came = come(&rt, alloc, &play_of(&setup, &list, &pre), 64)?;
+    let session = Session {
+        client: b"",
+        pre: &pre,
+        user: b"",
+    };
+    let came = come(&rt, alloc, &play_of(&setup, &list, &[session]), 64)?;
     let lines = lines_of(alloc, &came.journal)?;
     assert_eq!(&rt; came.status, 0);
     assert_eq!(&rt; came.journal.len(), 256);

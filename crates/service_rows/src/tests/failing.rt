@@ -1,10 +1,16 @@
 //! The whole login with one call that fails.
 
+use super::beside::{FINISH, WRITE};
 use super::logins::{CLIENT, LOG, Login, holds, log_in};
-use super::*;
+use account_file::read_setup;
 use decision_log::line;
-use outside::{Accepted, CallKind};
-use policy_model::{Decision, Setup, judge};
+use outside::{Accepted, Act, CallKind, Fail, MemPost};
+use policy_model::{Decision, Event, Setup, judge};
+use service_play::{Came, ONE, Play, Session, chain_in, come, sent, setup_in};
+use std::alloc::{AllocError, Global};
+use std::sync::Wait;
+use std::test::Fail as Fault;
+use std::thread::Threads;
 
 /// A call that fails, how many bytes it sent, how many lines of the whole login's log stand, the
 /// lines behind these, and the status.
@@ -85,14 +91,16 @@ fn fail_once<R: Threads + Wait + Sync>(
     fail: (CallKind, u32, usize),
 ) -> Result<Came<MemPost>, Fault> {
     let (call, number, sent) = fail;
+    let session = Session {
+        client: CLIENT,
+        pre: &login.said.pre,
+        user: &login.said.user,
+    };
     let play = Play {
         name: "setup",
         setup: &login.setup,
         list: &login.list,
-        connections: 1,
-        client: CLIENT,
-        pre: &login.said.pre,
-        user: &login.said.user,
+        sessions: &[session],
         piece: 4_096,
         fails: &[Fail { call, number, sent }],
     };
@@ -129,6 +137,66 @@ fn one_call_fails(rt: HostRuntime) -> Result<(), Fault> {
     for case in &CASES {
         assert!(&rt; holds_of(&rt, alloc, &login, case)?);
     }
+    Ok(())
+}
+
+/// The front of the reply to BANNER, of session 1.
+const BANNER_FRONT: &[u8] = b"\x01\x01\0\0\x1a\0\0";
+
+#[test]
+fn a_reply_is_cut_short(rt: HostRuntime) -> Result<(), Fault> {
+    let alloc = rt.alloc();
+    let login = log_in(&rt, alloc, ONE, 4_096)?;
+    let came = fail_once(&rt, alloc, &login, (CallKind::Send, 1, 7))?;
+    assert!(&rt; sent(&came.posts, 0) == BANNER_FRONT);
+    Ok(())
+}
+
+/// Two lines of the smallest run's log, and the front of the third.
+const CUT_LOG: &str = "1 w0 s1 open permit
+2 w0 s1 write 0 0 2 permit
+3 w0 ";
+
+/// How many decisions were lost.
+fn lost(journal: &[Event]) -> usize {
+    let is_lost = |event: &&Event| event.decision == Decision::Lost;
+    journal.iter().filter(is_lost).count()
+}
+
+/// Whether the smallest run goes on without an answer behind a line of the log that is cut short.
+fn is_unanswered<R: Threads + Wait + Sync>(rt: &R, alloc: Global) -> Result<bool, Fault> {
+    let pre = [WRITE, FINISH].concat(alloc)?;
+    let session = Session {
+        client: b"",
+        pre: &pre,
+        user: b"",
+    };
+    let fail = Fail {
+        call: CallKind::Append,
+        number: 3,
+        sent: 5,
+    };
+    let play = Play {
+        name: "",
+        setup: b"",
+        list: b"",
+        sessions: &[session],
+        piece: 4_096,
+        fails: &[fail],
+    };
+    let came = come(rt, alloc, &play, 1)?;
+    let is_cut = came.log.held() == CUT_LOG.as_bytes();
+    let is_lost = came.journal.len() == 4 && lost(&came.journal) == 2;
+    let is_answered_once = sent(&came.posts, 0) == WRITE_DONE;
+    Ok(came.status == 7 && is_cut && is_lost && is_answered_once)
+}
+
+/// The reply to WRITE in session 1, done.
+const WRITE_DONE: &[u8] = b"\x08\x01\0\0\x11\0\0\0\0\0\0\0\x01\0\0\0\0";
+
+#[test]
+fn a_line_of_the_log_is_cut_short(rt: HostRuntime) -> Result<(), Fault> {
+    assert!(&rt; is_unanswered(&rt, rt.alloc())?);
     Ok(())
 }
 

@@ -1,24 +1,11 @@
 //! Frames that are no request before the login, and the limit of requests.
 
-use super::*;
-
-/// A frame of this kind, flags and body.
-fn frame(alloc: Global, kind: u32, flags: u16, body: &[u8]) -> Result<Vec<u8>, AllocError> {
-    let len = u16::try_from(body.len()).unwrap_or(0).wrapping_add(16);
-    let mut frame = header(alloc, kind, len, flags)?;
-    frame.extend_from_slice(body)?;
-    Ok(frame)
-}
-
-/// A header.
-fn header(alloc: Global, kind: u32, len: u16, flags: u16) -> Result<Vec<u8>, AllocError> {
-    let mut header = Vec::new(alloc);
-    header.extend_from_slice(&kind.to_le_bytes())?;
-    header.extend_from_slice(&len.to_le_bytes())?;
-    header.extend_from_slice(&flags.to_le_bytes())?;
-    header.extend_from_slice(&[0; 8])?;
-    Ok(header)
-}
+use outside::MemPost;
+use service_play::{Came, ONE, Play, Session, come, frame, header, sent, setup_with, word_list};
+use std::alloc::Global;
+use std::sync::Wait;
+use std::test::Fail as Fault;
+use std::thread::Threads;
 
 /// The run of connections whose first child sends these bytes.
 fn run_of<R: Threads + Wait + Sync>(
@@ -28,16 +15,19 @@ fn run_of<R: Threads + Wait + Sync>(
     pre: &[u8],
     connections: usize,
 ) -> Result<Came<MemPost>, Fault> {
+    let session = Session {
+        client: b"",
+        pre,
+        user: b"",
+    };
+    let sessions = vec![in alloc; session; connections]?;
     let setup = setup_with(alloc, lines)?;
     let list = word_list(alloc, 2_048)?;
     let play = Play {
         name: "setup",
         setup: &setup,
         list: &list,
-        connections,
-        client: b"",
-        pre,
-        user: b"",
+        sessions: &sessions,
         piece: 4_096,
         fails: &[],
     };
@@ -46,7 +36,7 @@ fn run_of<R: Threads + Wait + Sync>(
 
 /// Whether a header of this length ends the session as a bad frame.
 fn is_bad<R: Threads + Wait + Sync>(rt: &R, alloc: Global, len: u16) -> Result<bool, Fault> {
-    let header = header(alloc, 1, len, 0)?;
+    let header = header(alloc, 1, len, 0, 0)?;
     let came = run_of(rt, alloc, ONE, &header, 1)?;
     let end = format!(in alloc; "1 w0 s1 open permit\n2 w0 s1 end bad-frame {len} permit\n")?;
     let is_silent = sent(&came.posts, 0).is_empty();
@@ -81,10 +71,7 @@ fn is_refused<R: Threads + Wait + Sync>(
     };
     let mut body = vec![in alloc; 1, rule]?;
     body.extend_from_slice(&detail.to_le_bytes())?;
-    let mut reply = header(alloc, u32::from(kind) | 256, 22, 0)?;
-    reply.truncate(12);
-    reply.extend_from_slice(&[1, 0, 0, 0])?;
-    reply.extend_from_slice(&body)?;
+    let reply = frame(alloc, u32::from(kind) | 256, 0, 1, &body)?;
     Ok(
         came.status == 0
             && came.log.held() == log.as_bytes()
@@ -96,10 +83,10 @@ fn is_refused<R: Threads + Wait + Sync>(
 fn kinds_that_no_request_has(rt: HostRuntime) -> Result<(), Fault> {
     let alloc = rt.alloc();
     for kind in [0, 14, u32::MAX] {
-        let frame = frame(alloc, kind, 0, b"")?;
+        let frame = frame(alloc, kind, 0, 0, b"")?;
         assert!(&rt; is_refused(&rt, alloc, &frame, 4, kind)?);
     }
-    let marked = frame(alloc, 13, u16::MAX, b"")?;
+    let marked = frame(alloc, 13, u16::MAX, 0, b"")?;
     assert!(&rt; is_refused(&rt, alloc, &marked, 2, 65_535)?);
     Ok(())
 }
@@ -111,7 +98,7 @@ fn is_malformed<R: Threads + Wait + Sync>(
     kind: u32,
     body: &[u8],
 ) -> Result<bool, Fault> {
-    let frame = frame(alloc, kind, 0, body)?;
+    let frame = frame(alloc, kind, 0, 0, body)?;
     is_refused(rt, alloc, &frame, 5, kind)
 }
 
@@ -155,7 +142,7 @@ const BUDGET_LOG: &str = "1 w0 s1 open permit
 #[test]
 fn a_session_s_requests_are_limited(rt: HostRuntime) -> Result<(), Fault> {
     let alloc = rt.alloc();
-    let note = frame(alloc, 12, 0, b"a")?;
+    let note = frame(alloc, 12, 0, 0, b"a")?;
     let mut notes = Vec::new(alloc);
     for _ in 0..9 {
         notes.extend_from_slice(&note)?;

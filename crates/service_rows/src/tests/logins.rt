@@ -3,8 +3,16 @@
 
 ghost use Rattle.std.specs.Prelude.{◌≤◌};
 
-use super::children::{said_before, said_by_bob};
-use super::*;
+use crate::{said_before, said_by_user};
+use outside::MemPost;
+use request_catalogue::Name;
+use service_play::{
+    Came, ONE, Play, Session, chain_in, come, notes, sent, setup_in, setup_with, told, word_list,
+};
+use std::alloc::Global;
+use std::sync::Wait;
+use std::test::Fail as Fault;
+use std::thread::Threads;
 
 /// What the client sends.
 pub(super) const CLIENT: &[u8] = b"user bob
@@ -69,9 +77,10 @@ pub(super) struct Login {
 
 /// What the children say to all that they were sent.
 fn said_to(alloc: Global, posts: &[MemPost]) -> Result<Said, Fault> {
+    let bob = Name::of(b"bob").ok_or("a name")?;
     Ok(Said {
-        pre: said_before(alloc, sent(posts, 0))?,
-        user: said_by_bob(alloc, sent(posts, 1))?,
+        pre: said_before(alloc, 1, sent(posts, 0))?,
+        user: said_by_user(alloc, 1, 1_001, bob, sent(posts, 1))?,
     })
 }
 
@@ -88,14 +97,16 @@ pub(super) fn log_in<R: Threads + Wait + Sync>(
     let list = word_list(alloc, 2_048)?;
     let mut said = said_to(alloc, &[])?;
     for _ in 0..TURNS {
+        let session = Session {
+            client: CLIENT,
+            pre: &said.pre,
+            user: &said.user,
+        };
         let play = Play {
             name: "setup",
             setup: &setup,
             list: &list,
-            connections: 1,
-            client: CLIENT,
-            pre: &said.pre,
-            user: &said.user,
+            sessions: &[session],
             piece,
             fails: &[],
         };

@@ -3,8 +3,14 @@
 ghost use Rattle.std.specs.Prelude.{◌≤◌};
 
 use super::beside::{FINISH, WRITE};
-use super::*;
-use outside::CallKind;
+use outside::{CallKind, Fail, MemFiles};
+use service_play::{
+    ONE, Play, Session, chain_in, come, is_at, sent, setup_in, setup_with, told, word_list,
+};
+use std::alloc::{AllocError, Global};
+use std::sync::Wait;
+use std::test::Fail as Fault;
+use std::thread::Threads;
 
 /// A key of the setup whose line is another, how many lines the word list has, the name of the file,
 /// a call that fails, and what comes of it: the status, how many posts served, and whether the setup's
@@ -166,6 +172,15 @@ fn smallest(alloc: Global) -> Result<Vec<u8>, AllocError> {
     Ok(requests)
 }
 
+/// A session whose first child sends these bytes, and nobody else any.
+fn only(pre: &[u8]) -> Session<'_> {
+    Session {
+        client: b"",
+        pre,
+        user: b"",
+    }
+}
+
 /// Whether a run comes to what a case says.
 fn comes_to<R: Threads + Wait + Sync>(rt: &R, alloc: Global, case: &Case) -> Result<bool, Fault> {
     let setup = setup_but(alloc, case.key, case.line)?;
@@ -176,10 +191,7 @@ fn comes_to<R: Threads + Wait + Sync>(rt: &R, alloc: Global, case: &Case) -> Res
         name: case.name,
         setup: &setup,
         list: &list,
-        connections: 1,
-        client: b"",
-        pre: &pre,
-        user: b"",
+        sessions: &[only(&pre)],
         piece: 4_096,
         fails: &[Fail {
             call,
@@ -224,10 +236,7 @@ fn is_plainly_served<R: Threads + Wait + Sync>(
         name: "",
         setup: b"",
         list: b"",
-        connections: 1,
-        client: b"",
-        pre: &pre,
-        user: b"",
+        sessions: &[only(&pre)],
         piece,
         fails: &[],
     };

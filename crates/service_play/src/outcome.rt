@@ -1,0 +1,76 @@
+//! What can be read off a run that came to its end.
+
+use account_file::read_setup;
+use outside::{Act, Files, MemFiles, MemPost, Place, Word};
+use std::alloc::{AllocError, Global};
+use std::test::Fail as Fault;
+
+/// Whether there is a place and it has this socket, launcher and vault, and so many workers.
+pub fn is_at(place: &Option<Place>, texts: [&str; 3], workers: u32) -> bool {
+    match place {
+        Some(place) => {
+            place.socket.as_str() == texts[0]
+                && place.launcher.as_str() == texts[1]
+                && place.vault.as_str() == texts[2]
+                && place.workers == workers
+        }
+        None => false,
+    }
+}
+
+/// What stands in the setup's file behind a run, of at most 4,096 bytes.
+///
+/// # Errors
+///
+/// There isn't the memory, or there is no such file.
+pub fn setup_in(alloc: Global, files: &mut MemFiles) -> Result<Vec<u8>, Fault> {
+    let name = Word::of(alloc, b"setup")?;
+    let mut buf = vec![in alloc; 0; 4_096]?;
+    let Ok(Some(len)) = files.read(&name, 0, &mut buf) else {
+        return Err(Fault::from("a file"));
+    };
+    buf.truncate(len);
+    Ok(buf)
+}
+
+/// The sequence and the password of the first account in a setup's file.
+///
+/// # Errors
+///
+/// There isn't the memory, the bytes are no setup, or it has no account.
+pub fn chain_in(alloc: Global, bytes: &[u8]) -> Result<(u16, u64), Fault> {
+    let setup = read_setup(alloc, bytes).ok().ok_or("a setup")?;
+    let accounts = setup.parts().accounts.as_slice();
+    let account = accounts.first().ok_or("an account")?;
+    Ok((account.sequence, account.password))
+}
+
+/// The bytes that a child was sent, of those of the first post that were given back.
+pub fn sent(posts: &[MemPost], child: usize) -> &[u8] {
+    match posts.first().and_then(|post| post.talks().get(child)) {
+        Some(talk) => talk.sent.as_slice(),
+        None => b"",
+    }
+}
+
+/// How many children the first post was given back.
+pub fn finished_children(posts: &[MemPost]) -> usize {
+    posts.first().map_or(0, |post| post.talks().len())
+}
+
+/// What the clients of these posts were sent.
+///
+/// # Errors
+///
+/// There isn't the memory.
+pub fn told(alloc: Global, posts: &[MemPost]) -> Result<Vec<u8>, AllocError> {
+    let mut told = Vec::new(alloc);
+    for post in posts {
+        for act in post.acts() {
+            if let Act::ConnSend { bytes, .. } = act {
+                told.extend_from_slice(bytes.as_slice())?;
+            }
+        }
+    }
+    Ok(told)
+}
