@@ -8,7 +8,7 @@ use Rattle.outside.specs.declared.act.Act.{Act}
 use Rattle.outside.specs.declared.act.Act.TheVariants as acts
 use Rattle.outside.specs.declared.act.Accepted.TheVariants as accepted
 use Rattle.outside.specs.declared.faults.Faults.{Faults}
-use Rattle.outside.specs.Scene.{Scene}
+use Rattle.outside.specs.Scene.{Scene, is_failed_accept}
 use Rattle.policy_model.specs.declared.event.Ask.{Ask}
 use Rattle.policy_model.specs.declared.event.Event.{Event}
 use Rattle.policy_model.specs.Asks.{is_lost, opens}
@@ -25,7 +25,7 @@ use Rattle.service_model.proofs.Lists.{any-none, count-any, count-cons, count-no
 use Rattle.service_model.proofs.Places.{count_of-places}
 use Rattle.service_model.proofs.Stories.{all_lost_ends, all_opened, never_stopped}
 use Rattle.session_loop.specs.Stories.{RoseBy, asks_among}
-use Rattle.monitor_run.specs.Headline.{AreFaultless, ConversationsMatch, FaultEndsAreCounted, IsAnsweredWhole, IsFaultless, NoAcceptFailed, OperationsMatch, RunsToQuota, SessionsInOrder, SomeAcceptFailed, ends_by, ends_by_accept_fault, is_failed_accept, is_fault, lost_by, openings_by}
+use Rattle.monitor_run.specs.Headline.{AreFaultless, ConversationsMatch, FaultEndsAreCounted, IsAnsweredWhole, IsFaultless, NoAcceptFailed, OperationsMatch, RunsToQuota, SessionsInOrder, SomeAcceptFailed, ends_by, ends_by_accept_fault, is_fault, lost_by, openings_by}
 use Rattle.monitor_run.specs.Ran.{RunEnded, WorkerRan}
 
 -- ---- what the worker of each post did

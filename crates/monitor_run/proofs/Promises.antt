@@ -15,7 +15,7 @@ use Rattle.service_model.specs.Service.{Service}
 use Rattle.session_core.specs.Parts.{setup_of}
 use Rattle.session_core.proofs.ReplayLemmas.{consequences}
 use Rattle.session_turns.specs.Passes.{opened_of}
-use Rattle.monitor_run.specs.Headline.{RunPromises}
+use Rattle.monitor_run.specs.Headline.{FaultsAreCounted, RunPromises}
 use Rattle.monitor_run.specs.Ran.{RunEnded}
 use Rattle.monitor_run.proofs.Headline.{answered_whole, conversations_match, fault_ends_are_counted, no_accept_failed, operations_match, runs_to_quota, sessions_in_order, some_accept_failed}
 
@@ -37,8 +37,8 @@ book_says setup book held faults is told =
 pub book_setup : (opened : Opened) (book : BookParts) → Some opened ≡ Some (opened_of book) → opened.setup ≡ setup_of book.core
 book_setup opened book told = cc
 
-pub run_promises : {P : Type 0} (service : Service) (failed : Bool) (journal : List Event) (posts : List P) (scene : P → Option Scene) (faults : P → Faults) (held_old held_new : Option (List ℕ)) (log_old log_new : ℕ) → RunEnded service failed journal posts scene faults → BookSays service.setup journal held_old held_new log_old log_new → length journal ≤ 1048576 → length posts ≡ service.setup.workers → RunPromises service failed journal posts scene faults held_old held_new log_old log_new
-run_promises service failed journal posts scene faults held_old held_new log_old log_new ended says few one_each =
+pub run_promises : {P : Type 0} (service : Service) (failed : Bool) (journal : List Event) (posts : List P) (scene : P → Option Scene) (faults : P → Faults) (held_old held_new : Option (List ℕ)) (log_old log_new : ℕ) → RunEnded service failed journal posts scene faults → BookSays service.setup journal held_old held_new log_old log_new → length journal ≤ 1048576 → length posts ≡ service.setup.workers → FaultsAreCounted scene faults posts → RunPromises service failed journal posts scene faults held_old held_new log_old log_new
+run_promises service failed journal posts scene faults held_old held_new log_old log_new ended says few one_each counted =
     let conversations = conversations_match service failed journal posts scene faults ended in
     record {
       legal = record { legal = says.run.legal; proper = says.run.proper; workers = says.run.workers; few = few };
@@ -50,6 +50,7 @@ run_promises service failed journal posts scene faults held_old held_new log_old
       unseen = record { alike = λ other_setup other same legal. strangers_see_no_accounts service.setup other_setup journal other (sym same) says.run.legal legal };
       quota = runs_to_quota service failed journal posts scene faults ended;
       fault_ends = fault_ends_are_counted service failed journal posts scene faults ended few;
+      counted = counted;
       one_each = one_each;
       lost = says.rose;
       accept_failed = some_accept_failed service failed journal posts scene faults ended;

@@ -4,10 +4,8 @@ use Rattle.std.specs.List.{AllByRecursion, last_or, list_any}
 use Rattle.monitor_book.specs.Lines.{LogMatches}
 use Rattle.outside.specs.Told.{Rose}
 use Rattle.outside.specs.declared.faults.Faults.{Faults}
-use Rattle.outside.specs.Scene.{Scene}
+use Rattle.outside.specs.Scene.{CountsAsTold, Scene, is_failed_accept}
 use Rattle.outside.specs.declared.act.Act.{Act}
-use Rattle.outside.specs.declared.act.Act.TheVariants.{Accept}
-use Rattle.outside.specs.declared.act.Accepted.TheVariants as accepted
 use Rattle.policy_laws.specs.Strangers.{StrangersSeeNoAccounts}
 use Rattle.policy_model.specs.declared.event.Ask.{Ask}
 use Rattle.policy_model.specs.declared.event.Event.{Event}
@@ -69,10 +67,6 @@ pub record RunsToQuota {P : Type 0} (setup : Settings) (scene : P → Option Sce
 
 -- ---- accepts that failed
 
-abbrev pub is_failed_accept : Act → Bool
-is_failed_accept (Accept accepted.Failed) = true
-is_failed_accept _ = false
-
 abbrev pub is_fault : Option Act → Bool
 is_fault None = false
 is_fault (Some act) = is_failed_accept act
@@ -103,6 +97,10 @@ pub record FaultEndsAreCounted {P : Type 0} (faults : P → Faults) (journal : L
   pub link : (worker : ℕ) (post : P) → slice_get posts worker ≡ Some post → ends_by is_link_end journal worker ≤ (faults post).link
   pub keeper : (worker : ℕ) (post : P) → slice_get posts worker ≡ Some post → ends_by is_keeper_end journal worker ≤ (faults post).keeper
 
+-- of accepts and starts each worker's post counts as many faults as it tells
+pub record FaultsAreCounted {P : Type 0} (scene : P → Option Scene) (faults : P → Faults) (posts : List P) : Type 0 where
+  pub each : (worker : ℕ) (post : P) → slice_get posts worker ≡ Some post → IfSome (scene post) (λ s. CountsAsTold s (faults post))
+
 -- ---- completeness
 
 -- no count of a post is above 0 but those of connections and of users' files, whose faults are themselves answered
@@ -132,6 +130,7 @@ pub record RunPromises {P : Type 0} (service : Service) (failed : Bool) (journal
   pub unseen : ShowsNoAccounts service.setup journal
   pub quota : RunsToQuota service.setup scene journal posts
   pub fault_ends : FaultEndsAreCounted faults journal posts
+  pub counted : FaultsAreCounted scene faults posts
   pub one_each : length posts ≡ service.setup.workers
   pub lost : has_lost journal ≡ true → Rose log_old log_new
   pub accept_failed : failed ≡ true → SomeAcceptFailed scene faults posts

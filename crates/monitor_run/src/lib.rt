@@ -2,6 +2,7 @@
 //! `specs/Headline.antt`, what is promised of a whole run; read `running.rt` first.
 #![tactic(auto)]
 
+mod counting;
 mod desk;
 mod gathering;
 mod prepared;

@@ -6,6 +6,7 @@ ghost use Rattle.otp_ledger.specs.Standing.{StandsFor};
 ghost use Rattle.outside.specs.Scene.{IsFresh};
 ghost use Rattle.policy_model.specs.Journal.{kept_events};
 
+use crate::counting::count_as_told;
 use crate::gathering::{gather, part};
 use crate::prepared::Prepared;
 use crate::threads::serve_all;
@@ -54,6 +55,7 @@ pub fn run<'a, T: Texts + Sync, P: Post, K: Sink, R: Threads + Wait + Sync>(
     gather(&mut posts, &mut passes, &mut desks, &mut workers);
     serve_all(rt, &cell, &mut workers);
     let accept_failed = part(workers, &mut posts, &mut passes);
+    count_as_told(posts.as_slice());
     let (core, journal, log) = close_cell(cell, passes).parts();
     Ran {
         core,

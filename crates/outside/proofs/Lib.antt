@@ -1,5 +1,6 @@
 pub mod Told
 pub mod Counts
+pub mod Counted
 pub mod Exchanges
 pub mod Scenes
 mod RepeatingLemmas

@@ -1,12 +1,12 @@
 -- Believed: what a post tells, and what each of its calls adds to that.
-use Rattle.std.specs.Prelude.{◌≡◌, ℕ, Bool, true, false, List, [], ◌∷◌, ◌++◌, count_by, slice_get, take, zero, suc, unwrap_or, Option, Some, None, option_map, Result, Ok, Err, IfSome}
+use Rattle.std.specs.Prelude.{◌≡◌, ℕ, ◌-◌, ◌^◌, min, Bool, true, false, List, [], ◌∷◌, ◌++◌, count_by, slice_get, take, zero, suc, unwrap_or, Option, Some, None, option_map, Result, Ok, Err, IfSome}
 use Rattle.outside.specs.declared.act.Failed.{Failed}
 use Rattle.outside.specs.declared.act.Role.{Role}
 use Rattle.outside.specs.declared.act.Role.TheVariants.{Pre, User}
 use Rattle.outside.specs.declared.act.Accepted.{Accepted}
 use Rattle.outside.specs.declared.act.Accepted.TheVariants.{Came, NoneLeft, Failed as AcceptFailed}
 use Rattle.outside.specs.declared.act.Act.{Act}
-use Rattle.outside.specs.declared.act.Act.TheVariants.{Accept, Finish}
+use Rattle.outside.specs.declared.act.Act.TheVariants.{Accept, Finish, Start}
 use Rattle.outside.specs.declared.act.Talk.{Talk}
 use Rattle.outside.specs.declared.faults.Faults.{Faults}
 use Rattle.outside.specs.Faults.{AreCounts}
@@ -94,3 +94,22 @@ pub record IsUnplayed (scene : Scene) : Type 0 where
 pub record IsFresh {P : Type 0} (scene : P → Option Scene) (faults : P → Faults) (post : P) : Type 0 where
   pub unplayed : IfSome (scene post) IsUnplayed
   pub faultless : AreCounts 0 0 0 0 0 (faults post)
+
+-- whether the operation is an accept that failed
+abbrev pub is_failed_accept : Act → Bool
+is_failed_accept (Accept AcceptFailed) = true
+is_failed_accept _ = false
+
+-- whether the operation is the start of a child that failed
+abbrev pub is_failed_start : Act → Bool
+is_failed_start (Start role (Err failed)) = true
+is_failed_start _ = false
+
+-- so many faults as a count says them, which stands still at its type's end
+abbrev pub counted : ℕ → ℕ
+counted number = min number (2 ^ 64 - 1)
+
+-- the accepts and the starts that are told as failed are as many as are counted
+pub record CountsAsTold (scene : Scene) (faults : Faults) : Type 0 where
+  pub accept : faults.accept ≡ counted (count_by is_failed_accept scene.acts)
+  pub keeper : faults.keeper ≡ counted (count_by is_failed_start scene.acts)

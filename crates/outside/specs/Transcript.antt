@@ -1,7 +1,11 @@
 -- Inner: what a post in memory tells of what it was asked.
-use Rattle.std.specs.Prelude.{◌≡◌, ℕ, IsTrue, List, Option}
+use Rattle.std.specs.Prelude.{◌≡◌, ℕ, IfSome, IsTrue, List, Option, Vec}
+use Rattle.std.specs.Global.{Global}
 use Rattle.outside.specs.declared.memory.transcript.Transcript.{Transcript}
-use Rattle.outside.specs.Scene.{Scene, came_count}
+use Rattle.outside.specs.declared.faults.Faults.{Faults}
+use Rattle.outside.specs.declared.memory.script.Script.{Script}
+use Rattle.outside.specs.Scene.{CountsAsTold, Scene, came_count}
+use Rattle.outside.specs.Script.{plan_of}
 use Rattle.outside.specs.Told.{told_if}
 
 -- what a post with this transcript and plan tells
@@ -12,3 +16,7 @@ scene_with t plan =
 -- so many connections came, if it is told
 abbrev pub HasCome : Transcript → ℕ → Type 0
 HasCome t came = IsTrue t.telling → came_count t.acts.items ≡ came
+
+-- of accepts and starts so many are counted as are told as failed
+abbrev pub AreTold : Transcript → Vec Script Global → Faults → Type 0
+AreTold t scripts faults = IfSome (scene_with t (plan_of scripts.items)) (λ s. CountsAsTold s faults)

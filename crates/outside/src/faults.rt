@@ -1,3 +1,6 @@
+ghost use Rattle.std.specs.Prelude.{◌≡◌, ◌<◌, ◌≤◌};
+ghost use Rattle.outside.specs.Told.{next_count};
+
 /// How many faults of each kind a post counted. A count stands still at 2^64 - 1.
 #[derive(Clone, Copy, PartialEq, Eq, Debug)]
 pub struct Faults {
@@ -27,5 +30,19 @@ impl Faults {
             conn: 0,
             vault: 0,
         }
+    }
+}
+
+/// The count of the links' faults after a child with so many was given back: one more where it had any.
+pub fn link_count(count: u64, child_faults: u64) -> u64
+    ensures counted { 0 < child_faults → result ≡ next_count count }
+    ensures uncounted { child_faults ≡ 0 → result ≡ count }
+    ensures least { count ≤ result }
+    ensures most { result ≤ next_count count }
+{
+    if child_faults > 0 {
+        count.saturating_add(1)
+    } else {
+        count
     }
 }

@@ -15,7 +15,7 @@ mod stream;
 
 pub use act::{Accepted, Act, Failed, Role, Talk};
 pub use bytes::{Bytes, Word};
-pub use faults::Faults;
+pub use faults::{Faults, link_count};
 pub use files::Files;
 pub use memory::{CallKind, Fail, MemConn, MemFiles, MemPost, MemSink, MemSite, MemStream, Script};
 pub use place::Place;

@@ -2,7 +2,7 @@ ghost use Rattle.std.specs.Prelude.{◌≡◌, ◌<◌, ◌≤◌, length, Optio
 ghost use Rattle.outside.specs.declared.act.Act.{Act};
 ghost use Rattle.outside.specs.declared.faults.Faults.{Faults};
 ghost use Rattle.outside.specs.Faults.{AcceptCounts, ConnCounts, CountNothing, FinishCounts, NoneFell, StartCounts, VaultCounts};
-ghost use Rattle.outside.specs.Scene.{Did, GivenBack, IsUnused, Scene, accepted_outcome, came_count, planned_bytes, received_outcome, started_outcome};
+ghost use Rattle.outside.specs.Scene.{CountsAsTold, Did, GivenBack, IsUnused, Scene, accepted_outcome, came_count, planned_bytes, received_outcome, started_outcome};
 
 use crate::act::{Failed, Role};
 use crate::stream::Stream;
@@ -22,6 +22,9 @@ pub trait Post: Drop + Send {
 
     // How many faults it had, by kind.
     ghost faults: { Self → Faults };
+
+    // As many accepts and starts are counted as are told as failed.
+    ghost counts_as_told: { (post : Self) → IfSome (scene post) (λ s. CountsAsTold s (faults post)) };
 
     /// Waits for the next connection. `None`: no connection will come any more.
     fn accept(&mut self) -> Result<Option<Self::Conn>, Failed>

@@ -1,6 +1,5 @@
 ghost use Rattle.std.specs.Prelude.{◌≡◌, ◌<◌, ◌≤◌, IfOk, IsSome, None, length};
 ghost use Rattle.outside.specs.Faults.{AcceptCounts, ConnCounts, CountNothing, FinishCounts, NoneFell, StartCounts, VaultCounts};
-ghost use Rattle.outside.specs.Told.{next_count};
 ghost use Rattle.outside_real.specs.RealStream.{faults_of as stream_faults, role_of};
 
 use crate::again::read_again;
@@ -11,7 +10,7 @@ use crate::seat::Seat;
 use crate::socket;
 use crate::stream::{RealStream, close, launch};
 use crate::vault::UserFile;
-use outside::{Failed, Faults, Place, Post, Role};
+use outside::{Failed, Faults, Place, Post, Role, link_count};
 use request_catalogue::Label;
 use std::alloc::Global;
 use std::fs::File;
@@ -74,6 +73,8 @@ impl<R: Processes<Started = SystemProcess> + Files<File = File> + Net + Clock + 
     ghost scene = { λ _. None };
 
     ghost faults = { faults_of };
+
+    ghost counts_as_told = { λ _. tt };
 
     /// Waits for the next connection. One always comes, or the wait fails.
     fn accept(&mut self) -> Result<Option<UnixStream>, Failed>
@@ -206,18 +207,4 @@ fn accept(seat: &Seat, limits: &Limits) -> io::Result<UnixStream> {
     let conn = seat.accept()?;
     socket::limit(&conn, limits.client)?;
     Ok(conn)
-}
-
-/// The count of the links' faults after a child with so many was given back.
-fn link_count(count: u64, child_faults: u64) -> u64
-    ensures counted { 0 < child_faults → result ≡ next_count count }
-    ensures uncounted { child_faults ≡ 0 → result ≡ count }
-    ensures least { count ≤ result }
-    ensures most { result ≤ next_count count }
-{
-    if child_faults > 0 {
-        count.saturating_add(1)
-    } else {
-        count
-    }
 }

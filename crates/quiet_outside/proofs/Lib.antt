@@ -1,3 +1,4 @@
+mod Counted
 mod RepeatingLemmas
 mod ReceivingLemmas
 mod ScriptLemmas

@@ -10,7 +10,7 @@ use Rattle.quiet_outside.specs.declared.post.QuietPost.{QuietPost}
 use Rattle.quiet_outside.specs.declared.room.Pieces.{Pieces}
 use Rattle.quiet_outside.specs.Pieces.{has_piece, without}
 use Rattle.quiet_outside.specs.Shelf.{shelf_files}
-use Rattle.quiet_outside.specs.Transcript.{scene_with}
+use Rattle.quiet_outside.specs.Transcript.{no_faults, scene_with}
 
 -- what the post tells
 abbrev pub scene_of : QuietPost → Option Scene
@@ -18,7 +18,7 @@ scene_of p = scene_with p.transcript (plan_of p.scripts.items)
 
 -- how many faults it had, by kind: none
 abbrev pub faults_of : QuietPost → Faults
-faults_of p = record { accept = 0; keeper = 0; link = 0; conn = 0; vault = 0 }
+faults_of p = no_faults
 
 -- what stands in the users' files, if it is told
 abbrev pub users_files : QuietPost → Option Vault

@@ -1,6 +1,10 @@
 -- Inner: what a quiet post tells of what it was asked.
-use Rattle.std.specs.Prelude.{◌≡◌, ℕ, IsTrue, List, Option}
-use Rattle.outside.specs.Scene.{Scene, came_count}
+use Rattle.std.specs.Prelude.{◌≡◌, ℕ, IfSome, IsTrue, List, Option, Vec}
+use Rattle.std.specs.Global.{Global}
+use Rattle.outside.specs.declared.faults.Faults.{Faults}
+use Rattle.outside.specs.declared.memory.script.Script.{Script}
+use Rattle.outside.specs.Scene.{CountsAsTold, Scene, came_count}
+use Rattle.outside.specs.Script.{plan_of}
 use Rattle.outside.specs.Told.{told_if}
 use Rattle.quiet_outside.specs.declared.transcript.Transcript.{Transcript}
 
@@ -12,3 +16,11 @@ scene_with t plan =
 -- so many connections came, if it is told
 abbrev pub HasCome : Transcript → ℕ → Type 0
 HasCome t came = IsTrue t.telling → came_count t.acts.items ≡ came
+
+-- no fault
+abbrev pub no_faults : Faults
+no_faults = record { accept = 0; keeper = 0; link = 0; conn = 0; vault = 0 }
+
+-- no accept and no start is told as failed
+abbrev pub AreTold : Transcript → Vec Script Global → Type 0
+AreTold t scripts = IfSome (scene_with t (plan_of scripts.items)) (λ s. CountsAsTold s no_faults)

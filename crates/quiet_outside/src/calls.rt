@@ -29,6 +29,8 @@ impl Post for QuietPost {
 
     ghost faults = { faults_of };
 
+    ghost counts_as_told = { λ post. post.told };
+
     /// Takes the next script.
     fn accept(&mut self) -> Result<Option<QuietConn>, Failed>
         ensures act { Did (Act.Accept (accepted_outcome result)) (scene_of self.old)

@@ -4,7 +4,8 @@ ghost use Rattle.outside.specs.Faults.{AreCounts};
 ghost use Rattle.outside.specs.Told.{Goes};
 ghost use Rattle.outside.specs.Vaults.{FileSet};
 ghost use Rattle.quiet_outside.specs.Pieces.{fits_file, without};
-ghost use Rattle.quiet_outside.specs.Transcript.{HasCome};
+ghost use Rattle.quiet_outside.specs.Transcript.{AreTold, HasCome};
+ghost use Rattle.std.proofs.Props.{props};
 
 use crate::blanks::Blanks;
 use crate::repeating::Repeating;
@@ -28,6 +29,7 @@ pub struct QuietPost {
     ghost in_scripts: { came ≤ length scripts.items },
     ghost some_moment: { 0 < length moments },
     ghost counted: { HasCome transcript came },
+    ghost told: { AreTold transcript scripts } by { Prim.hlevel props },
 }
 
 impl QuietPost {

@@ -302,6 +302,7 @@ module _ {P : Type 0} (source : Source) (service : Service) (ledger : LedgerPart
     unseen = ran.unseen;
     quota = ran.quota;
     fault_ends = ran.fault_ends;
+    counted = ran.counted;
     success = λ e. let z = tells.zero e in record { kept = z.0; accepted = ran.accepted z.1; quota = ran.quota; one_each = ran.one_each };
     accounts = accounts_match source service.setup ledger (run_end written (has_lost journal) failed) written (has_lost journal) failed journal old mid new ReplaceRose tells stands kept writes (written_end source service.setup ledger mid new ReplaceRose written writes);
     complete = record {
@@ -358,6 +359,7 @@ module _ {P : Type 0} (source : Source) (service : Service) (status : ℕ) (jour
     unseen = record { alike = λ other_setup other same legal'. strangers_see_no_accounts service.setup other_setup journal other (sym same) legal.legal legal' };
     quota = record { quota = λ worker post is. no_post posts worker post none is };
     fault_ends = record { link = λ worker post is. no_post posts worker post none is; keeper = λ worker post is. no_post posts worker post none is };
+    counted = record { each = λ worker post is. no_post posts worker post none is };
     success = λ e. absurd (run e);
     accounts = accounts source;
     complete = record { succeeds = λ h. inr (nine h); answered = λ h e. absurd (run e) };

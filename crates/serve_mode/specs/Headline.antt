@@ -6,7 +6,7 @@ use Rattle.account_file.specs.Setups.{setup_of}
 use Rattle.account_writer.specs.CurrentSetup.{setup_after}
 use Rattle.info_hooks.specs.declared.key.Key.{Key}
 use Rattle.monitor_book.specs.Lines.{LogMatches}
-use Rattle.monitor_run.specs.Headline.{AreFaultless, ConversationsMatch, FaultEndsAreCounted, IsAnsweredWhole, JournalIsLegal, NoAcceptFailed, OperationsMatch, RunsToQuota, SessionsInOrder, ShowsNoAccounts, SomeAcceptFailed}
+use Rattle.monitor_run.specs.Headline.{AreFaultless, ConversationsMatch, FaultEndsAreCounted, FaultsAreCounted, IsAnsweredWhole, JournalIsLegal, NoAcceptFailed, OperationsMatch, RunsToQuota, SessionsInOrder, ShowsNoAccounts, SomeAcceptFailed}
 use Rattle.outside.specs.declared.faults.Faults.{Faults}
 use Rattle.outside.specs.declared.place.Place.{Place as SitePlace}
 use Rattle.outside.specs.Files.{Contents, MayBeReplaced, Replaced, SameFiles}
@@ -117,6 +117,7 @@ pub record ServePromises {P : Type 0} (source : Source) (service : Service) (sta
   pub unseen : ShowsNoAccounts service.setup journal
   pub quota : RunsToQuota service.setup scene journal posts
   pub fault_ends : FaultEndsAreCounted faults journal posts
+  pub counted : FaultsAreCounted scene faults posts
   pub success : status ≡ 0 → SucceedsWhole service.setup journal posts scene
   pub accounts : AccountsMatch source service.setup status journal old new ReplaceRose
   pub complete : IsComplete service status journal posts scene (NoFault ReadRose ReplaceRose ListenRose LogRose faults posts)

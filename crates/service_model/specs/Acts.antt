@@ -14,6 +14,7 @@ use Rattle.outside.specs.declared.act.Accepted.{Accepted}
 use Rattle.outside.specs.declared.act.Accepted.TheVariants as accepted
 use Rattle.outside.specs.declared.act.Role.{Role}
 use Rattle.outside.specs.declared.act.Role.TheVariants.{Pre}
+use Rattle.outside.specs.Scene.{is_failed_start}
 use Rattle.policy_model.specs.declared.event.Ask.{Ask}
 use Rattle.policy_model.specs.declared.event.Ask.TheVariants as asks
 use Rattle.policy_model.specs.declared.event.Why.{Why}
@@ -118,10 +119,6 @@ bytes_read (acts.ConnRecv max (Ok bytes)) = bytes
 bytes_read (acts.VaultRead uid name offset max (Ok bytes)) = bytes
 bytes_read _ = []
 
--- a child that could not be started
-abbrev pub is_failed_start : Act → Bool
-is_failed_start (acts.Start role (Err failed)) = true
-is_failed_start _ = false
-
+-- a child could not be started
 abbrev pub has_failed_start : List Act → Bool
 has_failed_start done = list_any is_failed_start done

@@ -1,7 +1,7 @@
 ghost use Rattle.std.specs.Prelude.{◌≡◌, ◌↔◌, ◌+◌, ◌<◌, ◌≤◌, [], ◌∷◌, drop, IfOk, IfSome, IsErr, IsSome, length, min, None, Ok, OnErr, OnOk, OnSome, take};
 ghost use Rattle.request_catalogue.specs.TextBytes.{label_bytes};
 ghost use Rattle.outside.specs.Repeating.{items_after, next_item};
-ghost use Rattle.outside.specs.Faults.{AcceptCounts, ConnCounts, CountNothing, FinishCounts, NoneFell, StartCounts, VaultCounts};
+ghost use Rattle.outside.specs.Faults.{AcceptCounts, ConnCounts, CountNothing, FinishCounts, NoneFell, StartCounts, VaultCounts, count_after};
 ghost use Rattle.outside.specs.Scene.{Did, GivenBack, IsUnused, accepted_outcome, came_count, planned_bytes, received_outcome, started_outcome};
 ghost use Rattle.outside.specs.Told.{Goes, next_count};
 ghost use Rattle.outside.specs.Vaults.{FileWritten, piece_from};
@@ -14,6 +14,7 @@ use super::stream::MemStream;
 use super::vault::Spot;
 use crate::act::{Accepted, Act, Failed, Role};
 use crate::bytes::Bytes;
+use crate::faults::link_count;
 use crate::post::Post;
 use request_catalogue::Label;
 use std::alloc::AllocError;
@@ -30,6 +31,8 @@ impl Post for MemPost {
     ghost scene = { scene_of };
 
     ghost faults = { faults_of };
+
+    ghost counts_as_told = { λ post. post.told };
 
     /// Takes the next script. It fails exactly where the list says so.
     fn accept(&mut self) -> Result<Option<MemConn>, Failed>
@@ -233,9 +236,7 @@ impl Post for MemPost {
             None => Ok(()),
             Some(_) => Err(Failed),
         };
-        if outcome.is_err() {
-            self.faults.conn = self.faults.conn.saturating_add(1);
-        }
+        self.faults.conn = count_after(&outcome, self.faults.conn);
         match Bytes::of(self.alloc, bytes) {
             Ok(bytes) => self.transcript.act(Act::ConnSend { bytes, outcome }),
             Err(AllocError) => self.transcript.cease(),
@@ -360,16 +361,12 @@ impl Post for MemPost {
     }
 }
 
-/// The count of the links' faults after a child with so many was given back.
-fn link_count(count: u64, child_faults: u64) -> u64
-    ensures counted { 0 < child_faults → result ≡ next_count count }
-    ensures uncounted { child_faults ≡ 0 → result ≡ count }
-    ensures least { count ≤ result }
-    ensures most { result ≤ next_count count }
+/// The count of a call's faults after it.
+fn count_after(outcome: &Result<(), Failed>, count: u64) -> u64
+    ensures { result ≡ count_after outcome.now count }
 {
-    if child_faults > 0 {
-        count.saturating_add(1)
-    } else {
-        count
+    match outcome {
+        Ok(()) => count,
+        Err(_) => count.saturating_add(1),
     }
 }

@@ -2,7 +2,7 @@ ghost use Rattle.std.specs.Prelude.{◌≡◌, ◌↔◌, ◌<◌, ◌≤◌, []
 ghost use Rattle.request_catalogue.specs.TextBytes.{label_bytes};
 ghost use Rattle.outside.specs.Faults.{AreCounts};
 ghost use Rattle.outside.specs.Told.{Goes};
-ghost use Rattle.outside.specs.Transcript.{HasCome};
+ghost use Rattle.outside.specs.Transcript.{AreTold, HasCome};
 ghost use Rattle.outside.specs.Vaults.{FileSet};
 ghost use Rattle.std.proofs.Props.{props};
 
@@ -48,6 +48,7 @@ pub struct MemPost {
     ghost some_cut: { 0 < length cuts.items },
     ghost some_moment: { 0 < length moments },
     ghost counted: { HasCome transcript came },
+    ghost told: { AreTold transcript scripts faults } by { Prim.hlevel props },
 }
 
 impl MemPost {

@@ -1,4 +1,6 @@
-use Rattle.std.proofs.Common.{arith}
+use Rattle.std.proofs.Common.{arith, refl}
+use Rattle.outside.specs.Script.{plan_of}
+use Rattle.outside.proofs.Counted.{counts_ceased, counts_did}
 use Rattle.outside.proofs.memory.calls.MemPostPost.vault_read.Goals as goal
 
 pub invariant_of-self : goal.invariant_of-self
@@ -8,6 +10,7 @@ invariant_of-self c = record {
   some_cut = c.args.self.now.some_cut;
   some_moment = c.args.self.now.some_moment;
   counted = λ t. omega (arith, c.act.ensures.came c.args.self.now.came c.args.self.now.counted t);
+  told = counts_did _ _ _ _ _ (c.act.ensures.did (plan_of c.args.self.now.scripts.items)) (record { accept = refl; keeper = refl }) c.args.self.now.told;
 }
 
 pub invariant_of-self-in-Ok : goal.invariant_of-self-in-Ok
@@ -17,6 +20,7 @@ invariant_of-self-in-Ok c = record {
   some_cut = c.args.self.now.some_cut;
   some_moment = c.args.self.now.some_moment;
   counted = λ t. omega (arith, c.act-in-Ok.ensures.came c.args.self.now.came c.args.self.now.counted t);
+  told = counts_did _ _ _ _ _ (c.act-in-Ok.ensures.did (plan_of c.args.self.now.scripts.items)) (record { accept = refl; keeper = refl }) c.args.self.now.told;
 }
 
 pub invariant_of-self-in-Err : goal.invariant_of-self-in-Err
@@ -26,4 +30,5 @@ invariant_of-self-in-Err c = record {
   some_cut = c.args.self.now.some_cut;
   some_moment = c.args.self.now.some_moment;
   counted = c.cease.ensures.came c.args.self.now.came;
+  told = counts_ceased _ _ (c.cease.ensures.silent (plan_of c.args.self.now.scripts.items));
 }
