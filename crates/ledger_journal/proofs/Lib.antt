@@ -1,0 +1,9 @@
+pub mod ImageLemmas
+pub mod ReadLemmas
+pub mod PassLemmas
+pub mod SpendLemmas
+pub mod AnswerLemmas
+pub mod Writable
+pub mod LineLemmas
+pub mod JournalLemmas
+pub mod BackLemmas

@@ -1,0 +1,18 @@
+//! Recovery: the ledger that a stopped run had come to, from the records of its log. Believe `specs/`;
+//! the mode `recover` stands above.
+#![tactic(auto)]
+
+mod answer;
+mod login;
+mod passing;
+mod reading;
+mod records;
+mod recovery;
+mod spending;
+
+pub use answer::{RecoverError, Recovered};
+pub use login::Login;
+pub use recovery::recover;
+
+#[cfg(test)]
+mod tests;
