@@ -1,9 +1,9 @@
 //! The numbers of information of a setup file.
 
-ghost use Rattle.std.specs.Prelude.{◌≡◌, ◌≤◌, IfOk, true, map, codes, length, option_map, ◌==◌};
-ghost use Rattle.std.specs.List.{list_all, list_any};
+ghost use Rattle.std.specs.Prelude.{◌≡◌, ◌≤◌, IfOk, true, map, codes, length, option_map};
+ghost use Rattle.std.specs.List.{list_all};
 ghost use Rattle.std.specs.Option.{is_some, option_and_then};
-ghost use Rattle.policy_model.specs.Settings.{are_numbers, are_distinct};
+ghost use Rattle.policy_model.specs.Settings.{are_numbers};
 ghost use Rattle.toml.specs.Data.{as_integer, get_member};
 ghost use Rattle.toml.specs.View.{view, table_view};
 ghost use Rattle.account_file.specs.Faults.{fault_of, Answers};
@@ -14,7 +14,7 @@ ghost use Rattle.account_file.specs.Setups.{top, all_some, info_items, info_of};
 
 use crate::fault::{SetupError, SetupKey, SetupRule, Spot};
 use crate::keys::{entry, number_in};
-use policy_model::Numbers;
+use policy_model::{Numbers, are_distinct_numbers};
 use std::alloc::{AllocError, Global};
 use toml::{Table, Value};
 
@@ -49,7 +49,7 @@ fn info_items(alloc: Global, items: &[Value]) -> Result<Numbers, SetupError>
     let Some(info) = small_numbers(alloc, items)? else {
         return Err(broken(SetupRule::Range));
     };
-    if !are_distinct(info.as_slice()) {
+    if !are_distinct_numbers(info.as_slice()) {
         return Err(broken(SetupRule::Twice));
     }
     Ok(Numbers::of(info))
@@ -93,21 +93,4 @@ fn small_number(item: &Value) -> Option<u32>
     ensures { result ≡ option_and_then (number_in 1 1000) (as_integer (view item.now)) }
 {
     number_in(1, 1_000, item.as_integer()?)
-}
-
-/// Whether the numbers are different.
-fn are_distinct(numbers: &[u32]) -> bool
-    ensures { result ≡ are_distinct ◌==◌ numbers.now }
-{
-    match numbers {
-        [] => true,
-        [first, rest @ ..] => !has_number(rest, *first) && are_distinct(rest),
-    }
-}
-
-/// Whether a number stands in a list.
-fn has_number(numbers: &[u32], n: u32) -> bool
-    ensures { result ≡ list_any (λ m. n == m) numbers.now }
-{
-    numbers.iter().any(|m| n == *m)
 }

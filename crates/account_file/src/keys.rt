@@ -1,8 +1,6 @@
 //! Single keys of a table.
 
 ghost use Rattle.std.specs.Prelude.{◌≡◌, ℕ, ◌≤◌, ◌^◌, ◌<◌, IfOk, IfSome, option_map, map, length, true};
-ghost use Rattle.std.specs.List.{list_all};
-ghost use Rattle.request_catalogue.specs.Texts.{is_printable};
 ghost use Rattle.otp_hash.specs.SeedBytes.{seed_bytes};
 ghost use Rattle.policy_model.specs.Settings.{is_text, is_number};
 ghost use Rattle.toml.specs.Data.{get_member};
@@ -14,6 +12,7 @@ ghost use Rattle.account_file.specs.Trees.{items_of};
 use crate::fault::{SetupFault, SetupRule, Spot};
 use hex::FromHex;
 use otp_hash::{Algo, Seed};
+use policy_model::is_text;
 use request_catalogue::Width;
 use toml::{Table, Value};
 
@@ -133,21 +132,6 @@ pub fn items_of(value: &Value, spot: Spot, most: usize) -> Result<&[Value], Setu
         return Err(spot.breaks(SetupRule::Range));
     }
     Ok(items.as_slice())
-}
-
-/// Whether a text has low to high bytes, each printable ASCII.
-pub fn is_text(low: usize, high: usize, text: &str) -> bool
-    ensures { result ≡ is_text low high text.now }
-{
-    let bytes = text.as_bytes();
-    low <= bytes.len() && bytes.len() <= high && are_printable(bytes)
-}
-
-/// Whether all bytes are printable ASCII, space to `~`.
-fn are_printable(bytes: &[u8]) -> bool
-    ensures { result ≡ list_all is_printable bytes.now }
-{
-    bytes.iter().all(|byte| matches!(byte, b' '..=b'~'))
 }
 
 /// A number of low to high.

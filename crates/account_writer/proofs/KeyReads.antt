@@ -31,7 +31,8 @@ use Rattle.account_file.specs.Faults.{demand, ◌>>=◌}
 use Rattle.account_file.specs.Keys.{text_of, number_of, algo_of, width_of, seed_of, password_of, truth_of}
 use Rattle.account_file.specs.Trees.{data_of}
 use Rattle.account_file.specs.Trees as trees
-use Rattle.account_writer.specs.Tables.{algo_word, width_word, password_text, number}
+use Rattle.otp_hash.specs.Names.{algo_word}
+use Rattle.account_writer.specs.Tables.{width_word, password_text, number}
 
 pub text_read : (spot : Spot) (low high : ℕ) (bytes : List ℕ) → is_text low high bytes ≡ true → text_of spot low high (Some (string bytes)) ≡ Ok bytes
 text_read spot low high bytes legal = ap (λ (b : Bool). demand spot rules.Text (then_some b bytes)) legal

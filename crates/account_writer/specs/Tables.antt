@@ -4,8 +4,7 @@ use Rattle.std.specs.Cmp.Lexicographic.{slice_cmp}
 use Rattle.std.specs.Int.{w64, to_be_bytes}
 use Rattle.std.specs.Ordering.{nat_cmp, match_ordering}
 use Rattle.hex.specs.Hex.{encode_lower}
-use Rattle.otp_hash.specs.declared.chain.Algo.{Algo}
-use Rattle.otp_hash.specs.declared.chain.Algo.TheVariants as algos
+use Rattle.otp_hash.specs.Names.{algo_word}
 use Rattle.otp_hash.specs.SeedBytes.{seed_bytes}
 use Rattle.request_catalogue.specs.declared.width.Width.{Width}
 use Rattle.request_catalogue.specs.declared.width.Width.TheVariants.{Narrow, Wide}
@@ -21,11 +20,6 @@ use Rattle.toml.specs.View.{items_of}
 abbrev pub put_member : List ℕ → Data → Members → Members
 put_member k d no_members = member k d no_members
 put_member k d (member l e ms) = match_ordering (slice_cmp nat_cmp k l) (member k d (member l e ms)) (member l d ms) (member l e (put_member k d ms))
-
--- the word of an algorithm
-abbrev pub algo_word : Algo → List ℕ
-algo_word algos.Md5 = codes "md5"
-algo_word algos.Sha1 = codes "sha1"
 
 -- the word of a width
 abbrev pub width_word : Width → List ℕ

@@ -1,16 +1,9 @@
--- Inner: the words that a launcher is given.
-use Rattle.std.specs.Prelude.{ℕ, List, [], ◌∷◌, codes}
+-- Inner: the words that a launcher is given, as one text.
+use Rattle.std.specs.Prelude.{ℕ, List}
 use Rattle.std.specs.List.{join_with_byte}
-use Rattle.std.specs.Fmt.{decimal}
-use Rattle.request_catalogue.specs.TextBytes.{name_bytes}
 use Rattle.outside.specs.declared.act.Role.{Role}
-use Rattle.outside.specs.declared.act.Role.TheVariants.{Pre, User}
+use Rattle.outside.specs.Launching.{launch_words}
 
--- the words that a launcher is given for a child of this role
-abbrev pub launch_words : Role → List (List ℕ)
-launch_words (Pre session) = codes "child-pre" ∷ decimal session ∷ []
-launch_words (User session uid user) = codes "child-user" ∷ decimal session ∷ decimal uid ∷ name_bytes user ∷ []
-
--- the same as one text, with a space between two words
+-- the words that a launcher is given, with a space between two
 abbrev pub launch_text : Role → List ℕ
 launch_text role = join_with_byte 32 (launch_words role)

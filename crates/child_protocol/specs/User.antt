@@ -9,6 +9,7 @@ use Rattle.request_catalogue.specs.Replies.{AnswerValue, Done, Denied, Device}
 use Rattle.request_catalogue.specs.Texts.{is_label, is_note, is_digit, is_printable}
 use Rattle.child_protocol.specs.Lines.{Front, More, TooLong, Line}
 use Rattle.child_protocol.specs.Commands.{text_behind}
+use Rattle.otp_words.specs.Challenges.{decimal_value}
 use Rattle.state_export.specs.declared.fault.ImportFault.{ImportFault}
 use Rattle.state_export.specs.Reading.{import_of}
 use Rattle.state_export.specs.Spelling.{ImportValue}
@@ -42,10 +43,6 @@ put_command text (Some i) = put_parts (take i text) (drop (suc i) text)
 -- where the first space stands
 unfoldable pub space_in : List ℕ → Option ℕ
 space_in text = position (λ c. c == 32) text
-
--- the number that these digits spell
-abbrev pub decimal_value : List ℕ → ℕ
-decimal_value digits = fold (λ number digit. number * 10 + (digit - 48)) 0 digits
 
 -- the first byte is no 0, or the only byte
 abbrev pub leads_right : List ℕ → Bool

@@ -1,9 +1,8 @@
 //! What a client's line asks.
 
 ghost use Rattle.std.specs.Prelude.{◌≡◌, ◌≤◌, true, length, is_some, IfSome};
-ghost use Rattle.std.specs.List.{list_all};
 ghost use Rattle.fixed_list.specs.FixedList.{list_of};
-ghost use Rattle.request_catalogue.specs.Texts.{is_name, is_reply, is_printable, is_typed};
+ghost use Rattle.request_catalogue.specs.Texts.{is_name, is_reply};
 ghost use Rattle.request_catalogue.specs.Catalogue.{value_of, IsInRange};
 ghost use Rattle.child_protocol.specs.Commands.{IsLegal, Terminal, User, Respond, legal, is_terminal, pre_command};
 ghost use Rattle.child_protocol.specs.Pre.{say, pre_request};
@@ -13,13 +12,10 @@ ghost use Rattle.child_protocol.specs.Places.{place_by};
 
 use crate::place::Place;
 use fixed_list::FixedList;
-use request_catalogue::{Name, Request};
+use request_catalogue::{Name, Request, are_printable, is_reply};
 
 /// The most bytes of a terminal's name.
 const TERMINAL_MAX: usize = 64;
-
-/// The most bytes of a typed reply.
-const REPLY_MAX: usize = 256;
 
 /// A line to the pre-authentication child.
 #[derive(Clone, Copy)]
@@ -87,28 +83,6 @@ fn respond_of(text: &[u8]) -> Command<'_>
     } else {
         Command::Other
     }
-}
-
-/// Whether all bytes are printable ASCII, space to `~`.
-fn are_printable(bytes: &[u8]) -> bool
-    ensures { result ≡ list_all is_printable bytes.now }
-{
-    bytes.iter().all(|byte| matches!(byte, b' '..=b'~'))
-}
-
-/// Whether bytes are a typed reply: 1 to 256 bytes, each a tab or printable.
-#[tactic(auto, unfolding(request_catalogue::specs::Texts::is_reply))]
-fn is_reply(bytes: &[u8]) -> bool
-    ensures { result ≡ is_reply bytes.now }
-{
-    !bytes.is_empty() && bytes.len() <= REPLY_MAX && are_typed(bytes)
-}
-
-/// Whether all bytes are tabs or printable.
-fn are_typed(bytes: &[u8]) -> bool
-    ensures { result ≡ list_all is_typed bytes.now }
-{
-    bytes.iter().all(|byte| matches!(byte, b'\t' | b' '..=b'~'))
 }
 
 /// What a command leads to first.

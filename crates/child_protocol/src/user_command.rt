@@ -3,15 +3,16 @@
 ghost use Rattle.std.specs.Prelude.{◌≡◌, ◌≤◌, ◌<◌, ◌^◌, IfSome, true, length};
 ghost use Rattle.std.specs.List.{list_all};
 ghost use Rattle.request_catalogue.specs.Catalogue.{value_of, IsInRange};
-ghost use Rattle.request_catalogue.specs.Texts.{is_label, is_note, is_digit, is_printable};
-ghost use Rattle.child_protocol.specs.User.{Get, Remark, IsLegalUser, decimal_value, if_legal, is_content, is_number, leads_right, number_of, put_command, put_parts, space_in, tell_command, user_command, user_request};
+ghost use Rattle.request_catalogue.specs.Texts.{is_label, is_note, is_digit};
+ghost use Rattle.child_protocol.specs.User.{Get, Remark, IsLegalUser, if_legal, is_content, is_number, leads_right, number_of, put_command, put_parts, space_in, tell_command, user_command, user_request};
+ghost use Rattle.otp_words.specs.Challenges.{decimal_value};
 ghost use Rattle.child_protocol.specs.Frames.{frame_width};
 ghost use Rattle.child_protocol.specs.Reading.{line_value};
 ghost use Rattle.child_protocol.specs.UserPlaces.{user_place_by};
 
 use crate::command::say;
 use crate::user_place::UserPlace;
-use request_catalogue::{Label, Note, Request};
+use request_catalogue::{Label, Note, Request, are_printable};
 
 /// The most bytes that a line puts in a file.
 const CONTENT_MAX: usize = 200;
@@ -101,13 +102,6 @@ fn is_content(text: &[u8]) -> bool
     ensures few { result ≡ true → length text.now ≤ 200 }
 {
     !text.is_empty() && text.len() <= CONTENT_MAX && are_printable(text)
-}
-
-/// Whether all bytes are printable ASCII, space to `~`.
-fn are_printable(bytes: &[u8]) -> bool
-    ensures { result ≡ list_all is_printable bytes.now }
-{
-    bytes.iter().all(|byte| matches!(byte, b' '..=b'~'))
 }
 
 fn tell_of(text: &[u8]) -> UserLine<'_>

@@ -1,4 +1,3 @@
-pub mod Decimals
 pub mod Hexes
 pub mod Asked
 pub mod Grammar
@@ -8,3 +7,4 @@ pub mod Whys
 pub mod AskLines
 pub mod Decisions
 pub mod Lines
+pub mod Writable

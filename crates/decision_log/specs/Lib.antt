@@ -4,3 +4,4 @@ pub mod Logged
 pub mod Words
 pub mod Parts
 pub mod Reading
+pub mod Typed

@@ -6,8 +6,8 @@ use Rattle.std.specs.Int.{w64, from_be_bytes}
 use Rattle.std.specs.List.{position_or_len}
 use Rattle.std.specs.Result.{result_ok}
 use Rattle.std.specs.Str.{bytes_eq}
-use Rattle.std.specs.Str.Parse.{digits_value}
 use Rattle.hex.specs.Hex.{decode_of, encode_lower}
+use Rattle.text_line.specs.Reading.{decimal_of}
 use Rattle.request_catalogue.specs.Texts.{is_name}
 use Rattle.decision_log.specs.declared.logged.LineFault.{LineFault}
 use Rattle.decision_log.specs.declared.logged.LineFault.TheVariants.{Hex, Number, Rule, Word}
@@ -72,10 +72,6 @@ three first second third make text = do
   b ← next second a.rest
   c ← next third b.rest
   Ok (record { value = make a.value b.value c.value; rest = c.rest })
-
--- the number of 64 bits that a part spells in decimal digits without a leading zero
-unfoldable pub decimal_of : List ℕ → Option ℕ
-decimal_of bytes = then_some (bytes_eq bytes (decimal (digits_value 10 bytes)) && nat_lt (digits_value 10 bytes) (2 ^ 64)) (digits_value 10 bytes)
 
 -- a number below a limit
 abbrev pub number_below : ℕ → List ℕ → Result ℕ LineFault

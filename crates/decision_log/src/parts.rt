@@ -1,12 +1,11 @@
 //! The parts of a line, and the numbers in them.
 
 ghost use Rattle.std.specs.Prelude.{◌≡◌, ◌≤◌, length};
-ghost use Rattle.std.specs.Fmt.{decimal};
 ghost use Rattle.std.specs.List.{position_or_len};
-ghost use Rattle.std.specs.Str.{bytes_eq};
-ghost use Rattle.decision_log.specs.Parts.{behind_part, behind_space, decimal_of, ends_part, first_part};
+ghost use Rattle.decision_log.specs.Parts.{behind_part, behind_space, ends_part, first_part};
+ghost use Rattle.text_line.specs.Reading.{decimal_of};
 
-use text_line::{Line, put_long};
+use text_line::long_of;
 
 /// A part, and what stands behind it.
 #[derive(Clone, Copy)]
@@ -55,24 +54,11 @@ pub(crate) fn next_part(text: &[u8]) -> Part<'_>
 }
 
 /// The number of 64 bits that the bytes spell in decimal digits without a leading zero.
-#[tactic(auto, unfolding(crate::specs::Parts::decimal_of))]
 pub(crate) fn decimal_of(bytes: &[u8]) -> Option<u64>
     ensures { result ≡ decimal_of bytes.now }
 {
     let Ok(text) = std::str::from_utf8(bytes) else {
         return None;
     };
-    let Ok(number) = text.parse::<u64>() else {
-        return None;
-    };
-    is_decimal(number, bytes).then_some(number)
-}
-
-/// Whether the bytes are what a number is written as.
-fn is_decimal(number: u64, bytes: &[u8]) -> bool
-    ensures { result ≡ bytes_eq bytes.now (decimal number) }
-{
-    let mut line = Line::new();
-    put_long(&mut line, number);
-    bytes == line.as_slice()
+    long_of(text)
 }

@@ -13,7 +13,8 @@ use Rattle.otp_words.specs.Challenges.{IsNumber}
 use Rattle.otp_words.specs.Inner.{IsRun}
 use Rattle.otp_words.proofs.RunLemmas.{run_cut, run_exact, stops_at}
 use Rattle.otp_extended.specs.Inner.{AreWords, HasPieces, IsCutAtBlanks}
-use Rattle.otp_extended.specs.Responses.{AreParams, algo_word}
+use Rattle.otp_hash.specs.Names.{algo_word}
+use Rattle.otp_extended.specs.Responses.{AreParams}
 
 is_blank-digit : (c : ℕ) → is_ascii_digit c ≡ true → is_blank c ≡ false
 is_blank-digit c e = grind (arith, nat_tests)

@@ -10,7 +10,7 @@ use Rattle.otp_words.specs.Blanks.{IsGap, is_blank, is_no_blank}
 use Rattle.otp_extended.specs.declared.params.Params.{Params}
 use Rattle.outside.specs.Link.{Exchanged, Link}
 use Rattle.otp_extended.specs.Lines.{line_of}
-use Rattle.otp_extended.specs.Responses.{algo_word}
+use Rattle.otp_hash.specs.Names.{algo_word}
 
 -- a text is cut at its first run of spaces and tabs
 pub record IsCutAtBlanks (text front rest : List ℕ) : Type 0 where

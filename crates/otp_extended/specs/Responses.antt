@@ -3,7 +3,7 @@ use Rattle.std.specs.Prelude.{ℕ, ◌≡◌, ◌≤◌, ◌<◌, ◌^◌, true,
 use Rattle.std.specs.Char.{to_ascii_lowercase}
 use Rattle.std.specs.Str.{bytes_eq}
 use Rattle.otp_hash.specs.declared.chain.Algo.{Algo}
-use Rattle.otp_hash.specs.declared.chain.Algo.TheVariants as algos
+use Rattle.otp_hash.specs.Names.{algo_word}
 use Rattle.otp_hash.specs.SeedBytes.{seed_bytes}
 use Rattle.otp_hash.specs.Seeds.{is_seed_text}
 use Rattle.otp_words.specs.Blanks.{IsGap}
@@ -40,11 +40,6 @@ SpellsSome dictionary form text = (password : ℕ) × Spells dictionary form tex
 
 abbrev pub SpellsNone : List (List ℕ) → Form → List ℕ → Type 0
 SpellsNone dictionary form text = (password : ℕ) → Spells dictionary form text password → ⊥
-
--- the word of an algorithm
-abbrev pub algo_word : Algo → List ℕ
-algo_word algos.Md5 = codes "md5"
-algo_word algos.Sha1 = codes "sha1"
 
 -- a text is the parameters of a new chain: the word of an algorithm, one to four digits of a number from 1, and a seed in any letter case, with spaces and tabs between and nowhere else
 pub record AreParams (text : List ℕ) (algo : Algo) (sequence : ℕ) (seed : List ℕ) : Type 0 where

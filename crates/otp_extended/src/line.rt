@@ -1,13 +1,13 @@
 //! The first line of an input.
 
 ghost use Rattle.std.specs.Prelude.{◌≡◌, ◌==◌, ◌≤◌, [], IfOk, MatchOption, OnErr, None, Some, length, not, take};
-ghost use Rattle.std.specs.List.{position, prefix_len};
-ghost use Rattle.std.specs.Str.Lines.{strip_carriage_return};
+ghost use Rattle.std.specs.List.{prefix_len};
 ghost use Rattle.outside.specs.Told.{Goes, Rose};
-ghost use Rattle.otp_mode.specs.Phrase.{first_line};
-ghost use Rattle.otp_extended.specs.Lines.{OnlyReceived, line_of};
+ghost use Rattle.otp_mode.specs.Outcome.{OnlyReceived};
+ghost use Rattle.otp_extended.specs.Lines.{line_of};
 ghost use Rattle.otp_extended.specs.Inner.{ReceivedLine};
 
+use otp_mode::first_line;
 use outside::{Failed, Stream};
 
 /// The most bytes that are received. A first line that isn't shorter is refused.
@@ -55,31 +55,4 @@ fn line_len(input: &[u8]) -> usize
     ensures { result ≡ prefix_len (λ c. not (c == 10)) input.now }
 {
     input.iter().take_while(|byte| **byte != b'\n').count()
-}
-
-/// The first line of an input, whatever its length.
-fn first_line(input: &[u8]) -> &[u8]
-    ensures { result.now ≡ first_line input.now }
-{
-    match newline_place(input) {
-        None => input,
-        Some(place) => without_return(&input[..place]),
-    }
-}
-
-/// The place of the first newline.
-fn newline_place(input: &[u8]) -> Option<usize>
-    ensures { result ≡ position (λ c. c == 10) input.now }
-{
-    input.iter().position(|byte| *byte == b'\n')
-}
-
-/// A line without the carriage return at its end, if it has one.
-fn without_return(line: &[u8]) -> &[u8]
-    ensures { result.now ≡ strip_carriage_return line.now }
-{
-    match line {
-        [front @ .., b'\r'] => front,
-        _ => line,
-    }
 }

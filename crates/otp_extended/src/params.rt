@@ -7,7 +7,8 @@ ghost use Rattle.std.specs.Option.{IsSomeAnd};
 ghost use Rattle.otp_hash.specs.declared.chain.Algo.{Algo};
 ghost use Rattle.otp_hash.specs.SeedBytes.{seed_bytes};
 ghost use Rattle.otp_words.specs.Challenges.{IsNumber, decimal_value};
-ghost use Rattle.otp_extended.specs.Responses.{AreParams, algo_word};
+ghost use Rattle.otp_hash.specs.Names.{algo_word};
+ghost use Rattle.otp_extended.specs.Responses.{AreParams};
 ghost use Rattle.otp_extended.specs.Inner.{AreWords, AreWordsOf, HasParams};
 
 use crate::cutting::cut_at_blanks;

@@ -1,9 +1,9 @@
 //! What the ledger decides on CHALLENGE and REPLY: rules 12 to 16.
 
-ghost use Rattle.std.specs.Prelude.{◌≡◌, ◌<◌, ◌+◌, length, nat_lt};
+ghost use Rattle.std.specs.Prelude.{◌≡◌, ◌<◌, length};
 ghost use Rattle.std.specs.List.{find, list_any};
 ghost use Rattle.std.specs.Option.{option_to_list};
-ghost use Rattle.policy_model.specs.Verdict.{decoy_challenge, is_other, readings};
+ghost use Rattle.policy_model.specs.Verdict.{readings};
 ghost use Rattle.otp_ledger.specs.Accounts.{state_at, was_accepted};
 ghost use Rattle.otp_ledger.specs.Decisions.{PermitsNext, challenge_decision, is_next, readings_decision, refused, reply_decision, state_decision};
 ghost use Rattle.otp_ledger.specs.Standing.{IsChallengeVerdict, IsReplyVerdict};
@@ -11,39 +11,10 @@ ghost use Rattle.otp_ledger.specs.Standing.{IsChallengeVerdict, IsReplyVerdict};
 use crate::ledger::Ledger;
 use crate::rows::{AccountRow, is_holder};
 use otp_hash::step;
-use policy_model::Decision;
+use policy_model::{Decision, is_other, is_within};
 use request_catalogue::{Name, rules};
 
-/// The value of a decoy's challenge is this and the decoy's number.
-const DECOYS_FROM: u64 = 10_000;
-
-/// Whether some other session holds.
-fn is_other(session: u32, holder: Option<u32>) -> bool
-    ensures { result ≡ is_other session holder }
-{
-    match holder {
-        None => false,
-        Some(holder) => holder != session,
-    }
-}
-
-/// Whether `now` is less than `hold` milliseconds behind a moment, or before it.
-fn is_within(now: u64, moment: u64, hold: u32) -> bool
-    ensures { result ≡ nat_lt now (moment + hold) }
-{
-    now < moment || now - moment < u64::from(hold)
-}
-
 impl Ledger {
-    /// What a user is challenged with that can't log in.
-    fn challenge_decoy(&self, user: &Name) -> Decision
-        ensures { result ≡ decoy_challenge self.now.setup user.now }
-    {
-        Decision::Permit {
-            value: DECOYS_FROM + u64::from(self.setup().decoy(user).n),
-        }
-    }
-
     /// A CHALLENGE for the user of an account.
     fn judge_account(&self, account: u32, user: &Name, session: u32, now: u64) -> Decision
         requires { account < length self.now.accounts }
@@ -51,7 +22,7 @@ impl Ledger {
     {
         let row: AccountRow = *self.row(account);
         if !row.enabled || row.sequence == 0 {
-            self.challenge_decoy(user)
+            self.setup().challenge_decoy(user)
         } else if is_other(session, row.holder)
             && is_within(now, row.moment, self.setup().parts().hold)
         {
@@ -71,7 +42,7 @@ impl Ledger {
         ensures { result ≡ challenge_decision self.now user.now session now }
     {
         match self.find(user) {
-            None => self.challenge_decoy(user),
+            None => self.setup().challenge_decoy(user),
             Some(account) => self.judge_account(account, user, session, now),
         }
     }

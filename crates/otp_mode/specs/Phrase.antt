@@ -3,6 +3,7 @@ use Rattle.std.specs.Prelude.{ℕ, Bool, nat_le, ◌==◌, ◌&&◌, List, lengt
 use Rattle.std.specs.Bool.{then_some}
 use Rattle.std.specs.List.{list_all, position}
 use Rattle.std.specs.Str.Lines.{strip_carriage_return}
+use Rattle.request_catalogue.specs.Texts.{is_printable}
 
 -- the line that ends at a newline's place, without a carriage return at its end; the whole input
 -- where there is no newline
@@ -13,10 +14,6 @@ line_to (Some place) input = strip_carriage_return (take place input)
 -- the first line of an input
 abbrev pub first_line : List ℕ → List ℕ
 first_line input = line_to (position (λ c. c == 10) input) input
-
--- printable ASCII, from the space to `~`
-abbrev pub is_printable : ℕ → Bool
-is_printable c = nat_le 32 c && nat_le c 126
 
 -- a pass phrase: 10 to 63 bytes of printable ASCII (RFC 2289, section 6.0, of which 63 is the upper
 -- bound of this program)

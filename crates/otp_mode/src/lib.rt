@@ -9,6 +9,7 @@ mod run;
 
 pub use command::{OtpCommand, read_otp_command};
 pub use fault::OtpFault;
+pub use phrase::first_line;
 pub use run::run_otp;
 
 #[cfg(test)]

@@ -1,18 +1,19 @@
 //! The pass phrase.
 
 ghost use Rattle.std.specs.Prelude.{◌≡◌, ◌==◌, ℕ, ◌≤◌, [], IfOk, OnErr, length, option_map, take};
-ghost use Rattle.std.specs.List.{list_all, position};
+ghost use Rattle.std.specs.List.{position};
 ghost use Rattle.std.specs.Str.Lines.{strip_carriage_return};
 ghost use Rattle.outside.specs.Told.{Goes, Rose};
 ghost use Rattle.fixed_list.specs.FixedList.{list_of};
 ghost use Rattle.otp_mode.specs.declared.fault.OtpFault.{OtpFault};
 ghost use Rattle.otp_mode.specs.Outcome.{OnlyReceived};
-ghost use Rattle.otp_mode.specs.Phrase.{first_line, is_phrase, is_printable, phrase_of};
+ghost use Rattle.otp_mode.specs.Phrase.{first_line, is_phrase, phrase_of};
 ghost use Rattle.otp_mode.specs.Inner.{Accepted, IsPhraseFault, ReceivedLine};
 
 use crate::fault::OtpFault;
 use fixed_list::FixedList;
 use outside::{Failed, Stream};
+use request_catalogue::are_printable;
 
 /// The fewest bytes that a pass phrase has.
 const PHRASE_MIN: usize = 10;
@@ -70,7 +71,7 @@ fn phrase_in(input: &[u8]) -> Option<FixedList<63>>
 }
 
 /// The first line of an input, without its newline and a carriage return before that.
-fn first_line(input: &[u8]) -> &[u8]
+pub fn first_line(input: &[u8]) -> &[u8]
     ensures { result.now ≡ first_line input.now }
 {
     match newline_place(input) {
@@ -102,11 +103,4 @@ fn is_phrase(line: &[u8]) -> bool
     ensures { result ≡ is_phrase line.now }
 {
     line.len() >= PHRASE_MIN && line.len() <= PHRASE_MAX && are_printable(line)
-}
-
-/// Whether all bytes are printable ASCII.
-fn are_printable(bytes: &[u8]) -> bool
-    ensures { result ≡ list_all is_printable bytes.now }
-{
-    bytes.iter().all(|byte| *byte >= b' ' && *byte <= b'~')
 }

@@ -3,8 +3,8 @@ pub mod Counts
 pub mod Counted
 pub mod Exchanges
 pub mod Scenes
-mod RepeatingLemmas
+pub mod RepeatingLemmas
 mod FileLemmas
-mod ReceivingLemmas
-mod ScriptLemmas
+pub mod ReceivingLemmas
+pub mod ScriptLemmas
 mod VaultLemmas

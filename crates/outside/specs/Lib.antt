@@ -2,6 +2,7 @@ pub mod Told
 pub mod Faults
 pub mod Places
 pub mod Link
+pub mod Launching
 pub mod Scene
 pub mod Failures
 pub mod Repeating

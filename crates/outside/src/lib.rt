@@ -17,7 +17,9 @@ pub use act::{Accepted, Act, Failed, Role, Talk};
 pub use bytes::{Bytes, Word};
 pub use faults::{Faults, link_count};
 pub use files::Files;
-pub use memory::{CallKind, Fail, MemConn, MemFiles, MemPost, MemSink, MemSite, MemStream, Script};
+pub use memory::{
+    CallKind, Fail, MemConn, MemFiles, MemPost, MemSink, MemSite, MemStream, Repeating, Script,
+};
 pub use place::Place;
 pub use post::Post;
 pub use sink::Sink;

@@ -18,6 +18,7 @@ pub use conn::MemConn;
 pub use fail::{CallKind, Fail};
 pub use files::MemFiles;
 pub use post::MemPost;
+pub use repeating::Repeating;
 pub use script::Script;
 pub use sink::MemSink;
 pub use site::MemSite;

@@ -1,4 +1,3 @@
-pub mod Launching
 pub mod RealEnds
 pub mod RealFiles
 pub mod RealSink

@@ -1,7 +1,7 @@
 ghost use Rattle.std.specs.Prelude.{◌≡◌, ◌≤◌, IfOk, None, length, true};
 ghost use Rattle.std.specs.Process.{command_args, command_program};
 ghost use Rattle.outside.specs.Faults.{count_after};
-ghost use Rattle.outside_real.specs.Launching.{launch_words};
+ghost use Rattle.outside.specs.Launching.{launch_words};
 
 use crate::again::read_again;
 use crate::counted::counted;

@@ -6,7 +6,10 @@ ghost use Rattle.hex.specs.Hex.{encode_lower};
 ghost use Rattle.otp_hash.specs.SeedBytes.{seed_bytes};
 ghost use Rattle.policy_model.specs.Decoys.{decoy_algo, decoy_number, decoy_password, decoy_seed};
 ghost use Rattle.policy_model.specs.Salt.{plain_salt};
+ghost use Rattle.policy_model.specs.Verdict.{decoy_challenge};
 
+use crate::event::Decision;
+use crate::reading::DECOYS_FROM;
 use crate::setup::Setup;
 use otp_hash::{Algo, Seed, first};
 use request_catalogue::Name;
@@ -68,6 +71,14 @@ impl Setup {
             },
             n: (password % 65_536 % 1000) as u16,
             seed: seed_of(password),
+        }
+    }
+    /// What a user is challenged with that can't log in.
+    pub fn challenge_decoy(&self, user: &Name) -> Decision
+        ensures { result ≡ decoy_challenge self.now user.now }
+    {
+        Decision::Permit {
+            value: DECOYS_FROM + u64::from(self.decoy(user).n),
         }
     }
 }

@@ -2,12 +2,11 @@
 
 ghost use Rattle.std.specs.Prelude.{◌≡◌, ◌≤◌, ◌<◌, ◌==◌, IfSome, length, nat_le, position};
 ghost use Rattle.std.specs.List.{list_all, list_any};
-ghost use Rattle.request_catalogue.specs.Texts.{is_printable};
 ghost use Rattle.policy_model.specs.Settings.{are_accounts, are_counts, are_distinct, are_grants, are_numbers, are_texts, events_max, is_account, is_number, is_text, passes, same_label, same_name};
 
 use crate::account::{Account, Grant};
 use crate::parts::SetupParts;
-use request_catalogue::{Label, Name};
+use request_catalogue::{Label, Name, are_printable};
 
 /// Whether two names are the same.
 pub(crate) fn same_name(a: &Name, b: &Name) -> bool
@@ -23,15 +22,8 @@ pub(crate) fn same_label(a: &Label, b: &Label) -> bool
     a == b
 }
 
-/// Whether all bytes are printable ASCII, space to `~`.
-fn are_printable(bytes: &[u8]) -> bool
-    ensures { result ≡ list_all is_printable bytes.now }
-{
-    bytes.iter().all(|byte| matches!(byte, b' '..=b'~'))
-}
-
 /// Whether a text has low to high printable bytes.
-fn is_text(low: usize, high: usize, text: &str) -> bool
+pub fn is_text(low: usize, high: usize, text: &str) -> bool
     ensures { result ≡ is_text low high text.now }
 {
     let bytes = text.as_bytes();
@@ -57,7 +49,7 @@ fn has_number(numbers: &[u32], n: u32) -> bool
 }
 
 /// Whether the numbers are different.
-fn are_distinct_numbers(numbers: &[u32]) -> bool
+pub fn are_distinct_numbers(numbers: &[u32]) -> bool
     ensures { result ≡ are_distinct ◌==◌ numbers.now }
 {
     match numbers {

@@ -10,11 +10,11 @@ use crate::ranges::same_name;
 use request_catalogue::{Kind, Name, rules};
 
 /// The value of a decoy is this and the decoy's number; that of any other challenge is below it.
-pub(crate) const DECOYS_FROM: u64 = 10_000;
+pub const DECOYS_FROM: u64 = 10_000;
 
 impl Ask {
     /// The user that a CHALLENGE names.
-    pub(crate) fn challenge_name(&self) -> Option<Name>
+    pub fn challenge_name(&self) -> Option<Name>
         ensures { result ≡ challenge_name self.now }
     {
         match *self {
@@ -34,7 +34,7 @@ impl Ask {
     }
 
     /// The moment of a CHALLENGE in milliseconds, or 0.
-    pub(crate) fn moment(&self) -> u64
+    pub fn moment(&self) -> u64
         ensures { result ≡ moment_of self.now }
     {
         match *self {
@@ -73,7 +73,7 @@ impl Decision {
     }
 
     /// The value of a permit, or 0.
-    pub(crate) fn value(&self) -> u64
+    pub fn value(&self) -> u64
         ensures { result ≡ value_of self.now }
     {
         match *self {
@@ -107,14 +107,14 @@ impl Event {
     }
 
     /// Whether this opens a session.
-    pub(crate) fn opens(&self) -> bool
+    pub fn opens(&self) -> bool
         ensures { result ≡ opens self.now }
     {
         self.ask.is_begin() && self.decision.is_permit()
     }
 
     /// Whether the session of this event is over after it.
-    pub(crate) fn ends_session(&self) -> bool
+    pub fn ends_session(&self) -> bool
         ensures { result ≡ ends_session self.now }
     {
         self.ask.is_end()
@@ -124,7 +124,7 @@ impl Event {
     }
 
     /// Whether this takes a user: a permitted CHALLENGE.
-    pub(crate) fn takes(&self) -> bool
+    pub fn takes(&self) -> bool
         ensures { result ≡ takes self.now }
     {
         matches!(self.ask, Ask::Challenge { .. }) && self.decision.is_permit()
@@ -152,14 +152,14 @@ impl Event {
     }
 
     /// Whether this takes this user and isn't a decoy.
-    pub(crate) fn reserves(&self, user: &Name) -> bool
+    pub fn reserves(&self, user: &Name) -> bool
         ensures { result ≡ reserves user.now self.now }
     {
         self.takes_user(user) && self.decision.value() < DECOYS_FROM
     }
 
     /// Whether the session holds no user after this: a REPLY or a permitted ABANDON.
-    pub(crate) fn gives_up(&self) -> bool
+    pub fn gives_up(&self) -> bool
         ensures { result ≡ gives_up self.now }
     {
         match self.ask {
@@ -191,7 +191,7 @@ impl Event {
     }
 
     /// Whether this is a permitted REPLY.
-    pub(crate) fn accepts(&self) -> bool
+    pub fn accepts(&self) -> bool
         ensures { result ≡ accepts self.now }
     {
         matches!(self.ask, Ask::Reply { .. }) && self.decision.is_permit()
@@ -205,14 +205,14 @@ impl Event {
     }
 
     /// Whether this is a REPLY that was denied by a rule of 13 to 16.
-    pub(crate) fn is_denied_reply(&self) -> bool
+    pub fn is_denied_reply(&self) -> bool
         ensures { result ≡ is_denied_reply self.now }
     {
         matches!(self.ask, Ask::Reply { .. }) && self.decision.is_login_denial()
     }
 
     /// Whether this is a permitted EXPORT.
-    pub(crate) fn exports(&self) -> bool
+    pub fn exports(&self) -> bool
         ensures { result ≡ exports self.now }
     {
         matches!(self.ask, Ask::Export { .. }) && self.decision.is_permit()

@@ -1,23 +1,23 @@
 //! The rules of each kind of request.
 
-ghost use Rattle.std.specs.Prelude.{◌≡◌, ◌≤◌, ◌==◌, ◌+◌, Some, length, nat_eq, nat_lt};
+ghost use Rattle.std.specs.Prelude.{◌≡◌, ◌≤◌, ◌==◌, Some, length, nat_eq};
 ghost use Rattle.std.specs.List.{find, list_any};
 ghost use Rattle.std.specs.Option.{option_copied, option_to_list};
 ghost use Rattle.policy_model.specs.Asks.{shown_of};
 ghost use Rattle.policy_model.specs.Logins.{account_of, current_password, current_sequence, verified_user, was_accepted};
-ghost use Rattle.policy_model.specs.Verdict.{account_named, account_verdict, allows, challenge_verdict, close_verdict, decoy_challenge, decoy_verdict, grant_verdict, grants_of, handle_verdict, info_verdict, is_held, is_holder, is_next_password, is_other, kind_verdict, number_named, open_verdict, readings, readings_verdict, refused_verdict, reply_verdict, sequence_of, taking_moment, use_verdict, user_verdict};
+ghost use Rattle.policy_model.specs.Verdict.{account_named, account_verdict, allows, challenge_verdict, close_verdict, decoy_verdict, grant_verdict, grants_of, handle_verdict, info_verdict, is_held, is_holder, is_next_password, kind_verdict, number_named, open_verdict, readings, readings_verdict, refused_verdict, reply_verdict, sequence_of, taking_moment, use_verdict, user_verdict};
 ghost use Rattle.policy_model.specs.Settings.{same_label};
 
 use crate::account::{Account, Grant};
 use crate::event::{Ask, Decision, Event};
 use crate::handles::{count_live, free_handle, opening};
+use crate::holding::{is_other, is_within};
 use crate::journal::denied_replies;
 use crate::logins::{
     account_of, challenged_user, current_password, current_sequence, holder, is_live,
     last_taking_of, session_taking, verified_user, was_accepted, was_decoyed,
 };
 use crate::ranges::same_label;
-use crate::reading::DECOYS_FROM;
 use crate::setup::Setup;
 use otp_hash::step;
 use request_catalogue::{Label, Name, rules};
@@ -39,23 +39,6 @@ const READ: u8 = 1;
 /// The mode that a WRITE needs.
 const WRITE: u8 = 2;
 
-/// Whether some other session holds.
-fn is_other(session: u32, holder: Option<u32>) -> bool
-    ensures { result ≡ is_other session holder }
-{
-    match holder {
-        None => false,
-        Some(holder) => holder != session,
-    }
-}
-
-/// Whether `now` is less than `hold` milliseconds behind a moment, or before it.
-fn is_within(now: u64, moment: u64, hold: u32) -> bool
-    ensures { result ≡ nat_lt now (moment + hold) }
-{
-    now < moment || now - moment < u64::from(hold)
-}
-
 /// The moment of a taking, or 0.
 fn taking_moment(taking: &Option<Event>) -> u64
     ensures { result ≡ taking_moment taking.now }
@@ -74,15 +57,6 @@ fn is_held(setup: &Setup, journal: &[Event], session: u32, user: &Name, now: u64
     is_other(session, holder(journal, user)) && is_within(now, moment, setup.parts().hold)
 }
 
-/// What a user is challenged with that can't log in.
-fn challenge_decoy(setup: &Setup, user: &Name) -> Decision
-    ensures { result ≡ decoy_challenge setup.now user.now }
-{
-    Decision::Permit {
-        value: DECOYS_FROM + u64::from(setup.decoy(user).n),
-    }
-}
-
 /// Rule 12 of a CHALLENGE for a user that can log in, else a permit with the number of the password
 /// that is asked for; any other user gets a decoy.
 fn judge_account(
@@ -96,7 +70,7 @@ fn judge_account(
     ensures { result ≡ account_verdict setup.now journal.now session user.now now (Some account.now) }
 {
     if !is_live(journal, account) {
-        challenge_decoy(setup, user)
+        setup.challenge_decoy(user)
     } else if is_held(setup, journal, session, user, now) {
         Decision::deny(
             rules::USER_HELD,
@@ -125,7 +99,7 @@ fn judge_challenge(
         return Decision::deny(rules::TRIES_SPENT, tries);
     }
     match account_of(setup, user) {
-        None => challenge_decoy(setup, user),
+        None => setup.challenge_decoy(user),
         Some(account) => judge_account(setup, journal, session, account, user, now),
     }
 }

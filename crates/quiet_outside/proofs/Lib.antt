@@ -1,7 +1,4 @@
 mod Counted
-mod RepeatingLemmas
-mod ReceivingLemmas
-mod ScriptLemmas
 mod FindLemmas
 mod ShelfLemmas
 mod FilesLemmas

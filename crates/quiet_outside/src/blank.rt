@@ -2,9 +2,8 @@ ghost use Rattle.std.specs.Prelude.{◌≡◌, ◌<◌, ◌≤◌, [], All, if�
 ghost use Rattle.quiet_outside.specs.Blank.{BlankStream, unused_within};
 
 use crate::kept::Kept;
-use crate::repeating::Repeating;
 use crate::stream::QuietStream;
-use outside::Role;
+use outside::{Repeating, Role};
 use std::alloc::{AllocError, Global};
 use std::marker::Model;
 

@@ -266,7 +266,7 @@ impl Post for QuietPost {
     }
 
     /// Gives the next moment of the list.
-    #[tactic(auto, using(crate::proofs::RepeatingLemmas::cut_laws))]
+    #[tactic(auto, using(outside::proofs::RepeatingLemmas::cut_laws))]
     fn now(&mut self) -> u64
         ensures act { Did (Act.Clock result) (scene_of self.old) (scene_of self.new) }
         ensures counts { CountNothing (faults_of self.old) (faults_of self.new) }

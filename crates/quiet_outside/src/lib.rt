@@ -11,7 +11,6 @@ mod files;
 mod kept;
 mod kept_file;
 mod post;
-mod repeating;
 mod reserve;
 mod room;
 mod script;

@@ -8,11 +8,10 @@ ghost use Rattle.quiet_outside.specs.Transcript.{AreTold, HasCome};
 ghost use Rattle.std.proofs.Props.{props};
 
 use crate::blanks::Blanks;
-use crate::repeating::Repeating;
 use crate::room::PostRoom;
 use crate::shelf::Shelf;
 use crate::transcript::Transcript;
-use outside::{Act, Script, Talk};
+use outside::{Act, Repeating, Script, Talk};
 use request_catalogue::Label;
 use std::alloc::{AllocError, Global};
 

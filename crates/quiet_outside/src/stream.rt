@@ -9,8 +9,7 @@ ghost use Rattle.quiet_outside.specs.Room.{sent_within};
 
 use crate::blank::Blank;
 use crate::kept::Kept;
-use crate::repeating::Repeating;
-use outside::{Bytes, Failed, Role, Stream, Talk};
+use outside::{Bytes, Failed, Repeating, Role, Stream, Talk};
 use std::alloc::{AllocError, Global};
 
 /// A stream with fixed room. It tells what passes as long as the bytes sent to it fit the room.
@@ -136,7 +135,7 @@ impl Stream for QuietStream {
     ghost role = { role_of };
 
     /// Receives the next piece.
-    #[tactic(auto, using(crate::proofs::RepeatingLemmas::cut_laws))]
+    #[tactic(auto, using(outside::proofs::RepeatingLemmas::cut_laws))]
     fn recv(&mut self, buf: &mut [u8]) -> Result<usize, Failed>
         requires { 0 < length buf.old }
 

@@ -5,7 +5,7 @@ use Rattle.outside.specs.Link.{Link}
 use Rattle.outside.specs.Told.{Goes}
 use Rattle.otp_extended.specs.declared.renewal.Renewed.{Renewed}
 use Rattle.otp_extended.specs.Commands.{RenewParts}
-use Rattle.otp_extended.specs.Lines.{OnlyReceived}
+use Rattle.otp_mode.specs.Outcome.{OnlyReceived}
 use Rattle.renew_mode.specs.declared.error.RenewError.{RenewError}
 use Rattle.renew_mode.specs.declared.error.RenewError.TheVariants as errors
 use Rattle.renew_mode.specs.declared.basis.Basis.{Basis}

@@ -11,7 +11,7 @@ use Rattle.otp_extended.specs.declared.renewal.Renewed.{Renewed}
 use Rattle.otp_extended.specs.declared.run.Renewal.{Renewal}
 use Rattle.otp_extended.specs.declared.run.RenewalFault.{RenewalFault}
 use Rattle.otp_extended.specs.Commands.{RenewParts, renewed_line}
-use Rattle.otp_extended.specs.Lines.{OnlyReceived}
+use Rattle.otp_mode.specs.Outcome.{OnlyReceived}
 use Rattle.otp_extended.specs.Outcome as renewals
 use Rattle.renew_mode.specs.declared.error.RenewError.{RenewError}
 use Rattle.renew_mode.specs.declared.error.RenewError.TheVariants as errors

@@ -20,7 +20,7 @@ pub use putting::put;
 pub use reading::read_request;
 pub use replies::{read_reply, reply_kind, write_reply};
 pub use request::{Bad, Request};
-pub use texts::{Label, Name, Note};
+pub use texts::{Label, Name, Note, are_printable, is_reply};
 pub use width::Width;
 pub use writing::write_request;
 

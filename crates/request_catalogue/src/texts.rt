@@ -179,7 +179,7 @@ fn continue_label(bytes: &[u8]) -> bool
 }
 
 /// Whether all bytes are printable ASCII, space to `~`.
-fn are_printable(bytes: &[u8]) -> bool
+pub fn are_printable(bytes: &[u8]) -> bool
     ensures { result ≡ list_all is_printable bytes.now }
 {
     bytes.iter().all(|byte| matches!(byte, b' '..=b'~'))

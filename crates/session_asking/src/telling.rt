@@ -19,12 +19,9 @@ use crate::work::Outcome;
 use crate::writing::write;
 use info_hooks::Card;
 use otp_words::challenge_text;
-use policy_model::{Account, Ask, Decision, Event, Setup, shown};
+use policy_model::{Account, Ask, DECOYS_FROM, Decision, Event, Setup, shown};
 use request_catalogue::{Answer, Name};
 use state_export::write_import;
-
-/// A challenge's value from here on is a decoy's.
-const DECOYS_FROM: u64 = 10_000;
 
 /// What answers are made from: what the run serves by, the session's user and what was exported.
 #[derive(Drop)]

@@ -8,14 +8,11 @@ ghost use Rattle.session_laws.specs.Judged.{event_session};
 ghost use Rattle.session_table.specs.Standing.{grant_number, grants_at};
 ghost use Rattle.session_table.specs.Tables.{row_at};
 
-use crate::reading::{accepts, closes, is_challenged, leaves, moment, opens, takes, value};
+use crate::reading::{closes, is_challenged, leaves};
 use otp_ledger::Ledger;
-use policy_model::{Ask, Decision, Event, Grants, Setup};
+use policy_model::{Ask, DECOYS_FROM, Decision, Event, Grants, Setup};
 use request_catalogue::Label;
 use session_table::{SessionRow, Table, find_grant};
-
-/// The value of a decoy's challenge is this or more.
-const DECOYS_FROM: u64 = 10_000;
 
 /// The session that a worker has, 0 where it has none.
 pub(crate) fn session_of(table: &Table, worker: u32) -> u32
@@ -46,7 +43,7 @@ fn number_for(ledger: &Ledger, event: &Event) -> u32
 {
     let none = ledger.len() as u32;
     match event.ask {
-        Ask::Challenge { user, .. } if value(event) < DECOYS_FROM => {
+        Ask::Challenge { user, .. } if event.decision.value() < DECOYS_FROM => {
             ledger.find(&user).unwrap_or(none)
         }
         _ => none,
@@ -107,7 +104,7 @@ fn take(ledger: &mut Ledger, number: u32, event: &Event)
     ensures { ledger.new ≡ ledger_taking ledger.old number event.now }
 {
     if (number as usize) < ledger.len() {
-        ledger.hold(number, event.session, moment(event));
+        ledger.hold(number, event.session, event.ask.moment());
     }
 }
 
@@ -116,7 +113,7 @@ fn accept(ledger: &mut Ledger, account: u32, event: &Event)
     requires { IsSpendable ledger.old account (value_of event.now.decision) }
     ensures { ledger.new ≡ ledger_accepting ledger.old account event.now }
 {
-    ledger.spend(account, value(event));
+    ledger.spend(account, event.decision.value());
     ledger.release(account, event.session);
 }
 
@@ -134,10 +131,10 @@ fn settle_session(ledger: &mut Ledger, row: &SessionRow, event: &Event)
     requires spends { accepts event.now ≡ true → IsSpendable ledger.old row.now.account (value_of event.now.decision) }
     ensures { ledger.new ≡ ledger_by ledger.old row.now event.now }
 {
-    if takes(event) {
+    if event.takes() {
         let number = number_for(ledger, event);
         take(ledger, number, event);
-    } else if accepts(event) {
+    } else if event.accepts() {
         accept(ledger, row.account, event);
     } else {
         leave(ledger, row, event);
@@ -160,7 +157,7 @@ fn settle_rows(table: &mut Table, event: &Event, number: u32, grant: u32)
     requires { FitsRows table.old event.now }
     ensures { table.new ≡ table_next table.old event.now number grant }
 {
-    if opens(event) {
+    if event.opens() {
         table.begin(event.worker);
     } else if closes(event) {
         table.end(event.worker);

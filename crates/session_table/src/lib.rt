@@ -6,7 +6,6 @@
 mod bits;
 mod handles;
 mod judging;
-mod reading;
 mod rows;
 mod table;
 

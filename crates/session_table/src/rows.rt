@@ -9,7 +9,6 @@ ghost use Rattle.session_table.specs.Standing.{StandsAfter, StandsNew};
 
 use crate::bits::Bits;
 use crate::handles::Handles;
-use crate::reading::{accepts, ends_session, exports, gives_up, is_denied_reply, takes};
 use policy_model::{Event, Phase};
 use std::mem::size_of;
 
@@ -41,13 +40,13 @@ fn phase_after(phase: Phase, event: &Event) -> Phase
 {
     match phase {
         Phase::Over => Phase::Over,
-        _ if ends_session(event) => Phase::Over,
+        _ if event.ends_session() => Phase::Over,
         Phase::User => Phase::User,
-        _ if exports(event) => Phase::User,
+        _ if event.exports() => Phase::User,
         Phase::Verified => Phase::Verified,
-        _ if accepts(event) => Phase::Verified,
-        _ if takes(event) => Phase::Challenged,
-        _ if gives_up(event) => Phase::Pre,
+        _ if event.accepts() => Phase::Verified,
+        _ if event.takes() => Phase::Challenged,
+        _ if event.gives_up() => Phase::Pre,
         _ => phase,
     }
 }
@@ -56,7 +55,7 @@ fn phase_after(phase: Phase, event: &Event) -> Phase
 fn account_after(before: u32, event: &Event, account: u32) -> u32
     ensures { result ≡ (if takes event.now then account else before) }
 {
-    if takes(event) { account } else { before }
+    if event.takes() { account } else { before }
 }
 
 /// One more where something is counted.
@@ -98,7 +97,7 @@ impl SessionRow {
         self.phase = phase_after(self.phase, event);
         self.bits.advance(event);
         self.asked = count_after(self.asked, event.ask.came_by_frame());
-        self.tries = count_after(self.tries, is_denied_reply(event));
+        self.tries = count_after(self.tries, event.is_denied_reply());
         self.handles.advance(event, grant);
     }
 }

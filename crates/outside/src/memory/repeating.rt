@@ -6,7 +6,7 @@ use std::marker::Model;
 
 /// A list that is used up item by item, but for the last one, which repeats.
 #[derive(Debug, Drop)]
-pub(super) struct Repeating<T> {
+pub struct Repeating<T> {
     items: Vec<T>,
     next: usize,
 }
@@ -23,7 +23,7 @@ impl<T> Model for Repeating<T> {
 
 impl<T: Copy> Repeating<T> {
     /// A copy of these items.
-    pub(super) fn of(alloc: Global, items: &[T]) -> Result<Repeating<T>, AllocError>
+    pub fn of(alloc: Global, items: &[T]) -> Result<Repeating<T>, AllocError>
         ensures { IfOk result (λ r. r ≡ items.now) }
     {
         Ok(Repeating {
@@ -33,7 +33,7 @@ impl<T: Copy> Repeating<T> {
     }
 
     /// No items.
-    pub(super) fn none(alloc: Global) -> Repeating<T>
+    pub fn none(alloc: Global) -> Repeating<T>
         ensures { result ≡ [] }
     {
         Repeating {
@@ -43,7 +43,7 @@ impl<T: Copy> Repeating<T> {
     }
 
     /// The next item, which is used up. `None`: there are no items.
-    pub(super) fn take(&mut self) -> Option<T>
+    pub fn take(&mut self) -> Option<T>
         ensures item { result ≡ first_item self.old }
         ensures after { self.new ≡ items_after self.old }
     {

@@ -11,5 +11,5 @@ returns-clause-in_range c =
     let vs = c.args.items.now in
     let few : length (map view vs) ≤ 32 = simp length-map c.if-items-gt-INFO_MAX.false in
     let numbers = rw c.in-Some.is at c.in_ok-info.ensures in
-    let apart : are_distinct ◌==◌ c.in-Some.info.items ≡ true = ap (are_distinct ◌==◌) (sym c.as_slice.ensures.value) ∙ sym c.if-not-are_distinct.ensures in
+    let apart : are_distinct ◌==◌ c.in-Some.info.items ≡ true = ap (are_distinct ◌==◌) (sym c.as_slice.ensures.value) ∙ sym c.if-not-are_distinct_numbers.ensures in
     ap are_numbers c.of.ensures ∙ info_in_range (map view vs) c.in-Some.info.items numbers few apart

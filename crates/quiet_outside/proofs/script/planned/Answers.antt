@@ -1,6 +1,6 @@
 use Rattle.std.proofs.Common.{ap, arith, sym, ◌∙◌}
 use Rattle.outside.specs.Scene.{bytes_for}
-use Rattle.quiet_outside.proofs.ScriptLemmas.{bytes_at-plan_of}
+use Rattle.outside.proofs.ScriptLemmas.{bytes_at-plan_of}
 use Rattle.quiet_outside.proofs.script.planned.Goals as goal
 
 pub returns-in-Pre : goal.returns-in-Pre

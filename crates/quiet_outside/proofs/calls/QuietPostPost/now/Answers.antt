@@ -1,4 +1,4 @@
-use Rattle.quiet_outside.proofs.RepeatingLemmas.{length-items_after}
+use Rattle.outside.proofs.RepeatingLemmas.{length-items_after}
 use Rattle.std.proofs.Common.{arith, refl}
 use Rattle.outside.specs.Script.{plan_of}
 use Rattle.quiet_outside.proofs.Counted.{told_did}

@@ -1,7 +1,7 @@
 use Rattle.std.proofs.Common.{◌≡◌, ◌-◌, ◌≤◌, min, length, take, drop, arith}
 use Rattle.outside.specs.Repeating.{next_item}
-use Rattle.quiet_outside.proofs.RepeatingLemmas.{All-items_after}
-use Rattle.quiet_outside.proofs.ReceivingLemmas.{Goes-received, left-none}
+use Rattle.outside.proofs.RepeatingLemmas.{All-items_after}
+use Rattle.outside.proofs.ReceivingLemmas.{Goes-received, left-none}
 use Rattle.quiet_outside.proofs.stream.QuietStreamStream.recv.Goals as goal
 
 pub invariant_of-self-clause-each_cut : goal.invariant_of-self-clause-each_cut
