@@ -6,11 +6,10 @@ mod information;
 mod rows;
 mod wide;
 
+use crate::dialogue::{Dialogue, Side, are_told};
 use info_hooks::Hooks;
-use outside::MemPost;
-use service_play::{
-    Came, Play, Session, come_with, finished_children, frame, sent, told, word_list,
-};
+use outside::{MemPost, Talk};
+use service_play::{Came, Play, Session, come_with, frame, told, word_list};
 use std::alloc::{AllocError, Global};
 use std::str::SplitWhitespace;
 use std::sync::Wait;
@@ -74,20 +73,6 @@ const REQUESTS: [&str; 13] = [
     "note",
     "finish",
 ];
-
-/// What one child says, and what it is told.
-#[derive(Drop)]
-struct Side {
-    says: Vec<u8>,
-    told: Vec<u8>,
-}
-
-/// Both children of a session.
-#[derive(Drop)]
-struct Dialogue {
-    pre: Side,
-    user: Side,
-}
 
 /// The bytes of the words up to `=`.
 fn bytes_of(alloc: Global, words: &mut SplitWhitespace<'_>) -> Result<Vec<u8>, Fail> {
@@ -182,21 +167,6 @@ fn sessions_of(alloc: Global, dialogues: &[Dialogue]) -> Result<Vec<Session<'_>>
     Ok(sessions)
 }
 
-/// Whether the children were told what these sessions say, and there were no others.
-fn are_told(posts: &[MemPost], dialogues: &[Dialogue]) -> bool {
-    let mut child = 0_usize;
-    let mut are_told = true;
-    for dialogue in dialogues {
-        are_told &= sent(posts, child) == dialogue.pre.told.as_slice();
-        child = child.wrapping_add(1);
-        if !dialogue.user.says.is_empty() {
-            are_told &= sent(posts, child) == dialogue.user.told.as_slice();
-            child = child.wrapping_add(1);
-        }
-    }
-    are_told && finished_children(posts) == child
-}
-
 /// A setup of alice that begins with these lines.
 fn setup_of(alloc: Global, lines: &str) -> Result<Vec<u8>, AllocError> {
     let mut setup = Vec::new(alloc);
@@ -232,6 +202,14 @@ fn no_hooks(alloc: Global) -> Result<Hooks, Fail> {
     Ok(Hooks::new(Vec::new(alloc)).ok().ok_or("hooks")?)
 }
 
+/// The children of the one worker.
+fn talks_of(posts: &[MemPost]) -> &[Talk] {
+    match posts {
+        [post] => post.talks(),
+        _ => &[],
+    }
+}
+
 /// Whether a run goes as its row says.
 fn goes<R: Threads + Wait + Sync>(
     rt: &R,
@@ -244,5 +222,5 @@ fn goes<R: Threads + Wait + Sync>(
     let is_logged = came.log.held() == row.log.as_bytes();
     let clients = told(alloc, &came.posts)?;
     let is_said = clients.as_slice() == row.told.as_bytes();
-    Ok(came.status == 0 && is_logged && is_said && are_told(&came.posts, &dialogues))
+    Ok(came.status == 0 && is_logged && is_said && are_told(talks_of(&came.posts), &dialogues))
 }

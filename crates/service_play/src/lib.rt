@@ -8,6 +8,6 @@ mod playing;
 mod setups;
 
 pub use frames::{frame, header};
-pub use outcome::{chain_in, finished_children, is_at, sent, setup_in, told};
+pub use outcome::{chain_in, is_at, sent, setup_in, told};
 pub use playing::{Came, Play, Session, come, come_with, notes, serve};
 pub use setups::{ONE, setup_with, word_list};

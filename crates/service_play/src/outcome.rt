@@ -53,11 +53,6 @@ pub fn sent(posts: &[MemPost], child: usize) -> &[u8] {
     }
 }
 
-/// How many children the first post was given back.
-pub fn finished_children(posts: &[MemPost]) -> usize {
-    posts.first().map_or(0, |post| post.talks().len())
-}
-
 /// What the clients of these posts were sent.
 ///
 /// # Errors

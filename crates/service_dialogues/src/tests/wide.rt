@@ -1,6 +1,6 @@
 //! Wide frames.
 
-use super::{Dialogue, Row, are_told, goes, no_hooks, serve, silent};
+use super::{Dialogue, Row, are_told, goes, no_hooks, serve, silent, talks_of};
 use service_play::frame;
 use std::alloc::Global;
 use std::sync::Wait;
@@ -78,7 +78,7 @@ fn is_answered<R: Threads + Wait + Sync>(
     let user = silent(alloc);
     let dialogues = vec![in alloc; Dialogue { pre, user }]?;
     let came = serve(rt, alloc, WIDE, &dialogues, &no_hooks(alloc)?)?;
-    Ok(came.log.held() == log.as_bytes() && are_told(&came.posts, &dialogues))
+    Ok(came.log.held() == log.as_bytes() && are_told(talks_of(&came.posts), &dialogues))
 }
 
 const LONGEST_WRITE: &str = "1 w0 s1 open permit
