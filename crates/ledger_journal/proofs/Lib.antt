@@ -3,7 +3,6 @@ pub mod ReadLemmas
 pub mod PassLemmas
 pub mod SpendLemmas
 pub mod AnswerLemmas
-pub mod Writable
 pub mod LineLemmas
 pub mod JournalLemmas
 pub mod BackLemmas

@@ -17,7 +17,7 @@ use Rattle.decision_log.proofs.Lines.{line_forth}
 use Rattle.ledger_journal.specs.Journals.{IsWhole, records_after, records_of}
 use Rattle.ledger_journal.specs.Lines.{line_at, lines_after, lines_of, numbered}
 use Rattle.ledger_journal.specs.Recovering.{IsNoLine}
-use Rattle.ledger_journal.proofs.Writable.{IsWritable, kept_writable}
+use Rattle.decision_log.proofs.Writable.{IsWritable, kept_writable}
 
 -- what the lines of events say, where so many stand before them
 abbrev pub values_after : ℕ → List Event → List LineValue
@@ -31,8 +31,8 @@ values_push count (x ∷ events) e =
     ap (λ l. line_value (count + 1) x ∷ l) (values_push (count + 1) events e ∙ ap (λ n. values_after (count + 1) events ++ line_value n e ∷ []) same)
 
 -- an event that can be written is a line
-is_line : (number : ℕ) (e : Event) → number ≤ 1048576 → IsWritable e → IsLine (line_value number e)
-is_line number e few w = record {
+pub event_is_line : (number : ℕ) (e : Event) → number ≤ 1048576 → IsWritable e → IsLine (line_value number e)
+event_is_line number e few w = record {
   number = (let limit : 1048576 < 2 ^ 32 = lit< tt in omega (arith, few, limit));
   worker = w.typed.worker;
   session = w.typed.session;
@@ -44,7 +44,7 @@ same_number : (n : ℕ) (v : LineValue) → v.number ≡ n → numbered n (resul
 same_number n v is = let test : nat_eq v.number n ≡ true = grind (arith, nat_tests, is) in ap (λ b. then_some b v) test
 
 line_there : (number : ℕ) (e : Event) → number ≤ 1048576 → IsWritable e → line_at number (line_of number e) ≡ Some (line_value number e)
-line_there number e few w = ap (λ (r : Result LineValue LineFault). numbered number (result_ok r)) (line_forth (line_value number e) (is_line number e few w)) ∙ same_number number (line_value number e) refl
+line_there number e few w = ap (λ (r : Result LineValue LineFault). numbered number (result_ok r)) (line_forth (line_value number e) (event_is_line number e few w)) ∙ same_number number (line_value number e) refl
 
 pub lines_are : (count : ℕ) (events : List Event) → count + length events ≤ 1048576 → AllByRecursion IsWritable events → lines_after count (records_after count events) ≡ values_after count events
 lines_are count [] few all = refl

@@ -2,8 +2,6 @@
 use Rattle.std.specs.Prelude.{ℕ, ◌≡◌, ◌≤◌, ◌<◌, ◌+◌, ◌^◌, false, List, [], ◌∷◌, count_by, length, map, Result, Ok, Err}
 use Rattle.std.specs.List.{AllByRecursion, list_any}
 use Rattle.policy_model.specs.declared.account.Account.{Account}
-use Rattle.policy_model.specs.declared.event.Decision.{Decision}
-use Rattle.policy_model.specs.declared.event.Decision.TheVariants.{Permit, Deny, Lost}
 use Rattle.policy_model.specs.declared.event.Event.{Event}
 use Rattle.policy_model.specs.Asks.{accepts}
 use Rattle.policy_model.specs.Journal.{has_lost}
@@ -12,25 +10,12 @@ use Rattle.policy_model.specs.Logins.{current_password, current_sequence}
 use Rattle.policy_model.specs.Runs.{IsProperEvent}
 use Rattle.policy_model.specs.Settings.{IsInRange, Settings}
 use Rattle.decision_log.specs.Log.{line_of}
-use Rattle.decision_log.specs.Values.{IsAsk, ask_value}
+use Rattle.decision_log.specs.Typed.{IsTyped}
 use Rattle.otp_ledger.specs.Accounts.{AccountState, current_of}
 use Rattle.ledger_journal.specs.declared.answer.Recovered.{Recovered}
 use Rattle.ledger_journal.specs.declared.answer.RecoverError.{RecoverError}
 use Rattle.ledger_journal.specs.declared.answer.RecoverError.TheVariants as errors
 use Rattle.ledger_journal.specs.Recovering.{IsOwn, lines_max}
-
--- the numbers of a decision are in the ranges of their types
-abbrev pub IsSmall : Decision → Type 0
-IsSmall (Permit value) = value < 2 ^ 64
-IsSmall (Deny rule detail) = detail < 2 ^ 32
-IsSmall Lost = Unit {0}
-
--- an event is in the ranges of its types
-pub record IsTyped (e : Event) : Type 0 where
-  pub worker : e.worker < 2 ^ 32
-  pub session : e.session < 2 ^ 32
-  pub ask : IsAsk (ask_value e.ask)
-  pub decision : IsSmall e.decision
 
 -- the journal of a run with a setup of which nothing was lost: it is legal, its asks are proper, it has at most as many events as a run makes, and they are in the ranges of their types
 pub record IsWhole (setup : Settings) (journal : List Event) : Type 0 where

@@ -16,16 +16,13 @@ use crate::answer::RecoverError;
 use crate::login::Login;
 use crate::records::{Next, next_record};
 use decision_log::{Logged, LoggedAsk, read_line};
-use policy_model::{Decision, Setup};
+use policy_model::{DECOYS_FROM, Decision, Setup};
 use request_catalogue::Name;
 use std::alloc::{AllocError, Global};
 use std::collections::BTreeMap;
 
 /// The lines that a run makes at most.
 const LINES_MAX: usize = 1_048_576;
-
-/// The value of a permitted CHALLENGE that names a decoy is this or more.
-const DECOYS_FROM: u64 = 10_000;
 
 /// What is kept of the records that were read.
 #[derive(Drop)]

@@ -1,0 +1,12 @@
+//! A durable log of lines, each of which is one record. Believe `specs/Kept.antt`; `recovery_law` says
+//! what it means for a run.
+#![tactic(auto)]
+
+mod line;
+mod log;
+
+pub use line::{LINE_MAX, is_line};
+pub use log::LineLog;
+
+#[cfg(test)]
+mod tests;

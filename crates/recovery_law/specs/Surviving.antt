@@ -1,0 +1,50 @@
+-- Inner: what a crash at any moment of a run leaves of its log, and what recovery makes of that.
+use Rattle.std.specs.Prelude.{ℕ, ◌≤◌, ◌+◌, ◌-◌, ◌/◌, min, List, ◌++◌, length, take, find, Option, option_map, Result}
+use Rattle.std.specs.List.{AllByRecursion}
+use Rattle.std.specs.Option.{option_to_list}
+use Rattle.policy_model.specs.declared.event.Event.{Event}
+use Rattle.policy_model.specs.Asks.{is_lost}
+use Rattle.policy_model.specs.Journal.{kept_events}
+use Rattle.policy_model.specs.Legal.{IsLegal, next_event}
+use Rattle.policy_model.specs.Runs.{IsProperEvent}
+use Rattle.policy_model.specs.Settings.{IsInRange, Settings}
+use Rattle.decision_log.specs.Typed.{IsTyped}
+use Rattle.durable_log.specs.Disk.{AtEachMoment, Story, moment_of, states_of}
+use Rattle.durable_log.specs.Records.{HasRecords}
+use Rattle.ledger_journal.specs.declared.answer.Recovered.{Recovered}
+use Rattle.ledger_journal.specs.declared.answer.RecoverError.{RecoverError}
+use Rattle.ledger_journal.specs.Journals.{IsBackAt, IsRecoveredAs, records_of}
+use Rattle.ledger_journal.specs.Recovering.{IsAnswerOf, lines_max}
+
+-- the event whose line was lost first, as the policy decides it, if one was
+abbrev pub lost_event : Settings → List Event → Option Event
+lost_event setup journal = option_map (λ e. next_event setup (kept_events journal) e.worker e.ask) (find (λ e. is_lost e.decision) journal)
+
+-- the events that a run decided: those that it kept, and that one
+abbrev pub decided_in : Settings → List Event → List Event
+decided_in setup journal = kept_events journal ++ option_to_list (lost_event setup journal)
+
+-- the journal of a run: it is legal, its asks are proper, it has at most as many events as a run makes, and those that it decided are in the ranges of their types
+pub record IsRunOf (setup : Settings) (journal : List Event) : Type 0 where
+  pub in_range : IsInRange setup
+  pub legal : IsLegal setup journal
+  pub proper : AllByRecursion IsProperEvent journal
+  pub few : length journal ≤ lines_max
+  pub typed : AllByRecursion IsTyped (decided_in setup journal)
+
+-- recovery from these records answers that each account is as these events say, or wants memory
+abbrev pub BringsBack : Settings → List Event → Type 0
+BringsBack setup events = (result : Result Recovered RecoverError) → IsAnswerOf setup (records_of events) result → IsRecoveredAs (IsBackAt setup events) result
+
+-- an image has the lines of the first events that a run decided, so many at least, and recovery brings these back
+pub record HasFirst (setup : Settings) (journal : List Event) (least : ℕ) (image : List ℕ) : Type 0 where
+  pub count : ℕ
+  pub enough : least ≤ count
+  pub records : HasRecords image (records_of (take count (decided_in setup journal)))
+  pub back : BringsBack setup (take count (decided_in setup journal))
+
+-- Of a log of this story so many lines were answered `Ok`: all that were kept, or all but the last of them. From when it was made, each image that a crash at any moment might have left has the lines of the run's first events, and of those that were answered by then all: a line takes four calls.
+pub record LosesNoEvent (setup : Settings) (journal : List Event) (first now : Story) : Type 0 where
+  pub answered : ℕ
+  pub enough : length (kept_events journal) ≤ answered + 1
+  pub each : AtEachMoment (moment_of first) (λ moment. HasFirst setup journal (min ((moment - moment_of first) / 4) answered)) (states_of now)
