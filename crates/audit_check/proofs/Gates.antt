@@ -1,12 +1,9 @@
 -- What is decided by a session's own events, and what is left to the accounts.
-use Rattle.std.proofs.Common.{◌≡◌, ◌≢◌, ℕ, ◌+◌, ◌-◌, Bool, true, false, not, ◌&&◌, ◌||◌, cond, eqb, arith, List, [], ◌∷◌, ◌++◌, Option, Some, None, refl, sym, ap, ◌∙◌, ◌⊎◌, inl, inr}
+use Rattle.std.proofs.Common.{◌≡◌, ◌≢◌, ℕ, ◌+◌, ◌-◌, Bool, true, false, not, ◌&&◌, ◌||◌, cond, eqb, arith, List, [], Option, Some, None, refl, sym, ap, ◌∙◌, ◌⊎◌, inl, inr}
 use Rattle.std.specs.Prelude.{nat_eq, nat_le}
 use Rattle.std.specs.List.{list_any}
 use Rattle.std.proofs.lemmas.Bool.{false≢true}
 use Rattle.std.proofs.lemmas.Bool.Decides.{nat_tests}
-use Rattle.std.proofs.lemmas.List.Elements.{filter-append}
-use Rattle.std.proofs.lemmas.List.Sums.{sum_by-append}
-use Rattle.session_laws.proofs.SessionEvents.{count_of-push}
 use Rattle.request_catalogue.specs.declared.kind.Kind.{Kind}
 use Rattle.request_catalogue.specs.declared.kind.Kind.TheVariants as kinds
 use Rattle.request_catalogue.specs.declared.texts.Name.{Name}
@@ -17,7 +14,7 @@ use Rattle.policy_model.specs.declared.event.Decision.{Decision}
 use Rattle.policy_model.specs.declared.event.Decision.TheVariants.{Permit, Deny}
 use Rattle.policy_model.specs.declared.event.Event.{Event}
 use Rattle.policy_model.specs.Asks.{came_by_frame, is_denied_reply, kind_of, permits_kind, request_number}
-use Rattle.policy_model.specs.Journal.{ask_count, count_of, events_of, has_event, is_own, open_session_of, openings_of}
+use Rattle.policy_model.specs.Journal.{ask_count, count_of, events_of, has_event, open_session_of, openings_of}
 use Rattle.policy_model.specs.Logins.{account_of, challenged_user, current_sequence, holder_of, is_live, last_taking_of, session_taking, verified_user, was_decoyed}
 use Rattle.policy_model.specs.Phases.{is_over, phase_of, table_row}
 use Rattle.policy_model.specs.Settings.{Settings}
@@ -25,8 +22,7 @@ use Rattle.policy_model.specs.Verdict.{account_named, account_verdict, challenge
 use Rattle.policy_laws.specs.Strangers.{without_readings}
 use Rattle.policy_model.proofs.Verdicts.{verdict_of-request}
 use Rattle.audit_check.specs.Following.{IsRecent, is_local, rests_on_accounts}
-use Rattle.audit_check.proofs.Shown.{by_push}
-use Rattle.audit_check.proofs.Recent.{asked_recent, has_recent, none_pushed, over_recent, phase_recent}
+use Rattle.audit_check.proofs.Recent.{asked_recent, count_recent, has_recent, over_recent, phase_recent}
 
 -- 1. The session, its asks and the table
 
@@ -57,14 +53,13 @@ abbrev gate : Settings → List Event → ℕ → Ask → Kind → Decision → 
 gate setup xs session ask kind d =
     gate_by (eqb session 0) (is_over xs session) (eqb (ask_count xs session) setup.requests) (not (table_row (phase_of xs session) kind).permitted) ((table_row (phase_of xs session) kind).once && has_event xs session (permits_kind kind)) (request_number ask) setup.requests d
 
-gate_recent : (setup : Settings) (s : ℕ) (front ys : List Event) → events_of front s ≡ [] → (ask : Ask) (kind : Kind) (d : Decision) → gate setup (front ++ ys) s ask kind d ≡ gate setup ys s ask kind d
-gate_recent setup s front ys none ask kind d =
-    let xs : List Event = front ++ ys in
+gate_recent : (setup : Settings) (s : ℕ) (xs ys : List Event) → events_of xs s ≡ events_of ys s → (ask : Ask) (kind : Kind) (d : Decision) → gate setup xs s ask kind d ≡ gate setup ys s ask kind d
+gate_recent setup s xs ys same ask kind d =
     let n : ℕ = request_number ask in
-    ap (λ b. gate_by (eqb s 0) b (eqb (ask_count xs s) setup.requests) (not (table_row (phase_of xs s) kind).permitted) ((table_row (phase_of xs s) kind).once && has_event xs s (permits_kind kind)) n setup.requests d) (over_recent s front ys none)
-    ∙ ap (λ m. gate_by (eqb s 0) (is_over ys s) (eqb m setup.requests) (not (table_row (phase_of xs s) kind).permitted) ((table_row (phase_of xs s) kind).once && has_event xs s (permits_kind kind)) n setup.requests d) (asked_recent s front ys none)
-    ∙ ap (λ p. gate_by (eqb s 0) (is_over ys s) (eqb (ask_count ys s) setup.requests) (not (table_row p kind).permitted) ((table_row p kind).once && has_event xs s (permits_kind kind)) n setup.requests d) (phase_recent s front ys none)
-    ∙ ap (λ b. gate_by (eqb s 0) (is_over ys s) (eqb (ask_count ys s) setup.requests) (not (table_row (phase_of ys s) kind).permitted) ((table_row (phase_of ys s) kind).once && b) n setup.requests d) (has_recent s (permits_kind kind) front ys none)
+    ap (λ b. gate_by (eqb s 0) b (eqb (ask_count xs s) setup.requests) (not (table_row (phase_of xs s) kind).permitted) ((table_row (phase_of xs s) kind).once && has_event xs s (permits_kind kind)) n setup.requests d) (over_recent s xs ys same)
+    ∙ ap (λ m. gate_by (eqb s 0) (is_over ys s) (eqb m setup.requests) (not (table_row (phase_of xs s) kind).permitted) ((table_row (phase_of xs s) kind).once && has_event xs s (permits_kind kind)) n setup.requests d) (asked_recent s xs ys same)
+    ∙ ap (λ p. gate_by (eqb s 0) (is_over ys s) (eqb (ask_count ys s) setup.requests) (not (table_row p kind).permitted) ((table_row p kind).once && has_event xs s (permits_kind kind)) n setup.requests d) (phase_recent s xs ys same)
+    ∙ ap (λ b. gate_by (eqb s 0) (is_over ys s) (eqb (ask_count ys s) setup.requests) (not (table_row (phase_of ys s) kind).permitted) ((table_row (phase_of ys s) kind).once && b) n setup.requests d) (has_recent s (permits_kind kind) xs ys same)
 
 request_gate : (setup : Settings) (xs : List Event) (s : ℕ) (ask : Ask) (kind : Kind) → kind_of ask ≡ Some kind → is_local ask ≡ false → request_verdict setup xs s ask ≡ gate setup xs s ask kind (kind_verdict setup xs s ask)
 request_gate setup xs s (asks.Challenge user now) kind h local = let is : kinds.Challenge ≡ kind = cc in ap (λ k. gate setup xs s (asks.Challenge user now) k (kind_verdict setup xs s (asks.Challenge user now))) is
@@ -102,7 +97,7 @@ told setup events recent worker ask kind r same is frame other = go (gate_cases 
     by true h =
         ap (λ z. gate_by z (is_over events s) (eqb (ask_count events s) setup.requests) (not (table_row (phase_of events s) kind).permitted) ((table_row (phase_of events s) kind).once && has_event events s (permits_kind kind)) (request_number ask) setup.requests d) h
         ∙ sym (ap (λ z. gate_by z (is_over recent s) (eqb (ask_count recent s) setup.requests) (not (table_row (phase_of recent s) kind).permitted) ((table_row (phase_of recent s) kind).once && has_event recent s (permits_kind kind)) (request_number ask) setup.requests d) h)
-    by false h = ap (λ xs. gate setup xs s ask kind d) r.parts ∙ gate_recent setup s r.front recent (r.none (not_zero s h)) ask kind d
+    by false h = gate_recent setup s events recent (sym (r.own (not_zero s h))) ask kind d
 
   recently : verdict_of setup recent worker ask ≡ gate setup recent s ask kind kr
   recently = verdict_of-request setup recent worker ask frame ∙ ap (λ n. request_verdict setup recent n ask) same ∙ request_gate setup recent s ask kind is other
@@ -130,20 +125,6 @@ told setup events recent worker ask kind r same is frame other = go (gate_cases 
 
 -- 3. What is left of a CHALLENGE, a REPLY and an INFO
 
-count_none : (session : ℕ) (p : Event → Bool) (front : List Event) → events_of front session ≡ [] → count_of front session p ≡ 0
-count_none session p = by_push (λ f. events_of f session ≡ [] → count_of f session p ≡ 0) (λ h. refl) more where
-  more : (f : List Event) (e : Event) → (events_of f session ≡ [] → count_of f session p ≡ 0) → events_of (f ++ e ∷ []) session ≡ [] → count_of (f ++ e ∷ []) session p ≡ 0
-  more f e before h =
-      let both = none_pushed (eqb e.session session) (events_of f session) e (sym (filter-append (λ x. eqb x.session session) f (e ∷ [])) ∙ h) in
-      let none = before both.0 in
-      count_of-push f e session p ∙ ap (λ b. count_of f session p + cond (b && p e) 1 0) both.1 ∙ omega (arith, none)
-
-count_recent : (session : ℕ) (p : Event → Bool) (front ys : List Event) → events_of front session ≡ [] → count_of (front ++ ys) session p ≡ count_of ys session p
-count_recent session p front ys h =
-    let none = count_none session p front h in
-    let both : count_of (front ++ ys) session p ≡ count_of front session p + count_of ys session p = sum_by-append (λ e. cond (is_own session p e) 1 0) front ys in
-    omega (arith, none, both)
-
 account_rests : (setup : Settings) (xs : List Event) (s : ℕ) (user : Name) (now : ℕ) (o : Option Account) → rests_on_accounts (account_verdict setup xs s user now o) ≡ true
 account_rests setup xs s user now None = refl
 account_rests setup xs s user now (Some account) = go (not (is_live xs account)) (is_held setup xs s user now) where
@@ -165,8 +146,7 @@ tries_test setup xs s = nat_le setup.tries (count_of xs s is_denied_reply)
 
 tries_recent : (setup : Settings) (events recent : List Event) (worker : ℕ) → IsRecent recent worker events → open_session_of events worker ≢ 0 → tries_test setup events (open_session_of events worker) ≡ tries_test setup recent (open_session_of events worker)
 tries_recent setup events recent worker r some =
-    ap (λ xs. tries_test setup xs (open_session_of events worker)) r.parts
-    ∙ ap (nat_le setup.tries) (count_recent (open_session_of events worker) is_denied_reply r.front recent (r.none some))
+    ap (nat_le setup.tries) (count_recent (open_session_of events worker) is_denied_reply events recent (sym (r.own some)))
 
 challenge_told : (setup : Settings) (events recent : List Event) (worker : ℕ) (user : Name) (now : ℕ) → IsRecent recent worker events → open_session_of recent worker ≡ open_session_of events worker → IsTold (open_session_of events worker) (verdict_of setup recent worker (asks.Challenge user now)) (verdict_of setup events worker (asks.Challenge user now)) (kind_verdict setup recent (open_session_of events worker) (asks.Challenge user now)) (kind_verdict setup events (open_session_of events worker) (asks.Challenge user now))
 challenge_told setup events recent worker user now r same = told setup events recent worker (asks.Challenge user now) kinds.Challenge r same refl refl refl

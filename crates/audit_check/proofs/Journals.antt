@@ -30,7 +30,7 @@ use Rattle.audit_check.specs.Said.{AreSaid, IsLogOf, events_max}
 use Rattle.audit_check.proofs.Alike.{Alike, alike_decide, alike_map, alike_may, alike_open, alike_session, alike_verdict}
 use Rattle.audit_check.proofs.Fronts.{legal_none, legal_push}
 use Rattle.audit_check.proofs.Replies.{given_may, reply_is}
-use Rattle.audit_check.proofs.Writable.{IsWritable, kept_writable}
+use Rattle.decision_log.proofs.Writable.{IsWritable, kept_writable}
 
 -- 1. What is shown of an event
 

@@ -29,7 +29,7 @@ use Rattle.session_laws.proofs.Permits.{same_from_same_name, same_name-same, sam
 use Rattle.session_laws.proofs.Settling.{reserves_live, reserves_none}
 use Rattle.audit_check.specs.declared.accounts.Standing.{Standing}
 use Rattle.audit_check.specs.declared.history.Hold.{Hold}
-use Rattle.audit_check.specs.History.{AreEmpty, IsRenewed, IsRenewedTo, IsReplyFor, challenge_by, first_hold, hold_after, hold_by, is_next_by, reply_at, silent_by, standing_by}
+use Rattle.audit_check.specs.History.{AreEmpty, AreIdle, IsRenewed, IsRenewedTo, IsReplyFor, challenge_by, first_hold, hold_after, hold_by, is_next_by, reply_at, silent_by, standing_by}
 use Rattle.audit_check.specs.Legal.{IsLegalLog, MayFollow, is_open, is_password_of, may_be_decided, readings_decide}
 use Rattle.audit_check.specs.Following.{is_no_reading, may_be_denied}
 use Rattle.policy_laws.specs.Strangers.{without_readings}
@@ -346,3 +346,11 @@ empty_more xs v none all n d lt = go (cases_eq n (length xs)) where
   go (inr ne) =
       let below : n < length xs = omega (arith, lt, ne, length-append xs (v ∷ [])) in
       ap (λ (x : Vec ℕ Global). x.items) (get_or_append_left xs (v ∷ []) d n below) ∙ all n d below
+
+pub idle_more : (xs : List (Vec Event Global)) (v : Vec Event Global) → v.items ≡ [] → AreIdle xs → AreIdle (xs ++ v ∷ [])
+idle_more xs v none all n d lt = go (cases_eq n (length xs)) where
+  go : (n ≡ length xs) ⊎ (n ≢ length xs) → (get_or (xs ++ v ∷ []) n d).items ≡ []
+  go (inl last) = ap (λ k. (get_or (xs ++ v ∷ []) k d).items) last ∙ ap (λ (x : Vec Event Global). x.items) (get_or-append_seam xs v [] d) ∙ none
+  go (inr ne) =
+      let below : n < length xs = omega (arith, lt, ne, length-append xs (v ∷ [])) in
+      ap (λ (x : Vec Event Global). x.items) (get_or_append_left xs (v ∷ []) d n below) ∙ all n d below

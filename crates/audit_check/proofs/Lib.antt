@@ -12,5 +12,4 @@ pub mod Recent
 pub mod OwnEvents
 pub mod Gates
 pub mod KeptLemmas
-pub mod Writable
 pub mod OneAnswer

@@ -1,11 +1,12 @@
--- What stands before a session's opening says nothing of what it may do, apart from its login.
-use Rattle.std.proofs.Common.{◌≡◌, ℕ, ◌+◌, ◌≤◌, Bool, true, false, not, ◌&&◌, ◌||◌, cond, eqb, nat_le, List, [], ◌∷◌, ◌++◌, length, take, drop, filter, Option, Some, None, refl, sym, ap, subst, ◌∙◌, arith, append_assoc, inl, inr}
+-- What a session may do, apart from its login, is said by its own events.
+use Rattle.std.proofs.Common.{◌≡◌, ◌≢◌, ℕ, ◌+◌, ◌≤◌, Bool, true, false, not, ◌&&◌, ◌||◌, cond, eqb, nat_le, List, [], ◌∷◌, ◌++◌, length, filter, Option, Some, None, refl, sym, ap, subst, ◌∙◌, arith}
 use Rattle.std.specs.Prelude.{count_by, is_none, unwrap_or}
 use Rattle.std.specs.List.{find, last_or, list_any}
-use Rattle.std.proofs.lemmas.Bool.{and_parts}
-use Rattle.std.proofs.lemmas.List.{append-nil, take-append-drop}
+use Rattle.std.proofs.lemmas.Bool.{eqb-true}
+use Rattle.std.proofs.lemmas.Bool.Decides.{nat_tests}
+use Rattle.std.proofs.lemmas.List.{append-nil}
 use Rattle.std.proofs.lemmas.List.Elements.{filter-append}
-use Rattle.std.proofs.lemmas.List.Folds.{list_any-append}
+use Rattle.std.proofs.lemmas.List.Sums.{length-filter}
 use Rattle.request_catalogue.specs.declared.kind.Kind.{Kind}
 use Rattle.policy_model.specs.declared.event.Ask.{Ask}
 use Rattle.policy_model.specs.declared.event.Ask.TheVariants as asks
@@ -17,7 +18,7 @@ use Rattle.policy_model.specs.declared.phase.Phase.TheVariants.{Pre, Challenged,
 use Rattle.policy_model.specs.declared.phase.Row.{Row}
 use Rattle.policy_model.specs.Asks.{accepts, came_by_frame, ends_session, exports, handle_of, is_begin, is_end, is_login_step, is_permit, kind_of, opens, permits_kind, request_number, takes}
 use Rattle.policy_model.specs.Handles.{free_handle_of, handle_numbers, live_handles_of, live_opens}
-use Rattle.policy_model.specs.Journal.{ask_count, events_of, has_event, is_own, is_turn_of, last_event, open_session_of, openings_of, session_opened}
+use Rattle.policy_model.specs.Journal.{ask_count, count_of, events_of, has_event, is_own, is_turn_of, last_event, open_session_of, openings_of, session_opened}
 use Rattle.policy_model.specs.Legal.{session_of}
 use Rattle.policy_model.specs.Logins.{challenged_user, user_named, verified_user}
 use Rattle.policy_model.specs.Phases.{is_over, is_taking, phase_of, table_row}
@@ -25,11 +26,11 @@ use Rattle.policy_model.specs.Runs.{AreNumbered}
 use Rattle.policy_model.specs.Settings.{Settings, same_label}
 use Rattle.policy_model.specs.Verdict.{account_named, close_verdict, grant_verdict, grants_of, handle_verdict, kind_verdict, number_named, open_verdict, own_verdict, request_verdict, row_verdict, table_verdict, use_verdict, verdict_of}
 use Rattle.policy_model.proofs.Lists.{last_or-push}
-use Rattle.policy_model.proofs.LoginLemmas.{verified_user-none, verified_user-push}
+use Rattle.policy_model.proofs.LoginLemmas.{verified_user-push}
 use Rattle.policy_model.proofs.Sessions.{AreNumbered-push, AreNumbered-weaker, openings_of-push, session_of-le}
 use Rattle.policy_model.proofs.Verdicts.{session_of-begin, verdict_of-request}
 use Rattle.session_laws.proofs.SessionEvents.{events_of-new}
-use Rattle.audit_check.specs.Following.{IsTurnStart, is_local}
+use Rattle.audit_check.specs.Following.{IsRecent, is_local}
 use Rattle.audit_check.specs.Legal.{IsLegalLog, MayFollow}
 use Rattle.audit_check.proofs.Shown.{by_push}
 use Rattle.audit_check.proofs.Fronts.{legal_front, legal_last}
@@ -41,123 +42,126 @@ opening_in handle live = find (λ e. eqb (handle_of e) handle) live
 abbrev free_in : List Event → ℕ
 free_in live = unwrap_or (find (λ n. is_none (opening_in n live)) handle_numbers) 0
 
--- 1. Words over a list before which no event of the session stands
+-- 1. Words over two lists with the same events of the session
 
-own_none : (session : ℕ) (p : Event → Bool) (front : List Event) → events_of front session ≡ [] → filter (is_own session p) front ≡ []
-own_none session p [] h = refl
-own_none session p (x ∷ xs) h = go (eqb x.session session) h (own_none session p xs) where
-  go : (b : Bool) → cond b (x ∷ events_of xs session) (events_of xs session) ≡ [] → (events_of xs session ≡ [] → filter (is_own session p) xs ≡ []) → cond (b && p x) (x ∷ filter (is_own session p) xs) (filter (is_own session p) xs) ≡ []
-  go true e rest = absurd cc
-  go false e rest = rest e
+any_own : (session : ℕ) (p : Event → Bool) (xs : List Event) → has_event xs session p ≡ list_any p (events_of xs session)
+any_own session p [] = refl
+any_own session p (x ∷ xs) = go (eqb x.session session) (any_own session p xs) where
+  go : (b : Bool) → has_event xs session p ≡ list_any p (events_of xs session) → ((b && p x) || has_event xs session p) ≡ list_any p (cond b (x ∷ events_of xs session) (events_of xs session))
+  go true rest = ap (λ r. p x || r) rest
+  go false rest = rest
 
-any_none : (session : ℕ) (p : Event → Bool) (front : List Event) → events_of front session ≡ [] → list_any (is_own session p) front ≡ false
-any_none session p [] h = refl
-any_none session p (x ∷ xs) h = go (eqb x.session session) h (any_none session p xs) where
-  go : (b : Bool) → cond b (x ∷ events_of xs session) (events_of xs session) ≡ [] → (events_of xs session ≡ [] → list_any (is_own session p) xs ≡ false) → ((b && p x) || list_any (is_own session p) xs) ≡ false
-  go true e rest = absurd cc
-  go false e rest = rest e
+filter_own : (session : ℕ) (p : Event → Bool) (xs : List Event) → filter (is_own session p) xs ≡ filter p (events_of xs session)
+filter_own session p [] = refl
+filter_own session p (x ∷ xs) = go (eqb x.session session) (filter_own session p xs) where
+  go : (b : Bool) → filter (is_own session p) xs ≡ filter p (events_of xs session) → cond (b && p x) (x ∷ filter (is_own session p) xs) (filter (is_own session p) xs) ≡ filter p (cond b (x ∷ events_of xs session) (events_of xs session))
+  go true rest = ap (λ r. cond (p x) (x ∷ r) r) rest
+  go false rest = rest
 
-events_recent : (session : ℕ) (front ys : List Event) → events_of front session ≡ [] → events_of (front ++ ys) session ≡ events_of ys session
-events_recent session front ys none = filter-append (λ e. eqb e.session session) front ys ∙ ap (λ xs. xs ++ events_of ys session) none
+pub has_recent : (session : ℕ) (p : Event → Bool) (xs ys : List Event) → events_of xs session ≡ events_of ys session → has_event xs session p ≡ has_event ys session p
+has_recent session p xs ys same = any_own session p xs ∙ ap (list_any p) same ∙ sym (any_own session p ys)
 
-pub has_recent : (session : ℕ) (p : Event → Bool) (front ys : List Event) → events_of front session ≡ [] → has_event (front ++ ys) session p ≡ has_event ys session p
-has_recent session p front ys none = list_any-append (is_own session p) front ys ∙ ap (λ b. b || has_event ys session p) (any_none session p front none)
+filter_recent : (session : ℕ) (p : Event → Bool) (xs ys : List Event) → events_of xs session ≡ events_of ys session → filter (is_own session p) xs ≡ filter (is_own session p) ys
+filter_recent session p xs ys same = filter_own session p xs ∙ ap (filter p) same ∙ sym (filter_own session p ys)
 
-pub last_recent : (session : ℕ) (p : Event → Bool) (front ys : List Event) → events_of front session ≡ [] → last_event (front ++ ys) session p ≡ last_event ys session p
-last_recent session p front ys none = ap (last_or None) (filter-append (is_own session p) front ys ∙ ap (λ xs. xs ++ filter (is_own session p) ys) (own_none session p front none))
+pub last_recent : (session : ℕ) (p : Event → Bool) (xs ys : List Event) → events_of xs session ≡ events_of ys session → last_event xs session p ≡ last_event ys session p
+last_recent session p xs ys same = ap (last_or None) (filter_recent session p xs ys same)
 
-pub over_recent : (session : ℕ) (front ys : List Event) → events_of front session ≡ [] → is_over (front ++ ys) session ≡ is_over ys session
-over_recent session front ys none = ap (λ own. not (list_any opens own) || list_any ends_session own) (events_recent session front ys none)
+pub count_recent : (session : ℕ) (p : Event → Bool) (xs ys : List Event) → events_of xs session ≡ events_of ys session → count_of xs session p ≡ count_of ys session p
+count_recent session p xs ys same = sym (length-filter (is_own session p) xs) ∙ ap length (filter_recent session p xs ys same) ∙ length-filter (is_own session p) ys
 
-pub asked_recent : (session : ℕ) (front ys : List Event) → events_of front session ≡ [] → ask_count (front ++ ys) session ≡ ask_count ys session
-asked_recent session front ys none = ap (count_by (λ e. came_by_frame e.ask)) (events_recent session front ys none)
+pub over_recent : (session : ℕ) (xs ys : List Event) → events_of xs session ≡ events_of ys session → is_over xs session ≡ is_over ys session
+over_recent session xs ys same = ap (λ own. not (list_any opens own) || list_any ends_session own) same
+
+pub asked_recent : (session : ℕ) (xs ys : List Event) → events_of xs session ≡ events_of ys session → ask_count xs session ≡ ask_count ys session
+asked_recent session xs ys same = ap (count_by (λ e. came_by_frame e.ask)) same
 
 abbrev phase_by : Bool → Bool → Bool → Bool → Phase
 phase_by over exported accepted challenged = cond over Over (cond exported User (cond accepted Verified (cond challenged Challenged Pre)))
 
-pub phase_recent : (session : ℕ) (front ys : List Event) → events_of front session ≡ [] → phase_of (front ++ ys) session ≡ phase_of ys session
+pub phase_recent : (session : ℕ) (xs ys : List Event) → events_of xs session ≡ events_of ys session → phase_of xs session ≡ phase_of ys session
 unfolding phase_of
-phase_recent session front ys none =
-    let xs : List Event = front ++ ys in
-    ap (λ b. phase_by b (has_event xs session exports) (has_event xs session accepts) (is_taking (last_event xs session is_login_step))) (over_recent session front ys none)
-    ∙ ap (λ b. phase_by (is_over ys session) b (has_event xs session accepts) (is_taking (last_event xs session is_login_step))) (has_recent session exports front ys none)
-    ∙ ap (λ b. phase_by (is_over ys session) (has_event ys session exports) b (is_taking (last_event xs session is_login_step))) (has_recent session accepts front ys none)
-    ∙ ap (λ o. phase_by (is_over ys session) (has_event ys session exports) (has_event ys session accepts) (is_taking o)) (last_recent session is_login_step front ys none)
+phase_recent session xs ys same =
+    ap (λ b. phase_by b (has_event xs session exports) (has_event xs session accepts) (is_taking (last_event xs session is_login_step))) (over_recent session xs ys same)
+    ∙ ap (λ b. phase_by (is_over ys session) b (has_event xs session accepts) (is_taking (last_event xs session is_login_step))) (has_recent session exports xs ys same)
+    ∙ ap (λ b. phase_by (is_over ys session) (has_event ys session exports) b (is_taking (last_event xs session is_login_step))) (has_recent session accepts xs ys same)
+    ∙ ap (λ o. phase_by (is_over ys session) (has_event ys session exports) (has_event ys session accepts) (is_taking o)) (last_recent session is_login_step xs ys same)
 
-challenged_recent : (session : ℕ) (front ys : List Event) → events_of front session ≡ [] → challenged_user (front ++ ys) session ≡ challenged_user ys session
+challenged_recent : (session : ℕ) (xs ys : List Event) → events_of xs session ≡ events_of ys session → challenged_user xs session ≡ challenged_user ys session
 unfolding challenged_user
-challenged_recent session front ys none = ap user_named (last_recent session takes front ys none)
+challenged_recent session xs ys same = ap user_named (last_recent session takes xs ys same)
 
-pub none_pushed : (b : Bool) (xs : List Event) (e : Event) → xs ++ cond b (e ∷ []) [] ≡ [] → (xs ≡ []) × (b ≡ false)
-none_pushed true [] e h = absurd cc
-none_pushed true (x ∷ xs) e h = absurd cc
-none_pushed false [] e h = (refl, refl)
-none_pushed false (x ∷ xs) e h = absurd cc
+own_again : (session : ℕ) (xs : List Event) → events_of (events_of xs session) session ≡ events_of xs session
+own_again session [] = refl
+own_again session (x ∷ xs) = go (eqb x.session session) refl (own_again session xs) where
+  go : (b : Bool) → eqb x.session session ≡ b → events_of (events_of xs session) session ≡ events_of xs session → events_of (cond b (x ∷ events_of xs session) (events_of xs session)) session ≡ cond b (x ∷ events_of xs session) (events_of xs session)
+  go true is rest = ap (λ c. cond c (x ∷ events_of (events_of xs session) session) (events_of (events_of xs session) session)) is ∙ ap (λ r. x ∷ r) rest
+  go false is rest = rest
 
-verified_none : (session : ℕ) (front : List Event) → events_of front session ≡ [] → verified_user front session ≡ None
-verified_none session = by_push (λ f. events_of f session ≡ [] → verified_user f session ≡ None) (λ h. verified_user-none session) more where
-  more : (f : List Event) (e : Event) → (events_of f session ≡ [] → verified_user f session ≡ None) → events_of (f ++ e ∷ []) session ≡ [] → verified_user (f ++ e ∷ []) session ≡ None
-  more f e before h =
-      let both = none_pushed (eqb e.session session) (events_of f session) e (sym (filter-append (λ x. eqb x.session session) f (e ∷ [])) ∙ h) in
-      verified_user-push session f e
-      ∙ ap (λ b. cond (b && accepts e) (challenged_user f session) (verified_user f session)) both.1
-      ∙ before both.0
+verified_own : (session : ℕ) (xs : List Event) → verified_user xs session ≡ verified_user (events_of xs session) session
+verified_own session = by_push (λ xs. verified_user xs session ≡ verified_user (events_of xs session) session) refl more where
+  more : (f : List Event) (e : Event) → verified_user f session ≡ verified_user (events_of f session) session → verified_user (f ++ e ∷ []) session ≡ verified_user (events_of (f ++ e ∷ []) session) session
+  more f e before = verified_user-push session f e ∙ go (eqb e.session session) refl ∙ ap (λ xs. verified_user xs session) (sym (filter-append (λ x. eqb x.session session) f (e ∷ []))) where
+    own : List Event
+    own = events_of f session
 
-pub verified_recent : (session : ℕ) (front : List Event) → events_of front session ≡ [] → (ys : List Event) → verified_user (front ++ ys) session ≡ verified_user ys session
-verified_recent session front none = by_push (λ ys. verified_user (front ++ ys) session ≡ verified_user ys session) start more where
-  start : verified_user (front ++ []) session ≡ verified_user [] session
-  start = ap (λ xs. verified_user xs session) (append-nil front) ∙ verified_none session front none ∙ sym (verified_user-none session)
+    go : (b : Bool) → eqb e.session session ≡ b → cond (eqb e.session session && accepts e) (challenged_user f session) (verified_user f session) ≡ verified_user (own ++ cond (eqb e.session session) (e ∷ []) []) session
+    go false is =
+        ap (λ c. cond (c && accepts e) (challenged_user f session) (verified_user f session)) is
+        ∙ before
+        ∙ ap (λ xs. verified_user xs session) (sym (append-nil own))
+        ∙ ap (λ c. verified_user (own ++ cond c (e ∷ []) []) session) (sym is)
+    go true is =
+        ap (λ u. cond (eqb e.session session && accepts e) u (verified_user f session)) (challenged_recent session f own (sym (own_again session f)))
+        ∙ ap (λ u. cond (eqb e.session session && accepts e) (challenged_user own session) u) before
+        ∙ sym (verified_user-push session own e)
+        ∙ ap (λ c. verified_user (own ++ cond c (e ∷ []) []) session) (sym is)
 
-  more : (ys : List Event) (e : Event) → verified_user (front ++ ys) session ≡ verified_user ys session → verified_user (front ++ (ys ++ e ∷ [])) session ≡ verified_user (ys ++ e ∷ []) session
-  more ys e before =
-      ap (λ xs. verified_user xs session) (sym (append_assoc front ys (e ∷ [])))
-      ∙ verified_user-push session (front ++ ys) e
-      ∙ ap (λ u. cond (is_own session accepts e) u (verified_user (front ++ ys) session)) (challenged_recent session front ys none)
-      ∙ ap (λ u. cond (is_own session accepts e) (challenged_user ys session) u) before
-      ∙ sym (verified_user-push session ys e)
+pub verified_recent : (session : ℕ) (xs ys : List Event) → events_of xs session ≡ events_of ys session → verified_user xs session ≡ verified_user ys session
+verified_recent session xs ys same = verified_own session xs ∙ ap (λ own. verified_user own session) same ∙ sym (verified_own session ys)
 
-live_recent : (session : ℕ) (front ys : List Event) → events_of front session ≡ [] → live_handles_of (front ++ ys) session ≡ live_handles_of ys session
+live_recent : (session : ℕ) (xs ys : List Event) → events_of xs session ≡ events_of ys session → live_handles_of xs session ≡ live_handles_of ys session
 unfolding live_handles_of
-live_recent session front ys none = ap live_opens (events_recent session front ys none)
+live_recent session xs ys same = ap live_opens same
 
 -- 2. The verdict
 
-kind_recent : (setup : Settings) (session : ℕ) (front ys : List Event) → events_of front session ≡ [] → (ask : Ask) → is_local ask ≡ true → kind_verdict setup (front ++ ys) session ask ≡ kind_verdict setup ys session ask
+kind_recent : (setup : Settings) (session : ℕ) (xs ys : List Event) → events_of xs session ≡ events_of ys session → (ask : Ask) → is_local ask ≡ true → kind_verdict setup xs session ask ≡ kind_verdict setup ys session ask
 unfolding kind_verdict handle_verdict open_verdict close_verdict
-kind_recent setup session front ys none (asks.Challenge user now) h = absurd cc
-kind_recent setup session front ys none (asks.Reply words hex) h = absurd cc
-kind_recent setup session front ys none (asks.Info number) h = absurd cc
-kind_recent setup session front ys none (asks.Export len) h = ap (λ u. Permit (number_named setup u)) (verified_recent session front none ys)
-kind_recent setup session front ys none (asks.ReadAt handle offset max) h = ap (λ l. cond (eqb handle 0) (Permit 0) (use_verdict handle 1 (opening_in handle l))) (live_recent session front ys none)
-kind_recent setup session front ys none (asks.WriteAt handle offset len) h = ap (λ l. cond (eqb handle 0) (Permit 0) (use_verdict handle 2 (opening_in handle l))) (live_recent session front ys none)
-kind_recent setup session front ys none (asks.OpenFile mode name) h =
-    ap (λ l. cond (nat_le 8 (length l)) (Deny 19 8) (grant_verdict (free_in l) mode (find (λ g. same_label g.name name) (grants_of (account_named setup (verified_user (front ++ ys) session)))))) (live_recent session front ys none)
-    ∙ ap (λ u. cond (nat_le 8 (length (live_handles_of ys session))) (Deny 19 8) (grant_verdict (free_handle_of ys session) mode (find (λ g. same_label g.name name) (grants_of (account_named setup u))))) (verified_recent session front none ys)
-kind_recent setup session front ys none (asks.CloseFile handle) h = ap (λ l. cond (eqb handle 0 || is_none (opening_in handle l)) (Deny 17 handle) (Permit 0)) (live_recent session front ys none)
-kind_recent setup session front ys none _ h = refl
+kind_recent setup session xs ys same (asks.Challenge user now) h = absurd cc
+kind_recent setup session xs ys same (asks.Reply words hex) h = absurd cc
+kind_recent setup session xs ys same (asks.Info number) h = absurd cc
+kind_recent setup session xs ys same (asks.Export len) h = ap (λ u. Permit (number_named setup u)) (verified_recent session xs ys same)
+kind_recent setup session xs ys same (asks.ReadAt handle offset max) h = ap (λ l. cond (eqb handle 0) (Permit 0) (use_verdict handle 1 (opening_in handle l))) (live_recent session xs ys same)
+kind_recent setup session xs ys same (asks.WriteAt handle offset len) h = ap (λ l. cond (eqb handle 0) (Permit 0) (use_verdict handle 2 (opening_in handle l))) (live_recent session xs ys same)
+kind_recent setup session xs ys same (asks.OpenFile mode name) h =
+    ap (λ l. cond (nat_le 8 (length l)) (Deny 19 8) (grant_verdict (free_in l) mode (find (λ g. same_label g.name name) (grants_of (account_named setup (verified_user xs session)))))) (live_recent session xs ys same)
+    ∙ ap (λ u. cond (nat_le 8 (length (live_handles_of ys session))) (Deny 19 8) (grant_verdict (free_handle_of ys session) mode (find (λ g. same_label g.name name) (grants_of (account_named setup u))))) (verified_recent session xs ys same)
+kind_recent setup session xs ys same (asks.CloseFile handle) h = ap (λ l. cond (eqb handle 0 || is_none (opening_in handle l)) (Deny 17 handle) (Permit 0)) (live_recent session xs ys same)
+kind_recent setup session xs ys same _ h = refl
 
-row_recent : (setup : Settings) (session : ℕ) (front ys : List Event) → events_of front session ≡ [] → (ask : Ask) → is_local ask ≡ true → (kind : Kind) (row : Row) → row_verdict setup (front ++ ys) session ask kind row ≡ row_verdict setup ys session ask kind row
-row_recent setup session front ys none ask h kind row =
-    ap (λ b. cond (not row.permitted) (Deny 6 (request_number ask)) (cond (row.once && b) (Deny 7 (request_number ask)) (kind_verdict setup (front ++ ys) session ask))) (has_recent session (permits_kind kind) front ys none)
-    ∙ ap (λ d. cond (not row.permitted) (Deny 6 (request_number ask)) (cond (row.once && has_event ys session (permits_kind kind)) (Deny 7 (request_number ask)) d)) (kind_recent setup session front ys none ask h)
+row_recent : (setup : Settings) (session : ℕ) (xs ys : List Event) → events_of xs session ≡ events_of ys session → (ask : Ask) → is_local ask ≡ true → (kind : Kind) (row : Row) → row_verdict setup xs session ask kind row ≡ row_verdict setup ys session ask kind row
+row_recent setup session xs ys same ask h kind row =
+    ap (λ b. cond (not row.permitted) (Deny 6 (request_number ask)) (cond (row.once && b) (Deny 7 (request_number ask)) (kind_verdict setup xs session ask))) (has_recent session (permits_kind kind) xs ys same)
+    ∙ ap (λ d. cond (not row.permitted) (Deny 6 (request_number ask)) (cond (row.once && has_event ys session (permits_kind kind)) (Deny 7 (request_number ask)) d)) (kind_recent setup session xs ys same ask h)
 
-table_recent : (setup : Settings) (session : ℕ) (front ys : List Event) → events_of front session ≡ [] → (ask : Ask) → is_local ask ≡ true → (kind : Option Kind) → table_verdict setup (front ++ ys) session ask kind ≡ table_verdict setup ys session ask kind
-table_recent setup session front ys none ask h None = refl
-table_recent setup session front ys none ask h (Some kind) =
-    ap (λ p. row_verdict setup (front ++ ys) session ask kind (table_row p kind)) (phase_recent session front ys none)
-    ∙ row_recent setup session front ys none ask h kind (table_row (phase_of ys session) kind)
+table_recent : (setup : Settings) (session : ℕ) (xs ys : List Event) → events_of xs session ≡ events_of ys session → (ask : Ask) → is_local ask ≡ true → (kind : Option Kind) → table_verdict setup xs session ask kind ≡ table_verdict setup ys session ask kind
+table_recent setup session xs ys same ask h None = refl
+table_recent setup session xs ys same ask h (Some kind) =
+    ap (λ p. row_verdict setup xs session ask kind (table_row p kind)) (phase_recent session xs ys same)
+    ∙ row_recent setup session xs ys same ask h kind (table_row (phase_of ys session) kind)
 
-own_recent : (setup : Settings) (session : ℕ) (front ys : List Event) → events_of front session ≡ [] → (ask : Ask) → is_local ask ≡ true → own_verdict setup (front ++ ys) session ask ≡ own_verdict setup ys session ask
-own_recent setup session front ys none (asks.Bad rule detail) h = refl
-own_recent setup session front ys none ask h = table_recent setup session front ys none ask h (kind_of ask)
+own_recent : (setup : Settings) (session : ℕ) (xs ys : List Event) → events_of xs session ≡ events_of ys session → (ask : Ask) → is_local ask ≡ true → own_verdict setup xs session ask ≡ own_verdict setup ys session ask
+own_recent setup session xs ys same (asks.Bad rule detail) h = refl
+own_recent setup session xs ys same ask h = table_recent setup session xs ys same ask h (kind_of ask)
 
-request_recent : (setup : Settings) (session : ℕ) (front ys : List Event) → events_of front session ≡ [] → (ask : Ask) → is_local ask ≡ true → request_verdict setup (front ++ ys) session ask ≡ request_verdict setup ys session ask
-request_recent setup session front ys none ask h =
-    ap (λ b. cond (eqb session 0 || b) (Deny 6 (request_number ask)) (cond (eqb (ask_count (front ++ ys) session) setup.requests) (Deny 1 setup.requests) (own_verdict setup (front ++ ys) session ask))) (over_recent session front ys none)
-    ∙ ap (λ n. cond (eqb session 0 || is_over ys session) (Deny 6 (request_number ask)) (cond (eqb n setup.requests) (Deny 1 setup.requests) (own_verdict setup (front ++ ys) session ask))) (asked_recent session front ys none)
-    ∙ ap (λ d. cond (eqb session 0 || is_over ys session) (Deny 6 (request_number ask)) (cond (eqb (ask_count ys session) setup.requests) (Deny 1 setup.requests) d)) (own_recent setup session front ys none ask h)
+request_recent : (setup : Settings) (session : ℕ) (xs ys : List Event) → events_of xs session ≡ events_of ys session → (ask : Ask) → is_local ask ≡ true → request_verdict setup xs session ask ≡ request_verdict setup ys session ask
+request_recent setup session xs ys same ask h =
+    ap (λ b. cond (eqb session 0 || b) (Deny 6 (request_number ask)) (cond (eqb (ask_count xs session) setup.requests) (Deny 1 setup.requests) (own_verdict setup xs session ask))) (over_recent session xs ys same)
+    ∙ ap (λ n. cond (eqb session 0 || is_over ys session) (Deny 6 (request_number ask)) (cond (eqb n setup.requests) (Deny 1 setup.requests) (own_verdict setup xs session ask))) (asked_recent session xs ys same)
+    ∙ ap (λ d. cond (eqb session 0 || is_over ys session) (Deny 6 (request_number ask)) (cond (eqb (ask_count ys session) setup.requests) (Deny 1 setup.requests) d)) (own_recent setup session xs ys same ask h)
 
--- 3. Behind a worker's last permitted opening or end
+-- 3. A worker's open session
 
 -- in a legal log no event has a greater session than were opened
 pub numbered : (setup : Settings) (events : List Event) → IsLegalLog setup events → AreNumbered events (openings_of events)
@@ -197,48 +201,27 @@ framed _ h e = refl
 none_open : (setup : Settings) (xs : List Event) (ask : Ask) (n : ℕ) → n ≡ 0 → request_verdict setup xs n ask ≡ Deny 6 (request_number ask)
 none_open setup xs ask n h = ap (λ s. request_verdict setup xs s ask) h
 
-behind_turn : (setup : Settings) (front : List Event) (t : Event) (rest : List Event) (worker : ℕ) (ask : Ask) → IsLegalLog setup (front ++ t ∷ rest) → is_turn_of worker t ≡ true → filter (is_turn_of worker) rest ≡ [] → is_local ask ≡ true → is_end ask ≡ false → verdict_of setup (t ∷ rest) worker ask ≡ verdict_of setup (front ++ t ∷ rest) worker ask
-behind_turn setup front t rest worker ask legal turn none local request =
-    verdict_of-request setup (t ∷ rest) worker ask (framed ask local request)
-    ∙ ap (λ s. request_verdict setup (t ∷ rest) s ask) (open_recent worker [] t rest turn none)
-    ∙ go (is_begin t.ask) refl
-    ∙ sym (ap (λ s. request_verdict setup (front ++ t ∷ rest) s ask) (open_recent worker front t rest turn none))
-    ∙ sym (verdict_of-request setup (front ++ t ∷ rest) worker ask (framed ask local request)) where
-      permit : is_permit t.decision ≡ true
-      permit = (and_parts (eqb t.worker worker && (is_begin t.ask || is_end t.ask)) (is_permit t.decision) turn).1
-
-      go : (b : Bool) → is_begin t.ask ≡ b → request_verdict setup (t ∷ rest) (cond (is_begin t.ask) t.session 0) ask ≡ request_verdict setup (front ++ t ∷ rest) (cond (is_begin t.ask) t.session 0) ask
-      go false h = none_open setup (t ∷ rest) ask (cond (is_begin t.ask) t.session 0) (ap (λ b. cond b t.session 0) h) ∙ sym (none_open setup (front ++ t ∷ rest) ask (cond (is_begin t.ask) t.session 0) (ap (λ b. cond b t.session 0) h))
-      go true h =
-          let session : cond (is_begin t.ask) t.session 0 ≡ t.session = ap (λ b. cond b t.session 0) h in
-          ap (λ s. request_verdict setup (t ∷ rest) s ask) session
-          ∙ sym (request_recent setup t.session front (t ∷ rest) (fresh setup front t rest legal h permit) ask local)
-          ∙ sym (ap (λ s. request_verdict setup (front ++ t ∷ rest) s ask) session)
-
 end_verdict : (setup : Settings) (xs ys : List Event) (worker : ℕ) (ask : Ask) → is_end ask ≡ true → open_session_of xs worker ≡ open_session_of ys worker → verdict_of setup xs worker ask ≡ verdict_of setup ys worker ask
 unfolding verdict_of
 end_verdict setup xs ys worker (asks.End why) h same = ap (λ s. cond (eqb s 0) (Deny 6 0) (Permit 0)) same
 end_verdict setup xs ys worker _ h same = absurd cc
 
--- the events from a worker's last permitted opening or end on have its open session and say what the whole list says of what isn't its login
-pub recent_open : (events : List Event) (worker start : ℕ) → IsTurnStart events worker start → open_session_of (drop start events) worker ≡ open_session_of events worker
-recent_open events worker start (inl none) = ap (λ n. open_session_of (drop n events) worker) none
-recent_open events worker start (inr last) =
-    ap (λ xs. open_session_of xs worker) last.parts
-    ∙ open_recent worker [] last.turn (drop (start + 1) events) last.is last.last
-    ∙ sym (open_recent worker (take start events) last.turn (drop (start + 1) events) last.is last.last)
-    ∙ ap (λ xs. open_session_of (take start events ++ xs) worker) (sym last.parts)
-    ∙ ap (λ xs. open_session_of xs worker) (take-append-drop start events)
+not_zero : (n : ℕ) → eqb n 0 ≡ false → n ≢ 0
+not_zero n h e = grind (arith, nat_tests)
 
-pub recent_verdict : (setup : Settings) (events : List Event) (worker start : ℕ) (ask : Ask) → IsLegalLog setup events → IsTurnStart events worker start → is_local ask ≡ true → verdict_of setup (drop start events) worker ask ≡ verdict_of setup events worker ask
-recent_verdict setup events worker start ask legal (inl none) local = ap (λ n. verdict_of setup (drop n events) worker ask) none
-recent_verdict setup events worker start ask legal (inr last) local = go (is_end ask) refl where
-  whole : take start events ++ last.turn ∷ drop (start + 1) events ≡ events
-  whole = ap (λ xs. take start events ++ xs) (sym last.parts) ∙ take-append-drop start events
+pub recent_verdict : (setup : Settings) (events recent : List Event) (worker : ℕ) (ask : Ask) → IsRecent recent worker events → is_local ask ≡ true → verdict_of setup recent worker ask ≡ verdict_of setup events worker ask
+recent_verdict setup events recent worker ask r local = go (is_end ask) refl where
+  s : ℕ
+  s = open_session_of events worker
 
-  go : (b : Bool) → is_end ask ≡ b → verdict_of setup (drop start events) worker ask ≡ verdict_of setup events worker ask
-  go true h = end_verdict setup (drop start events) events worker ask h (recent_open events worker start (inr last))
+  by : (b : Bool) → eqb s 0 ≡ b → request_verdict setup recent s ask ≡ request_verdict setup events s ask
+  by true h = none_open setup recent ask s (eqb-true s 0 h) ∙ sym (none_open setup events ask s (eqb-true s 0 h))
+  by false h = request_recent setup s recent events (r.own (not_zero s h)) ask local
+
+  go : (b : Bool) → is_end ask ≡ b → verdict_of setup recent worker ask ≡ verdict_of setup events worker ask
+  go true h = end_verdict setup recent events worker ask h r.session
   go false h =
-      ap (λ xs. verdict_of setup xs worker ask) last.parts
-      ∙ behind_turn setup (take start events) last.turn (drop (start + 1) events) worker ask (subst (IsLegalLog setup) (sym whole) legal) last.is last.last local h
-      ∙ ap (λ xs. verdict_of setup xs worker ask) whole
+      verdict_of-request setup recent worker ask (framed ask local h)
+      ∙ ap (λ n. request_verdict setup recent n ask) r.session
+      ∙ by (eqb s 0) refl
+      ∙ sym (verdict_of-request setup events worker ask (framed ask local h))

@@ -2,13 +2,11 @@
 use Rattle.std.specs.Prelude.{◌<◌, ◌≤◌, ◌^◌, List, length}
 use Rattle.std.specs.List.{AllByRecursion}
 use Rattle.policy_laws.specs.Consequences.{NoPasswordTwice, OneTakerAtATime, SequenceFalls, VerifiedBeforeExport}
-use Rattle.policy_model.specs.declared.event.Decision.{Decision}
-use Rattle.policy_model.specs.declared.event.Decision.TheVariants.{Permit, Deny, Lost}
 use Rattle.policy_model.specs.declared.event.Event.{Event}
 use Rattle.policy_model.specs.Legal.{IsLegal}
 use Rattle.policy_model.specs.Runs.{IsOfWorker, IsProperEvent}
 use Rattle.policy_model.specs.Settings.{Settings}
-use Rattle.decision_log.specs.Values.{IsAsk, ask_value}
+use Rattle.decision_log.specs.Typed.{IsTyped}
 use Rattle.audit_check.specs.Said.{events_max}
 
 -- each export of a user's state stands behind the session's own accepted reply for that user; no password of a user is accepted twice; a user's sequence falls with each; and nobody takes a user between a session's challenge and its accepted reply
@@ -17,19 +15,6 @@ pub record HasConsequences (setup : Settings) (events : List Event) : Type 0 whe
   pub once : NoPasswordTwice setup events
   pub falls : SequenceFalls setup events
   pub one_taker : OneTakerAtATime setup events
-
--- the numbers of a decision are in the ranges of their types
-abbrev pub IsSmall : Decision → Type 0
-IsSmall (Permit value) = value < 2 ^ 64
-IsSmall (Deny rule detail) = detail < 2 ^ 32
-IsSmall Lost = Unit {0}
-
--- an event is in the ranges of its types
-pub record IsTyped (e : Event) : Type 0 where
-  pub worker : e.worker < 2 ^ 32
-  pub session : e.session < 2 ^ 32
-  pub ask : IsAsk (ask_value e.ask)
-  pub decision : IsSmall e.decision
 
 -- the journal of a run with a setup: it is legal, its asks are proper and of the setup's workers, it has at most as many events as a run makes, and they are in the ranges of their types
 pub record IsJournalOf (setup : Settings) (journal : List Event) : Type 0 where

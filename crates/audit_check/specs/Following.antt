@@ -1,5 +1,5 @@
 -- Inner: steps of the search through a log.
-use Rattle.std.specs.Prelude.{ℕ, ◌≡◌, ◌≢◌, ◌+◌, ◌==◌, ◌&&◌, ◌||◌, not, ◌⊎◌, Bool, true, false, List, [], ◌∷◌, ◌++◌, drop, filter, nat_le}
+use Rattle.std.specs.Prelude.{ℕ, ◌≡◌, ◌≢◌, ◌==◌, ◌&&◌, ◌||◌, not, Bool, true, false, List, [], ◌∷◌, ◌++◌, nat_le, if◌then◌else◌}
 use Rattle.request_catalogue.specs.Rules.{no_match, no_reading, password_used, user_held}
 use Rattle.policy_model.specs.declared.event.Ask.{Ask}
 use Rattle.policy_model.specs.declared.event.Ask.TheVariants as asks
@@ -31,19 +31,15 @@ is_local (asks.Reply words hex) = false
 is_local (asks.Info number) = false
 is_local _ = true
 
--- at a place stands a worker's last permitted opening or end
-pub record LastTurn (events : List Event) (worker place : ℕ) : Type 0 where
-  pub turn : Event
-  pub parts : drop place events ≡ turn ∷ drop (place + 1) events
-  pub is : is_turn_of worker turn ≡ true
-  pub last : filter (is_turn_of worker) (drop (place + 1) events) ≡ []
-
--- a worker's last permitted opening or end stands at the place, or it is the first
-abbrev pub IsTurnStart : List Event → ℕ → ℕ → Type 0
-IsTurnStart events worker place = (place ≡ 0) ⊎ LastTurn events worker place
-
--- the worker has no open session, or all events of it stand in this end of the log
+-- a list of events says of a worker which session it has open, and has all events of that session, as a log does
 pub record IsRecent (recent : List Event) (worker : ℕ) (events : List Event) : Type 0 where
-  pub front : List Event
-  pub parts : events ≡ front ++ recent
-  pub none : open_session_of events worker ≢ 0 → events_of front (open_session_of events worker) ≡ []
+  pub session : open_session_of recent worker ≡ open_session_of events worker
+  pub own : open_session_of events worker ≢ 0 → events_of recent (open_session_of events worker) ≡ events_of events (open_session_of events worker)
+
+-- what an event of a worker makes of such a list: a permitted opening or end begins it anew
+abbrev pub own_after : Event → List Event → List Event
+own_after e recent = if is_turn_of e.worker e then e ∷ [] else recent ++ e ∷ []
+
+-- what an event makes of the list of a worker
+abbrev pub recent_after : ℕ → Event → List Event → List Event
+recent_after worker e recent = if worker == e.worker then own_after e recent else recent

@@ -19,6 +19,7 @@ use Rattle.session_laws.specs.Tied.{holder_after}
 use Rattle.audit_check.specs.declared.accounts.Standing.{Standing}
 use Rattle.audit_check.specs.declared.history.Hold.{Hold}
 use Rattle.audit_check.specs.declared.history.History.{History}
+use Rattle.audit_check.specs.Following.{IsRecent, recent_after}
 use Rattle.audit_check.specs.Legal.{IsLegalLog}
 
 -- what a log says of who took a user last and who holds it
@@ -50,10 +51,17 @@ pub record AreReplied (number : Option ℕ) (password : ℕ) (old new : List (Ve
   pub same : length new ≡ length old
   pub each : (n : ℕ) (d : Vec ℕ Global) → (slice_index_or new n d).items ≡ (slice_index_or old n d).items ++ option_to_list (reply_at number password n)
 
--- what is kept of a legal log: how many sessions were opened, and for each account its hold and the passwords of its replies
+-- the list of an event's worker goes on, and any other stays
+pub record AreFollowed (e : Event) (old new : List (Vec Event Global)) : Type 0 where
+  pub same : length new ≡ length old
+  pub each : (n : ℕ) (d : Vec Event Global) → n < length old → (slice_index_or new n d).items ≡ recent_after n e (slice_index_or old n d).items
+
+-- what is kept of a legal log: for each worker the events of its open session, how many sessions were opened, and for each account its hold and the passwords of its replies
 pub record IsKept (setup : Settings) (h : History) : Type 0 where
   pub in_range : IsInRange setup
   pub legal : IsLegalLog setup h.events.items
+  pub followed : length h.recent.items ≡ setup.workers
+  pub recents : (n : ℕ) (d : Vec Event Global) → n < length h.recent.items → IsRecent (slice_index_or h.recent.items n d).items n h.events.items
   pub opened : h.opened ≡ openings_of h.events.items
   pub held : length h.holds.items ≡ length setup.accounts
   pub holds : (n : ℕ) (account : Account) (d : Hold) → slice_get setup.accounts n ≡ Some account → slice_index_or h.holds.items n d ≡ hold_by h.events.items account.name
@@ -67,6 +75,10 @@ first_hold account = record { taker = 0; moment = 0; holder = None }
 -- no account has a reply
 abbrev pub AreEmpty : List (Vec ℕ Global) → Type 0
 AreEmpty replies = (n : ℕ) (d : Vec ℕ Global) → n < length replies → (slice_index_or replies n d).items ≡ []
+
+-- no worker has an event
+abbrev pub AreIdle : List (Vec Event Global) → Type 0
+AreIdle recent = (n : ℕ) (d : Vec Event Global) → n < length recent → (slice_index_or recent n d).items ≡ []
 
 -- an event is a permitted reply for the user of the account with this number, or for nobody's
 pub record IsReplyFor (setup : Settings) (events : List Event) (e : Event) (number : Option ℕ) : Type 0 where

@@ -160,7 +160,8 @@ fn judge_user(setup: &Setup, history: &History, session: u32, user: &Name) -> De
 
 /// A REPLY without readings of a worker's open session, where nothing but its login decides.
 pub(crate) fn judge_reply(setup: &Setup, history: &History, worker: u32) -> Decision
-    requires { IsKept setup.now history.now }
+    requires kept { IsKept setup.now history.now }
+    requires worker { worker < length history.now.recent.items }
     ensures { open_session_of history.now.events.items worker ≢ 0 →
         result ≡ reply_verdict setup.now history.now.events.items (open_session_of history.now.events.items worker) None None }
 {
@@ -201,7 +202,8 @@ fn sequence_of(setup: &Setup, history: &History, user: Option<Name>) -> u64
 
 /// An INFO of a session that is logged in: the user's sequence.
 pub(crate) fn judge_info(setup: &Setup, history: &History, worker: u32) -> Decision
-    requires { IsKept setup.now history.now }
+    requires kept { IsKept setup.now history.now }
+    requires worker { worker < length history.now.recent.items }
     ensures { open_session_of history.now.events.items worker ≢ 0 →
         result ≡ Permit (sequence_of history.now.events.items (account_named setup.now (verified_user history.now.events.items (open_session_of history.now.events.items worker)))) }
 {

@@ -44,6 +44,7 @@ fn rests_on_accounts(decision: &Decision) -> bool
 /// The policy's verdict on an opening, a CHALLENGE, a REPLY or an INFO.
 fn verdict_by_accounts(setup: &Setup, history: &History, event: &Event) -> Decision
     requires kept { IsKept setup.now history.now }
+    requires worker { event.now.worker < length history.now.recent.items }
     requires shown { without_readings event.now.ask ≡ event.now.ask }
     requires other { is_local event.now.ask ≡ false }
     ensures { result ≡ verdict_of setup.now history.now.events.items event.now.worker event.now.ask }
@@ -67,6 +68,7 @@ fn verdict_by_accounts(setup: &Setup, history: &History, event: &Event) -> Decis
 /// The policy's verdict on the event's ask.
 fn verdict(setup: &Setup, history: &History, event: &Event) -> Decision
     requires kept { IsKept setup.now history.now }
+    requires worker { event.now.worker < length history.now.recent.items }
     requires shown { without_readings event.now.ask ≡ event.now.ask }
     ensures { result ≡ verdict_of setup.now history.now.events.items event.now.worker event.now.ask }
 {
@@ -104,6 +106,7 @@ fn may_be_denied(rule: u8, detail: u32, decoyed: bool) -> bool
 /// Whether the decision may be one on a reply whose readings decide.
 fn may_be_decided(setup: &Setup, history: &History, event: &Event) -> bool
     requires kept { IsKept setup.now history.now }
+    requires worker { event.now.worker < length history.now.recent.items }
     requires open { readings_decide setup.now history.now.events.items (open_session_of history.now.events.items event.now.worker) ≡ true }
     ensures { result ≡ may_be_decided setup.now history.now.events.items (open_session_of history.now.events.items event.now.worker) event.now.decision }
 {
@@ -128,6 +131,7 @@ fn is_open(event: &Event, verdict: &Decision) -> bool
 /// Whether the policy may give the event's decision.
 fn is_decided(setup: &Setup, history: &History, event: &Event) -> bool
     requires kept { IsKept setup.now history.now }
+    requires worker { event.now.worker < length history.now.recent.items }
     requires shown { without_readings event.now.ask ≡ event.now.ask }
     ensures { MatchBool result (IsDecided setup.now history.now.events.items event.now) (IsDecided setup.now history.now.events.items event.now → ⊥) }
 {
@@ -143,7 +147,8 @@ fn is_decided(setup: &Setup, history: &History, event: &Event) -> bool
 fn opening_session(history: &History, worker: u32, decision: &Decision) -> u32
     requires few { length history.now.events.items < 2 ^ 32 - 1 }
     requires opened { history.now.opened ≡ openings_of history.now.events.items }
-    ensures { result ≡ opening_session history.now.events.items worker decision.now }
+    requires worker { worker < length history.now.recent.items }
+    ensures { (setup : Settings) → IsKept setup history.now → result ≡ opening_session history.now.events.items worker decision.now }
 {
     match decision {
         Decision::Permit { .. } => history.opened + 1,
@@ -156,7 +161,8 @@ fn opening_session(history: &History, worker: u32, decision: &Decision) -> u32
 fn session_after(history: &History, event: &Event) -> u32
     requires few { length history.now.events.items < 2 ^ 32 - 1 }
     requires opened { history.now.opened ≡ openings_of history.now.events.items }
-    ensures { result ≡ session_of history.now.events.items event.now.worker event.now.ask event.now.decision }
+    requires worker { event.now.worker < length history.now.recent.items }
+    ensures { (setup : Settings) → IsKept setup history.now → result ≡ session_of history.now.events.items event.now.worker event.now.ask event.now.decision }
 {
     if event.ask.is_begin() {
         opening_session(history, event.worker, &event.decision)

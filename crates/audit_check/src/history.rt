@@ -4,10 +4,11 @@
 ghost use Rattle.std.specs.Prelude.{◌≡◌, ◌<◌, ◌-◌, ◌^◌, [], ◌∷◌, ◌++◌, ◌+◌, IfOk, IfSome, length, map, if◌then◌else◌};
 ghost use Rattle.policy_model.specs.Asks.{opens};
 ghost use Rattle.session_laws.specs.Tied.{holder_after};
+ghost use Rattle.audit_check.specs.Following.{own_after};
 ghost use Rattle.audit_check.specs.Legal.{MayFollow};
-ghost use Rattle.audit_check.specs.History.{AreEmpty, AreReplied, IsKept, IsRenewed, IsReplyFor, first_hold, hold_after};
+ghost use Rattle.audit_check.specs.History.{AreEmpty, AreFollowed, AreIdle, AreReplied, IsKept, IsRenewed, IsReplyFor, first_hold, hold_after};
 
-use crate::reading::{accepts, leaves, moment, opens, reserves, takes, value};
+use crate::reading::{accepts, is_turn, leaves, moment, opens, reserves, takes, value};
 use crate::sessions::{login_of, user_named};
 use policy_model::{Account, Event, Setup};
 use request_catalogue::Name;
@@ -27,6 +28,8 @@ pub(crate) struct Hold {
 #[derive(Debug, Drop)]
 pub(crate) struct History {
     pub(crate) events: Vec<Event>,
+    /// By the workers' numbers: each worker's events from its last permitted opening or end on.
+    pub(crate) recent: Vec<Vec<Event>>,
     /// How many sessions were opened.
     pub(crate) opened: u32,
     /// By the accounts' numbers.
@@ -107,6 +110,25 @@ fn opened_after(opened: u32, event: &Event) -> u32
     if opens(event) { opened + 1 } else { opened }
 }
 
+/// A worker's events with one more, from its last permitted opening or end on.
+fn append(own: &mut Vec<Event>, event: Event) -> Result<(), AllocError>
+    ensures { IfOk result (λ done. own.new.items ≡ own_after event own.old.items) }
+{
+    if is_turn(&event) {
+        own.clear();
+    }
+    own.push(event)?;
+    Ok(())
+}
+
+/// The events of all workers with one more.
+fn follow(recent: &mut Vec<Vec<Event>>, event: Event) -> Result<(), AllocError>
+    requires { event.worker < length recent.old.items }
+    ensures { IfOk result (λ done. AreFollowed event recent.old.items recent.new.items) }
+{
+    append(&mut recent[event.worker as usize], event)
+}
+
 /// The hold of an account before the first event.
 fn first_hold(_account: &Account) -> Hold
     ensures { result ≡ first_hold _account.now }
@@ -141,6 +163,18 @@ fn no_replies(alloc: Global, count: usize) -> Result<Vec<Vec<u64>>, AllocError>
     Ok(replies)
 }
 
+/// The events of so many workers before the first event.
+fn no_events(alloc: Global, count: usize) -> Result<Vec<Vec<Event>>, AllocError>
+    ensures same { IfOk result (λ recent. length recent.items ≡ count) }
+    ensures none { IfOk result (λ recent. AreIdle recent.items) }
+{
+    let mut recent = Vec::with_capacity(alloc, count)?;
+    for _i in 0..count {
+        recent.push(Vec::new(alloc))?;
+    }
+    Ok(recent)
+}
+
 impl History {
     /// What is kept of a log without an event.
     ///
@@ -154,6 +188,7 @@ impl History {
         let accounts = setup.parts().accounts.as_slice();
         Ok(History {
             events: Vec::new(alloc),
+            recent: no_events(alloc, setup.workers() as usize)?,
             opened: 0,
             holds: first_holds(alloc, accounts)?,
             replies: no_replies(alloc, accounts.len())?,
@@ -163,6 +198,7 @@ impl History {
     /// The account of a permitted reply's user.
     fn account_of_reply(&self, setup: &Setup, event: &Event) -> Option<u32>
         requires kept { IsKept setup.now self.now }
+        requires worker { event.now.worker < length self.now.recent.items }
         requires next { MayFollow setup.now self.now.events.items event.now }
         ensures { IsReplyFor setup.now self.now.events.items event.now result }
     {
@@ -191,6 +227,7 @@ impl History {
         accept(&mut self.replies, account, value(&event.decision))?;
         settle(&mut self.holds, setup.parts().accounts.as_slice(), &event);
         self.opened = opened_after(self.opened, &event);
+        follow(&mut self.recent, event)?;
         self.events.push(event)?;
         Ok(())
     }

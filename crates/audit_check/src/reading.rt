@@ -2,6 +2,7 @@
 
 ghost use Rattle.std.specs.Prelude.{◌≡◌};
 ghost use Rattle.policy_model.specs.Asks.{accepts, challenge_name, ends_session, gives_up, is_reply, moment_of, opens, reserves, takes, value_of};
+ghost use Rattle.policy_model.specs.Journal.{is_turn_of};
 ghost use Rattle.session_laws.specs.Tied.{leaves};
 
 use policy_model::{Ask, Decision, Event};
@@ -49,6 +50,13 @@ pub(crate) fn opens(event: &Event) -> bool
     ensures { result ≡ opens event.now }
 {
     event.ask.is_begin() && event.decision.is_permit()
+}
+
+/// Whether an event is a permitted opening or end of its worker.
+pub(crate) fn is_turn(event: &Event) -> bool
+    ensures { result ≡ is_turn_of event.now.worker event.now }
+{
+    (event.ask.is_begin() || event.ask.is_end()) && event.decision.is_permit()
 }
 
 /// Whether an event takes a user: a permitted CHALLENGE.

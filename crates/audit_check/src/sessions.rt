@@ -1,50 +1,24 @@
-//! What a worker's open session did, by the events since it was opened.
+//! What a worker's open session did, by the worker's events since it was opened.
 
-ghost use Rattle.std.specs.Prelude.{◌≡◌, ◌≢◌, ◌≤◌, ◌&&◌, ◌==◌, Some, length, true, if◌then◌else◌};
+ghost use Rattle.std.specs.Prelude.{◌≡◌, ◌≢◌, ◌<◌, ◌&&◌, ◌==◌, Some, length, if◌then◌else◌};
 ghost use Rattle.policy_model.specs.Asks.{accepts, takes};
-ghost use Rattle.policy_model.specs.Journal.{is_own, is_turn_of, last_event, open_session_of};
+ghost use Rattle.policy_model.specs.Journal.{is_own, last_event, open_session_of};
 ghost use Rattle.policy_model.specs.Logins.{challenged_user, is_decoy, user_named, verified_user};
 ghost use Rattle.policy_model.specs.Settings.{Settings};
-ghost use Rattle.policy_model.specs.Verdict.{verdict_of};
-ghost use Rattle.audit_check.specs.Legal.{IsLegalLog};
-ghost use Rattle.audit_check.specs.Following.{IsRecent, IsTurnStart, is_local};
+ghost use Rattle.audit_check.specs.Following.{IsRecent};
+ghost use Rattle.audit_check.specs.History.{IsKept};
 
 use crate::history::History;
 use crate::reading::{DECOYS_FROM, accepts, challenge_name, takes, value};
 use policy_model::{Event, open_session};
 use request_catalogue::Name;
 
-/// Whether an event is a permitted opening or end of the worker.
-fn is_turn(event: &Event, worker: u32) -> bool
-    ensures { result ≡ is_turn_of worker event.now }
-{
-    event.worker == worker
-        && (event.ask.is_begin() || event.ask.is_end())
-        && event.decision.is_permit()
-}
-
-/// Where the worker's last permitted opening or end stands, or 0.
-fn turn_start(events: &[Event], worker: u32) -> usize
-    ensures start { IsTurnStart events.now worker result }
-    ensures within { result ≤ length events.now }
-{
-    let mut start = events.len();
-    while start > 0 && !is_turn(&events[start - 1], worker) {
-        start -= 1;
-    }
-    start.saturating_sub(1)
-}
-
-/// The events from the worker's last permitted opening or end on: all that its open session did, and
-/// what other sessions did meanwhile.
+/// The worker's events from its last permitted opening or end on: all that its open session did.
 pub(crate) fn recent(history: &History, worker: u32) -> &[Event]
-    ensures session { open_session_of result.now worker ≡ open_session_of history.now.events.items worker }
-    ensures own { (setup : Settings) → IsLegalLog setup history.now.events.items → IsRecent result.now worker history.now.events.items }
-    ensures verdict { (setup : Settings) (ask : _) → IsLegalLog setup history.now.events.items → is_local ask ≡ true →
-        verdict_of setup result.now worker ask ≡ verdict_of setup history.now.events.items worker ask }
+    requires { worker < length history.now.recent.items }
+    ensures { (setup : Settings) → IsKept setup history.now → IsRecent result.now worker history.now.events.items }
 {
-    let events = history.events.as_slice();
-    &events[turn_start(events, worker)..]
+    history.recent[worker as usize].as_slice()
 }
 
 /// The session's last permitted CHALLENGE, after one more event.
@@ -91,7 +65,8 @@ pub(crate) fn user_named(taking: &Option<Event>) -> Option<Name>
 
 /// The last permitted CHALLENGE of the worker's open session.
 pub(crate) fn login_of(history: &History, worker: u32) -> Option<Event>
-    ensures { (setup : Settings) → IsLegalLog setup history.now.events.items → open_session_of history.now.events.items worker ≢ 0 →
+    requires { worker < length history.now.recent.items }
+    ensures { (setup : Settings) → IsKept setup history.now → open_session_of history.now.events.items worker ≢ 0 →
         result ≡ last_event history.now.events.items (open_session_of history.now.events.items worker) takes }
 {
     let recent = recent(history, worker);

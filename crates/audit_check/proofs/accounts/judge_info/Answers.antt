@@ -11,5 +11,5 @@ returns c = λ some.
     (c.sequence_of.ensures
     ∙ ap (λ o. sequence_of c.args.history.now.events.items (account_named c.args.setup.now o))
     (c.verified_user-user.ensures
-    ∙ ap (verified_user c.recent-recent.result.now) (c.open_session.ensures ∙ c.recent-recent.ensures.session)
-    ∙ verified_is c.recent-recent.result.now c.args.history.now.events.items c.args.worker (c.recent-recent.ensures.own c.args.setup.now c.requires.legal) some))
+    ∙ ap (verified_user c.recent-recent.result.now) (c.open_session.ensures ∙ (c.recent-recent.ensures c.args.setup.now c.requires.kept).session)
+    ∙ verified_is c.recent-recent.result.now c.args.history.now.events.items c.args.worker (c.recent-recent.ensures c.args.setup.now c.requires.kept) some))

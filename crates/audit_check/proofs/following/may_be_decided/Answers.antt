@@ -9,7 +9,7 @@ pub returns-in-Permit : goal.returns-in-Permit
 returns-in-Permit c =
     c.permits.ensures
     ∙ permit_told c.args.setup.now c.args.history.now.events.items (open_session_of c.args.history.now.events.items c.args.event.now.worker) c.in-Permit.value c.login_of-taking.result
-    (c.login_of-taking.ensures c.args.setup.now c.requires.kept.legal (open_some c.args.setup.now c.args.history.now.events.items (open_session_of c.args.history.now.events.items c.args.event.now.worker) c.requires.open))
+    (c.login_of-taking.ensures c.args.setup.now c.requires.kept (open_some c.args.setup.now c.args.history.now.events.items (open_session_of c.args.history.now.events.items c.args.event.now.worker) c.requires.open))
     ∙ ap (may_be_decided c.args.setup.now c.args.history.now.events.items (open_session_of c.args.history.now.events.items c.args.event.now.worker)) (sym c.in-Permit.is)
 
 pub returns-in-Deny : goal.returns-in-Deny
@@ -17,5 +17,5 @@ returns-in-Deny c =
     c.may_be_denied.ensures
     ∙ ap (may_be_denied c.in-Deny.rule c.in-Deny.detail) c.is_decoy.ensures
     ∙ deny_told c.args.setup.now c.args.history.now.events.items (open_session_of c.args.history.now.events.items c.args.event.now.worker) c.in-Deny.rule c.in-Deny.detail c.login_of-taking.result
-    (c.login_of-taking.ensures c.args.setup.now c.requires.kept.legal (open_some c.args.setup.now c.args.history.now.events.items (open_session_of c.args.history.now.events.items c.args.event.now.worker) c.requires.open))
+    (c.login_of-taking.ensures c.args.setup.now c.requires.kept (open_some c.args.setup.now c.args.history.now.events.items (open_session_of c.args.history.now.events.items c.args.event.now.worker) c.requires.open))
     ∙ ap (may_be_decided c.args.setup.now c.args.history.now.events.items (open_session_of c.args.history.now.events.items c.args.event.now.worker)) (sym c.in-Deny.is)

@@ -4,12 +4,12 @@ use Rattle.audit_check.proofs.KeptLemmas.{begin_session}
 use Rattle.audit_check.proofs.following.session_after.Goals as goal
 
 pub returns-then-is_begin : goal.returns-then-is_begin
-returns-then-is_begin c =
-    c.opening_session.ensures
+returns-then-is_begin c = λ setup kept.
+    c.opening_session.ensures setup kept
     ∙ begin_session c.args.history.now.events.items c.args.event.now.worker c.args.event.now.ask c.args.event.now.decision (sym c.is_begin.ensures ∙ c.if-is_begin.true)
 
 pub returns-else-is_begin : goal.returns-else-is_begin
-returns-else-is_begin c =
+returns-else-is_begin c = λ setup kept.
     c.open_session.ensures
-    ∙ c.recent.ensures.session
+    ∙ (c.recent.ensures setup kept).session
     ∙ sym (session_of-other c.args.history.now.events.items c.args.event.now.worker c.args.event.now.ask c.args.event.now.decision (sym c.is_begin.ensures ∙ c.if-is_begin.false))

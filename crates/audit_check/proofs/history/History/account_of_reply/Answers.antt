@@ -9,7 +9,7 @@ returns-in-None c =
     let accepted : accepts c.args.event.now ≡ true = sym c.accepts.ensures ∙ c.if-not-accepts.false in
     nobody_for c.args.setup.now c.args.self.now.events.items c.args.event.now accepted
     (accepted_user c.args.setup.now c.args.self.now.events.items c.args.event.now c.requires.next accepted
-    ∙ ap user_named (sym (c.login_of.ensures c.args.setup.now c.requires.kept.legal (accepted_open c.args.setup.now c.args.self.now.events.items c.args.event.now c.requires.next accepted)))
+    ∙ ap user_named (sym (c.login_of.ensures c.args.setup.now c.requires.kept (accepted_open c.args.setup.now c.args.self.now.events.items c.args.event.now c.requires.next accepted)))
     ∙ sym c.user_named.ensures
     ∙ c.in-None.is)
 
@@ -18,7 +18,7 @@ returns-in-Some c =
     let accepted : accepts c.args.event.now ≡ true = sym c.accepts.ensures ∙ c.if-not-accepts.false in
     found_for c.args.setup.now c.args.self.now.events.items c.args.event.now c.in-Some.user c.find.result c.requires.kept.in_range accepted
     (accepted_user c.args.setup.now c.args.self.now.events.items c.args.event.now c.requires.next accepted
-    ∙ ap user_named (sym (c.login_of.ensures c.args.setup.now c.requires.kept.legal (accepted_open c.args.setup.now c.args.self.now.events.items c.args.event.now c.requires.next accepted)))
+    ∙ ap user_named (sym (c.login_of.ensures c.args.setup.now c.requires.kept (accepted_open c.args.setup.now c.args.self.now.events.items c.args.event.now c.requires.next accepted)))
     ∙ sym c.user_named.ensures
     ∙ c.in-Some.is)
     c.find.ensures

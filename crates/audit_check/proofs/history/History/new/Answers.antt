@@ -1,4 +1,4 @@
-use Rattle.std.proofs.Common.{◌≡◌, ◌∙◌, List, ap, arith, get_or, length, map, subst, sym}
+use Rattle.std.proofs.Common.{[], ◌≡◌, ◌∙◌, List, ap, arith, get_or, length, map, subst, sym}
 use Rattle.std.proofs.lemmas.List.{length-map}
 use Rattle.std.proofs.lemmas.Option.{slice_get_within}
 use Rattle.policy_model.specs.declared.event.Event.{Event}
@@ -7,10 +7,12 @@ use Rattle.policy_model.specs.Logins.{replies_of}
 use Rattle.policy_model.specs.Settings.{Settings}
 use Rattle.policy_model.proofs.LoginLemmas.{replies_of-none}
 use Rattle.audit_check.specs.declared.history.Hold.{Hold}
+use Rattle.audit_check.specs.Following.{IsRecent}
 use Rattle.audit_check.specs.History.{first_hold, hold_by}
 use Rattle.audit_check.specs.Legal.{IsLegalLog}
 use Rattle.audit_check.proofs.Fronts.{legal_none}
 use Rattle.audit_check.proofs.KeptLemmas.{first_told}
+use Rattle.audit_check.proofs.OwnEvents.{recent_none}
 use Rattle.audit_check.proofs.history.History.new.Goals as goal
 
 pub returns-clause-kept : goal.returns-clause-kept
@@ -21,6 +23,10 @@ returns-clause-kept c =
     record {
       in_range = c.parts.ensures.in_range;
       legal = subst (IsLegalLog c.args.setup.now) (sym c.new.ensures.items) (legal_none c.args.setup.now);
+      followed = c.in_ok-no_events.ensures.same ∙ c.workers.ensures.value;
+      recents = λ n d lt.
+          subst (IsRecent (get_or c.in_ok-no_events.field-0.items n d).items n) (sym c.new.ensures.items)
+          (subst (λ own. IsRecent own n []) (sym (c.in_ok-no_events.ensures.none n d lt)) (recent_none n));
       opened = sym (ap openings_of c.new.ensures.items);
       held = ap length holds ∙ length-map c.args.setup.now.accounts first_hold;
       holds = λ n account d stands.
