@@ -56,15 +56,10 @@ macro_rules! turn {
     };
 }
 
-/// The password that follows from a password: the MD5 of its eight bytes, folded to eight. The first byte is the
-/// most significant.
-pub fn step(password: u64) -> u64 {
-    let bytes = password.swap_bytes();
-    let mut words = [0u32; 16];
-    words[0] = bytes as u32;
-    words[1] = (bytes >> 32) as u32;
-    words[2] = 0x80;
-    words[14] = 64;
+/// The MD5 of a block that is the whole message with what stands behind it, folded to eight bytes. The first byte is
+/// the most significant.
+#[inline(always)]
+pub fn folded(words: [u32; 16]) -> u64 {
     let mut state = FIRST;
     turn!(state, words, 0);
     turn!(state, words, 1);
@@ -72,4 +67,15 @@ pub fn step(password: u64) -> u64 {
     turn!(state, words, 3);
     let [a, b, c, d] = [0, 1, 2, 3].map(|place| u64::from(FIRST[place].wrapping_add(state[place])));
     ((a | b << 32) ^ (c | d << 32)).swap_bytes()
+}
+
+/// The password that follows from a password: the MD5 of its eight bytes, folded to eight.
+pub fn step(password: u64) -> u64 {
+    let bytes = password.swap_bytes();
+    let mut words = [0u32; 16];
+    words[0] = bytes as u32;
+    words[1] = (bytes >> 32) as u32;
+    words[2] = 0x80;
+    words[14] = 64;
+    folded(words)
 }

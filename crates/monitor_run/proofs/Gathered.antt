@@ -23,9 +23,9 @@ use Rattle.session_turns.specs.Passes.{BookPass, IsHeldBy, IsPassAt, OpenedBy, O
 use Rattle.session_turns.proofs.Passes.{all_back}
 use Rattle.session_turns.proofs.Places.{own, places_by_events}
 use Rattle.turn_cell.specs.Facts.{AreAllPasses, AreNewPasses, CellFacts, first_pass}
-use Rattle.monitor_run.specs.Ran.{Ran, RunEnded, WorkerRan}
+use Rattle.monitor_run.specs.Ran.{PlansStay, Ran, RunEnded, WorkerRan}
 use Rattle.monitor_run.specs.Workers.{HasServed, IsDeskOf, IsReady}
-use Rattle.monitor_run.proofs.Workers.{fault_end, is_ready, no_fault_end, worker_ran}
+use Rattle.monitor_run.proofs.Workers.{PlanStays, fault_end, is_ready, no_fault_end, plan_stays, worker_ran}
 
 -- ---- the lists
 
@@ -192,6 +192,7 @@ module _ {W P : Type 0} (service : Service) (place : CellFacts (Option Opened)) 
     pub did : HasServed service place (pass a) (pass b) (end b) (scene (post a)) (scene (post b)) (faults (post a)) (faults (post b))
     pub first : pass a ≡ first_pass place worker
     pub fresh : IsFresh scene faults (post a)
+    pub post_was : (d : P) → slice_index_or (reverse (map post old)) worker d ≡ post a
     pub post_at : (d : P) → slice_index_or (reverse (map post new)) worker d ≡ post b
     pub pass_at : (d : BookPass) → slice_index_or (reverse (map pass new)) worker d ≡ pass b
     pub place_of : ℕ
@@ -217,6 +218,7 @@ module _ {W P : Type 0} (service : Service) (place : CellFacts (Option Opened)) 
         did = served.each j d j_old;
         first = sym (reversed_at pass old worker d (pass d) lt) ∙ served.passes_new.1 worker (pass d) (omega (arith, passes_old, lt));
         fresh = subst (IsFresh scene faults) (reversed_at post old worker d (post d) lt) (served.fresh worker (post d) (omega (arith, posts_old, lt)));
+        post_was = λ x. reversed_at post old worker d x lt;
         post_at = λ x. reversed_at post new worker d x lt_new ∙ ap (λ n. post (slice_index_or new n d)) j_is;
         pass_at = λ x. reversed_at pass new worker d x lt_new ∙ ap (λ n. pass (slice_index_or new n d)) j_is;
         place_of = j;
@@ -240,6 +242,17 @@ module _ {W P : Type 0} (service : Service) (place : CellFacts (Option Opened)) 
         let within : n < length old = omega (arith, lt, served.passes_new.0, passes_old) in
         let p = pair n within in
         (n, pass p.b, omega (arith, within, long), p.pass_at (pass p.b), p.did.number_is ∙ ap (λ (q : BookPass). q.number) p.first)
+
+  -- each post has the plan that it had
+  pub plans_stay : PlansStay scene (reverse (map post old)) (reverse (map post new))
+  plans_stay = record {
+    each = λ worker before after was is.
+        let lt : worker < length old = omega (arith, slice_get_within (reverse (map post old)) worker before was, length-reverse (map post old), length-map old post) in
+        let pr = pair worker lt in
+        let before_is : post pr.a ≡ before = sym (pr.post_was before) ∙ get_or_from_slice_get (reverse (map post old)) worker before before was in
+        let after_is : post pr.b ≡ after = sym (pr.post_at after) ∙ get_or_from_slice_get (reverse (map post new)) worker after after is in
+        subst (λ p. PlanStays (scene p) (scene after)) before_is (subst (λ p. PlanStays (scene (post pr.a)) (scene p)) after_is (plan_stays pr.did.story.sittings (last_of (end pr.b)) (scene (post pr.a)) (scene (post pr.b)) pr.did.story.are.played));
+  }
 
   -- all workers have run
   pub run_ended : (journal : List Event) → IsRun service.setup journal → place.passes ≡ service.setup.workers → All (IsHeldBy journal) (reverse (map pass new)) → RunEnded service (list_any (λ w. is_accept_fault (end w)) new) journal (reverse (map post new)) scene faults

@@ -36,6 +36,15 @@ story_told sittings last (Some b) (Some a) fresh played planned halted = record 
   halted = halted;
 }
 
+-- a post that tells keeps its plan
+abbrev pub PlanStays : Option Scene → Option Scene → Type 0
+PlanStays before after = Goes (λ b a. a.plan ≡ b.plan) before after
+
+pub plan_stays : (sittings : List Sitting) (last : LastAccept) (before after : Option Scene) → Goes (Played (story_acts sittings last) (map talk_of (parts_of sittings)) (map (λ part. part.unread) (parts_of sittings))) before after → PlanStays before after
+plan_stays sittings last before None played = tt
+plan_stays sittings last None (Some a) played = played
+plan_stays sittings last (Some b) (Some a) played = played.plan
+
 by_end : (connections : ℕ) (end : WorkerEnd) (sittings : List Sitting) (lost : ℕ) → last_of end ≡ Unasked → lost ≡ 0 → (end ≡ ends.AllServed → length sittings ≡ connections) → (end ≡ ends.LogLost → 1 ≤ lost) → length sittings ≡ connections
 by_end connections ends.AllServed sittings lost last none all some = all refl
 by_end connections ends.NoMore sittings lost last none all some = absurd cc

@@ -3,6 +3,7 @@ use Rattle.std.specs.Prelude.{◌≡◌, ◌≢◌, ℕ, ◌<◌, ◌≤◌, Boo
 use Rattle.std.specs.List.{AllByRecursion, flat_map}
 use Rattle.outside.specs.declared.faults.Faults.{Faults}
 use Rattle.outside.specs.Scene.{Scene}
+use Rattle.outside.specs.Told.{Goes}
 use Rattle.policy_model.specs.declared.event.Event.{Event}
 use Rattle.policy_model.specs.Asks.{is_lost}
 use Rattle.policy_model.specs.Journal.{Place}
@@ -34,3 +35,7 @@ pub record RunEnded {P : Type 0} (service : Service) (failed : Bool) (journal : 
   pub each : (worker : ℕ) (post : P) → slice_get posts worker ≡ Some post → (last : LastAccept) × (failed ≡ false → last ≢ AcceptFailed) × Ran service journal scene faults last worker post
   pub one : failed ≡ true → (worker : ℕ) × (post : P) × (slice_get posts worker ≡ Some post) × Ran service journal scene faults AcceptFailed worker post
   pub unbegun : (worker : ℕ) → length posts ≤ worker → worker_places journal worker ≡ []
+
+-- each post that tells has the plan that it had
+pub record PlansStay {P : Type 0} (scene : P → Option Scene) (before after : List P) : Type 0 where
+  pub each : (worker : ℕ) (old new : P) → slice_get before worker ≡ Some old → slice_get after worker ≡ Some new → Goes (λ b a. a.plan ≡ b.plan) (scene old) (scene new)

@@ -1,9 +1,10 @@
 -- The words of one command are those of no other.
-use Rattle.std.proofs.Common.{◌≡◌, ℕ, Bool, true, false, ◌&&◌, cond, map, List, [], ◌∷◌, Option, Some, None, refl, sym, ap, ◌∙◌}
+use Rattle.std.proofs.Common.{◌≡◌, ℕ, ◌≤◌, Bool, true, false, ◌&&◌, cond, leb, map, List, [], ◌∷◌, Option, Some, None, refl, sym, ap, subst, ◌∙◌}
 use Rattle.std.specs.Prelude.{◌≢◌, codes, option_and_then, option_map}
 use Rattle.std.specs.Bool.{then_some}
 use Rattle.std.specs.Char.{to_ascii_lowercase}
 use Rattle.std.specs.Str.{bytes_eq}
+use Rattle.std.proofs.lemmas.Bool.{and_parts, leb-true}
 use Rattle.std.proofs.lemmas.Slice.Eq.{bytes_eq-Decides}
 use Rattle.command_line.specs.Words.{plain_words}
 use Rattle.otp_hash.specs.Seeds.{is_seed_text}
@@ -11,9 +12,11 @@ use Rattle.otp_mode.specs.Words.{OtpParts, algo_named, is_number_word, number_of
 use Rattle.check_mode.specs.Words.{check_command}
 use Rattle.child_mode.specs.Words.{ChildParts, child_command}
 use Rattle.audit_mode.specs.Words.{AuditParts, audit_command}
+use Rattle.drill_mode.specs.Words.{drill_command, drill_number}
+use Rattle.text_line.specs.Reading.{decimal_of}
 use Rattle.otp_extended.specs.Commands.{RenewParts, renew_command}
 use Rattle.serve_mode.specs.Words.{Named, Source, serve_command}
-use Rattle.monitor_server.specs.Commands.{asks_audit, asks_check, asks_child, asks_otp, asks_renew, asks_serve}
+use Rattle.monitor_server.specs.Commands.{asks_audit, asks_check, asks_child, asks_drill, asks_otp, asks_renew, asks_serve}
 
 pub none-some : {A B : Type 0} (o : Option A) (a : A) → o ≡ None → o ≡ Some a → B
 none-some o a none some = absurd (let e : None ≡ Some a = sym none ∙ some in cc)
@@ -203,3 +206,95 @@ check_no_serve words setup asked = none_of (asks_serve words) (λ source is. non
 
 pub child_no_serve : (words : List (List ℕ)) (parts : ChildParts) → asks_child words ≡ Some parts → asks_serve words ≡ None
 child_no_serve words parts asked = none_of (asks_serve words) (λ source is. none-some (asks_child words) parts (serve_no_child words source is) asked)
+
+-- the words of `drill` are two
+record AreOfDrill (words : List (List ℕ)) : Type 0 where
+  pub mode : List ℕ
+  pub number : List ℕ
+  pub are : words ≡ mode ∷ number ∷ []
+  pub is : bytes_eq mode (codes "drill") ≡ true
+
+drill_words : (words : List (List ℕ)) (n : ℕ) → drill_command words ≡ Some n → AreOfDrill words
+drill_words [] n asked = none-some (drill_command []) n refl asked
+drill_words (mode ∷ []) n asked = none-some (drill_command (mode ∷ [])) n refl asked
+drill_words (mode ∷ number ∷ []) n asked = record { mode = mode; number = number; are = refl; is = go (bytes_eq mode (codes "drill")) asked } where
+  go : (b : Bool) → cond b (drill_number number) None ≡ Some n → b ≡ true
+  go true h = refl
+  go false h = absurd cc
+drill_words (mode ∷ number ∷ more ∷ rest) n asked = none-some (drill_command (mode ∷ number ∷ more ∷ rest)) n refl asked
+
+drill_no_otp_words : (words : List (List ℕ)) (n : ℕ) → drill_command words ≡ Some n → otp_command words ≡ None
+drill_no_otp_words words n asked = ap otp_command (drill_words words n asked).are
+
+drill_no_check_words : (words : List (List ℕ)) (n : ℕ) → drill_command words ≡ Some n → check_command words ≡ None
+drill_no_check_words words n asked =
+    let d = drill_words words n asked in
+    ap check_command d.are ∙ ap (λ b. then_some b d.number) (other_mode d.mode (codes "drill") (codes "check") d.is refl)
+
+drill_no_child_words : (words : List (List ℕ)) (n : ℕ) → drill_command words ≡ Some n → child_command words ≡ None
+drill_no_child_words words n asked =
+    let d = drill_words words n asked in
+    ap child_command d.are ∙ rw (other_mode d.mode (codes "drill") (codes "child-pre") d.is refl) refl
+
+drill_no_serve_words : (words : List (List ℕ)) (n : ℕ) → drill_command words ≡ Some n → serve_command words ≡ None
+drill_no_serve_words words n asked =
+    let d = drill_words words n asked in
+    ap serve_command d.are ∙ ap (λ b. then_some b (Named d.number)) (other_mode d.mode (codes "drill") (codes "serve") d.is refl)
+
+pub drill_no_password : (words : List (List ℕ)) (n : ℕ) → asks_drill words ≡ Some n → asks_otp words ≡ None
+drill_no_password = no_ask drill_command otp_command drill_no_otp_words
+
+pub drill_no_check : (words : List (List ℕ)) (n : ℕ) → asks_drill words ≡ Some n → asks_check words ≡ None
+drill_no_check = no_ask drill_command check_command drill_no_check_words
+
+pub drill_no_child : (words : List (List ℕ)) (n : ℕ) → asks_drill words ≡ Some n → asks_child words ≡ None
+drill_no_child = no_ask drill_command child_command drill_no_child_words
+
+pub drill_no_audit : (words : List (List ℕ)) (n : ℕ) → asks_drill words ≡ Some n → asks_audit words ≡ None
+drill_no_audit = no_ask drill_command audit_command (λ plain n asked. ap audit_command (drill_words plain n asked).are)
+
+pub drill_no_renew : (words : List (List ℕ)) (n : ℕ) → asks_drill words ≡ Some n → asks_renew words ≡ None
+drill_no_renew = no_ask drill_command renew_command (λ plain n asked. ap renew_command (drill_words plain n asked).are)
+
+pub drill_no_serve : (words : List (List ℕ)) (n : ℕ) → asks_drill words ≡ Some n → asks_serve words ≡ None
+drill_no_serve = no_ask drill_command serve_command drill_no_serve_words
+
+pub serve_no_drill : (words : List (List ℕ)) (source : Source) → asks_serve words ≡ Some source → asks_drill words ≡ None
+serve_no_drill words source asked = none_of (asks_drill words) (λ n is. none-some (asks_serve words) source (drill_no_serve words n is) asked)
+
+pub password_no_drill : (words : List (List ℕ)) (parts : OtpParts) → asks_otp words ≡ Some parts → asks_drill words ≡ None
+password_no_drill words parts asked = none_of (asks_drill words) (λ n is. none-some (asks_otp words) parts (drill_no_password words n is) asked)
+
+pub check_no_drill : (words : List (List ℕ)) (setup : List ℕ) → asks_check words ≡ Some setup → asks_drill words ≡ None
+check_no_drill words setup asked = none_of (asks_drill words) (λ n is. none-some (asks_check words) setup (drill_no_check words n is) asked)
+
+pub child_no_drill : (words : List (List ℕ)) (parts : ChildParts) → asks_child words ≡ Some parts → asks_drill words ≡ None
+child_no_drill words parts asked = none_of (asks_drill words) (λ n is. none-some (asks_child words) parts (drill_no_child words n is) asked)
+
+pub audit_no_drill : (words : List (List ℕ)) (parts : AuditParts) → asks_audit words ≡ Some parts → asks_drill words ≡ None
+audit_no_drill words parts asked = none_of (asks_drill words) (λ n is. none-some (asks_audit words) parts (drill_no_audit words n is) asked)
+
+pub renew_no_drill : (words : List (List ℕ)) (parts : RenewParts) → asks_renew words ≡ Some parts → asks_drill words ≡ None
+renew_no_drill words parts asked = none_of (asks_drill words) (λ n is. none-some (asks_renew words) parts (drill_no_renew words n is) asked)
+
+-- the number is from 1 to 64
+number_within : (o : Option ℕ) (n : ℕ) → option_and_then (λ m. then_some (leb 1 m && leb m 64) m) o ≡ Some n → (1 ≤ n) × (n ≤ 64)
+number_within None n is = absurd cc
+number_within (Some m) n is = go (leb 1 m && leb m 64) refl is where
+  go : (b : Bool) → (leb 1 m && leb m 64) ≡ b → then_some b m ≡ Some n → (1 ≤ n) × (n ≤ 64)
+  go true within same =
+      let e : m ≡ n = cc in
+      let both = and_parts (leb 1 m) (leb m 64) within in
+      subst (λ k. (1 ≤ k) × (k ≤ 64)) e (leb-true 1 m both.0, leb-true m 64 both.1)
+  go false within same = absurd cc
+
+drill_range : (words : List (List ℕ)) (n : ℕ) → drill_command words ≡ Some n → (1 ≤ n) × (n ≤ 64)
+drill_range words n asked =
+    let d = drill_words words n asked in
+    number_within (decimal_of d.number) n (ap (λ b. cond b (drill_number d.number) None) (sym d.is) ∙ ap drill_command (sym d.are) ∙ asked)
+
+pub drill_within : (words : List (List ℕ)) (n : ℕ) → asks_drill words ≡ Some n → (1 ≤ n) × (n ≤ 64)
+drill_within words n = go (plain_words words) where
+  go : (o : Option (List (List ℕ))) → option_and_then drill_command o ≡ Some n → (1 ≤ n) × (n ≤ 64)
+  go None asked = absurd cc
+  go (Some plain) asked = drill_range plain n asked

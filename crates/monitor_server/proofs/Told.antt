@@ -1,6 +1,7 @@
 -- What the statuses and the details of the modes tell.
 use Rattle.std.proofs.Common.{◌≡◌, ◌≢◌, ℕ, Bool, true, false, ◌&&◌, ◌||◌, List, [], ◌∷◌, Some, None, Result, Ok, Err, refl, sym, ap, subst, ◌∙◌, inl, inr, arith}
-use Rattle.std.specs.Prelude.{not, ◌==◌}
+use Rattle.std.specs.Prelude.{not, ◌==◌, Vec}
+use Rattle.std.specs.Global.{Global}
 use Rattle.std.specs.List.{list_any}
 use Rattle.command_line.specs.Words.{plain_words}
 use Rattle.otp_mode.specs.declared.fault.OtpFault.{OtpFault}
@@ -20,6 +21,10 @@ use Rattle.audit_check.specs.declared.answer.Audit.TheVariants as answers
 use Rattle.audit_mode.specs.declared.error.AuditError.{AuditError}
 use Rattle.audit_mode.specs.declared.error.AuditError.TheVariants as audit_errors
 use Rattle.audit_mode.specs.Outcome as audits
+use Rattle.policy_model.specs.declared.event.Event.{Event}
+use Rattle.drill_mode.specs.declared.error.DrillError.{DrillError}
+use Rattle.drill_mode.specs.declared.error.DrillError.TheVariants as drill_errors
+use Rattle.drill_mode.specs.Errors as drills
 use Rattle.otp_extended.specs.declared.renewal.Renewed.{Renewed}
 use Rattle.otp_extended.specs.declared.run.RenewalFault.TheVariants as renewal_faults
 use Rattle.renew_mode.specs.declared.error.RenewError.{RenewError}
@@ -75,6 +80,12 @@ renew_status (Err (renew_errors.NoRenewal (renewal_faults.Refused fault))) = ref
 renew_status (Err renew_errors.OutOfMemory) = refl
 renew_status (Err renew_errors.ReplaceFailed) = refl
 renew_status (Err renew_errors.SendFailed) = refl
+
+pub drill_status : (outcome : Result (Vec Event Global) DrillError) → IsModeStatus (drills.status_of outcome)
+drill_status (Ok journal) = refl
+drill_status (Err drill_errors.OutOfMemory) = refl
+drill_status (Err drill_errors.CeasedToTell) = refl
+drill_status (Err drill_errors.EndsFailed) = refl
 
 pub child_status : (outcome : ChildRun) → IsModeStatus (children.run_status outcome)
 child_status (runs.Ended ends.Done) = refl

@@ -18,6 +18,7 @@ use Rattle.check_mode.specs.Words.{check_command}
 use Rattle.child_mode.specs.Words.{ChildParts, child_command}
 use Rattle.audit_mode.specs.Outcome as audits
 use Rattle.audit_mode.specs.Words.{AuditParts, audit_command}
+use Rattle.drill_mode.specs.Words.{drill_command}
 use Rattle.otp_extended.specs.Commands.{RenewParts, renew_command}
 use Rattle.renew_mode.specs.Errors as renews
 use Rattle.renew_mode.specs.Outcome.{Spares}
@@ -27,12 +28,12 @@ use Rattle.serve_mode.specs.Words.{Plain, Source, serve_command}
 use Rattle.serve_mode.proofs.Promises.{not_served_tells, unserved_ended}
 use Rattle.monitor_server.specs.declared.report.Detail.{Detail}
 use Rattle.monitor_server.specs.declared.report.Detail.TheVariants.{Nothing}
-use Rattle.monitor_server.specs.Commands.{IsCommand, asks_audit, asks_check, asks_child, asks_otp, asks_renew, asks_serve}
-use Rattle.monitor_server.specs.Headline.{IsStatus, IsUnused, StatusHasCause}
-use Rattle.monitor_server.specs.Modes.{AuditRan, ChangesFiles, CheckRan, ChildRan, LeavesRest, PasswordRan, RenewRan, ServeRan, audit_detail, checked_detail, detail_of, renew_detail, serve_detail}
+use Rattle.monitor_server.specs.Commands.{IsCommand, asks_audit, asks_check, asks_child, asks_drill, asks_otp, asks_renew, asks_serve}
+use Rattle.monitor_server.specs.Headline.{IsStatus, IsUnserved, IsUnused, StatusHasCause}
+use Rattle.monitor_server.specs.Modes.{AuditRan, ChangesFiles, CheckRan, ChildRan, DrillRan, LeavesRest, PasswordRan, RenewRan, ServeRan, audit_detail, checked_detail, detail_of, renew_detail, serve_detail}
 use Rattle.monitor_server.specs.Whole.{Whole}
-use Rattle.monitor_server.proofs.Apart.{audit_no_check, audit_no_child, audit_no_password, audit_no_renew, audit_no_serve, check_no_child, check_no_password, check_no_serve, child_no_serve, none-some, password_no_child, password_no_serve, renew_no_check, renew_no_child, renew_no_password, renew_no_serve, serve_no_audit, serve_no_check, serve_no_child, serve_no_password, serve_no_renew, some_parts, spoken}
-use Rattle.monitor_server.proofs.Told.{IsModeStatus, audit_plain, audit_status, check_detail, check_status, child_status, detail-by, moded, password_detail, password_status, renew_plain, renew_status, serve_command_status, serve_plain, serve_status, served}
+use Rattle.monitor_server.proofs.Apart.{audit_no_check, audit_no_child, audit_no_drill, audit_no_password, audit_no_renew, audit_no_serve, check_no_child, check_no_drill, check_no_password, check_no_serve, child_no_drill, child_no_serve, drill_no_audit, drill_no_check, drill_no_child, drill_no_password, drill_no_renew, drill_no_serve, none-some, password_no_child, password_no_drill, password_no_serve, renew_no_check, renew_no_child, renew_no_drill, renew_no_password, renew_no_serve, serve_no_audit, serve_no_check, serve_no_child, serve_no_drill, serve_no_password, serve_no_renew, some_parts, spoken}
+use Rattle.monitor_server.proofs.Told.{IsModeStatus, audit_plain, audit_status, check_detail, check_status, child_status, detail-by, drill_status, moded, password_detail, password_status, renew_plain, renew_status, serve_command_status, serve_plain, serve_status, served}
 
 -- ---- the files that are changed
 
@@ -57,13 +58,14 @@ changes-renewed words parts status detail old new before after R P E asked ran u
 -- ---- all that is said of each command
 
 -- where nobody was served, and a mode ran
-moded-leaves : {F S E K P : Type 0} {words : List (List ℕ)} {status : ℕ} {detail : Detail} {journal : List Event} {posts : List P} {files_old files_new : F} {site_old site_new : S} {ends_old ends_new : E} {log_old log_new : K} → asks_serve words ≡ None → (asks_otp words ≡ None → asks_check words ≡ None → asks_audit words ≡ None → asks_renew words ≡ None → files_new ≡ files_old) → (asks_otp words ≡ None → asks_check words ≡ None → asks_child words ≡ None → asks_audit words ≡ None → asks_renew words ≡ None → ends_new ≡ ends_old) → site_new ≡ site_old → IsUnused log_old log_new journal posts → ((parts : OtpParts) → asks_otp words ≡ Some parts → parts.list ≡ None → files_new ≡ files_old) → ((status ≡ 3) ⊎ (status ≡ 9) × (asks_renew words ≡ None) → ends_new ≡ ends_old) → (asks_check words ≡ None → (status ≡ 4) ⊎ (status ≡ 5) → ends_new ≡ ends_old) → (status ≢ 4 → status ≢ 5 → status ≢ 14 → status ≢ 15 → detail ≡ Nothing) → LeavesRest words status detail files_old files_new site_old site_new ends_old ends_new log_old log_new journal posts
+moded-leaves : {F S E K P : Type 0} {words : List (List ℕ)} {status : ℕ} {detail : Detail} {journal : List Event} {posts : List P} {files_old files_new : F} {site_old site_new : S} {ends_old ends_new : E} {log_old log_new : K} → asks_serve words ≡ None → (asks_otp words ≡ None → asks_check words ≡ None → asks_audit words ≡ None → asks_renew words ≡ None → files_new ≡ files_old) → (asks_otp words ≡ None → asks_check words ≡ None → asks_child words ≡ None → asks_audit words ≡ None → asks_renew words ≡ None → asks_drill words ≡ None → ends_new ≡ ends_old) → site_new ≡ site_old → IsUnused log_old log_new journal posts → ((parts : OtpParts) → asks_otp words ≡ Some parts → parts.list ≡ None → files_new ≡ files_old) → ((status ≡ 3) ⊎ (status ≡ 9) × (asks_renew words ≡ None) → ends_new ≡ ends_old) → (asks_check words ≡ None → (status ≡ 4) ⊎ (status ≡ 5) → ends_new ≡ ends_old) → (status ≢ 4 → status ≢ 5 → status ≢ 14 → status ≢ 15 → detail ≡ Nothing) → LeavesRest words status detail files_old files_new site_old site_new ends_old ends_new log_old log_new journal posts
 moded-leaves {words = words} unserved files ends site unused unread silent unprinted plain = record {
   files = λ _. files;
   plain_setup = λ plain. none-some (asks_serve words) Plain unserved plain;
   ends = ends;
   site = λ _. site;
-  unserved = λ _. unused;
+  unserved = λ _. record { log = unused.log; workers = unused.workers };
+  eventless = λ _ _. unused.events;
   unread = unread;
   silent = silent;
   unprinted = unprinted;
@@ -86,12 +88,14 @@ module _ {F S E K P : Type 0} {words : List (List ℕ)} {forms : List Key} {stat
     child = record { ran = λ parts is. none-some (asks_child words) parts (serve_no_child words source asked) is };
     audit = record { ran = λ parts is. none-some (asks_audit words) parts (serve_no_audit words source asked) is };
     renew = record { ran = λ parts is. none-some (asks_renew words) parts (serve_no_renew words source asked) is };
+    drill = record { ran = λ number is. none-some (asks_drill words) number (serve_no_drill words source asked) is };
     leaves = record {
       files = λ none _ _ _ _. none-some (asks_serve words) source none asked;
       plain_setup = λ is. plain (once source Plain (sym asked ∙ is));
-      ends = λ _ _ _ _ _. ends;
+      ends = λ _ _ _ _ _ _. ends;
       site = λ none. none-some (asks_serve words) source none asked;
       unserved = λ none. none-some (asks_serve words) source none asked;
+      eventless = λ none _. none-some (asks_serve words) source none asked;
       unread = λ parts is _. none-some (asks_otp words) parts (serve_no_password words source asked) is;
       silent = λ _. ends;
       unprinted = λ _ _. ends;
@@ -123,7 +127,8 @@ module _ {F S E K P : Type 0} {words : List (List ℕ)} {forms : List Key} {stat
         child = record { ran = λ other is. none-some (asks_child words) other (password_no_child words parts asked) is };
         audit = record { ran = λ other is. none-some (asks_otp words) parts (audit_no_password words other is) asked };
         renew = record { ran = λ other is. none-some (asks_otp words) parts (renew_no_password words other is) asked };
-        leaves = moded-leaves (password_no_serve words parts asked) (λ none _ _ _. none-some (asks_otp words) parts none asked) (λ none _ _ _ _. none-some (asks_otp words) parts none asked) site unused (λ other is none. unread (ap (λ p. p.list) (some_parts parts other (sym asked ∙ is)) ∙ none)) (λ how. silent (three_or_nine how)) (λ _. at_list) (detail-by passwords.status_of detail_of ran.outcome status detail ran.status_is ran.detail_is (password_detail ran.outcome));
+        drill = record { ran = λ number is. none-some (asks_drill words) number (password_no_drill words parts asked) is };
+        leaves = moded-leaves (password_no_serve words parts asked) (λ none _ _ _. none-some (asks_otp words) parts none asked) (λ none _ _ _ _ _. none-some (asks_otp words) parts none asked) site unused (λ other is none. unread (ap (λ p. p.list) (some_parts parts other (sym asked ∙ is)) ∙ none)) (λ how. silent (three_or_nine how)) (λ _. at_list) (detail-by passwords.status_of detail_of ran.outcome status detail ran.status_is ran.detail_is (password_detail ran.outcome));
         changes = changes-none words status old new goes;
       }
 
@@ -144,7 +149,8 @@ module _ {F S E K P : Type 0} {words : List (List ℕ)} {forms : List Key} {stat
         child = record { ran = λ parts is. none-some (asks_child words) parts (check_no_child words setup asked) is };
         audit = record { ran = λ other is. none-some (asks_check words) setup (audit_no_check words other is) asked };
         renew = record { ran = λ other is. none-some (asks_check words) setup (renew_no_check words other is) asked };
-        leaves = moded-leaves (check_no_serve words setup asked) (λ _ none _ _. none-some (asks_check words) setup none asked) (λ _ none _ _ _. none-some (asks_check words) setup none asked) site unused (λ parts is _. none-some (asks_otp words) parts (check_no_password words setup asked) is) (λ how. silent (three_or_nine how)) (λ none _. none-some (asks_check words) setup none asked) (detail-by checks.status_of checked_detail ran.outcome status detail ran.status_is ran.detail_is (check_detail ran.outcome));
+        drill = record { ran = λ number is. none-some (asks_drill words) number (check_no_drill words setup asked) is };
+        leaves = moded-leaves (check_no_serve words setup asked) (λ _ none _ _. none-some (asks_check words) setup none asked) (λ _ none _ _ _ _. none-some (asks_check words) setup none asked) site unused (λ parts is _. none-some (asks_otp words) parts (check_no_password words setup asked) is) (λ how. silent (three_or_nine how)) (λ none _. none-some (asks_check words) setup none asked) (detail-by checks.status_of checked_detail ran.outcome status detail ran.status_is ran.detail_is (check_detail ran.outcome));
         changes = changes-none words status old new goes;
       }
 
@@ -165,7 +171,8 @@ module _ {F S E K P : Type 0} {words : List (List ℕ)} {forms : List Key} {stat
         };
         audit = record { ran = λ other is. none-some (asks_child words) parts (audit_no_child words other is) asked };
         renew = record { ran = λ other is. none-some (asks_child words) parts (renew_no_child words other is) asked };
-        leaves = moded-leaves (child_no_serve words parts asked) (λ _ _ _ _. files) (λ _ _ none _ _. none-some (asks_child words) parts none asked) site unused (λ _ _ _. files) (λ how. silent (three_or_nine how)) (λ _. no_file) (λ _ _ _ _. plain);
+        drill = record { ran = λ number is. none-some (asks_drill words) number (child_no_drill words parts asked) is };
+        leaves = moded-leaves (child_no_serve words parts asked) (λ _ _ _ _. files) (λ _ _ none _ _ _. none-some (asks_child words) parts none asked) site unused (λ _ _ _. files) (λ how. silent (three_or_nine how)) (λ _. no_file) (λ _ _ _ _. plain);
         changes = changes-none words status old new goes;
       }
 
@@ -186,7 +193,8 @@ module _ {F S E K P : Type 0} {words : List (List ℕ)} {forms : List Key} {stat
               inr (subst (λ p. AuditRan p status detail new before after ReadRose EndsRose) same ran);
         };
         renew = record { ran = λ other is. none-some (asks_renew words) other (audit_no_renew words parts asked) is };
-        leaves = moded-leaves (audit_no_serve words parts asked) (λ _ _ none _. none-some (asks_audit words) parts none asked) (λ _ _ _ none _. none-some (asks_audit words) parts none asked) site unused (λ other is _. none-some (asks_otp words) other (audit_no_password words parts asked) is) (λ how. silent (three_or_nine how)) (λ _. at_file) (detail-by audits.status_of audit_detail ran.outcome status detail ran.status_is ran.detail_is (audit_plain ran.outcome));
+        drill = record { ran = λ number is. none-some (asks_drill words) number (audit_no_drill words parts asked) is };
+        leaves = moded-leaves (audit_no_serve words parts asked) (λ _ _ none _. none-some (asks_audit words) parts none asked) (λ _ _ _ none _ _. none-some (asks_audit words) parts none asked) site unused (λ other is _. none-some (asks_otp words) other (audit_no_password words parts asked) is) (λ how. silent (three_or_nine how)) (λ _. at_file) (detail-by audits.status_of audit_detail ran.outcome status detail ran.status_is ran.detail_is (audit_plain ran.outcome));
         changes = changes-none words status old new goes;
       }
 
@@ -196,7 +204,7 @@ module _ {F S E K P : Type 0} {words : List (List ℕ)} {forms : List Key} {stat
       let status_is = sym ran.status_is in
       let of : IsModeStatus status = subst IsModeStatus status_is (renew_status ran.outcome) in
       record {
-        causes = moded words status (inr (inr (inr (inr (inr (parts, asked)))))) (spoken renew_command words parts asked) of;
+        causes = moded words status (inr (inr (inr (inr (inr (inl (parts, asked))))))) (spoken renew_command words parts asked) of;
         serve = record { ran = λ source is. none-some (asks_serve words) source (renew_no_serve words parts asked) is };
         password = record { ran = λ other is. none-some (asks_otp words) other (renew_no_password words parts asked) is };
         check = record { ran = λ setup is. none-some (asks_check words) setup (renew_no_check words parts asked) is };
@@ -207,12 +215,45 @@ module _ {F S E K P : Type 0} {words : List (List ℕ)} {forms : List Key} {stat
               let same : parts ≡ other = (let e : Some parts ≡ Some other = sym asked ∙ is in cc) in
               inr (subst (λ p. RenewRan p status detail old new before after ReadRose ReplaceRose EndsRose) same ran);
         };
-        leaves = moded-leaves (renew_no_serve words parts asked) (λ _ _ _ none. none-some (asks_renew words) parts none asked) (λ _ _ _ _ none. none-some (asks_renew words) parts none asked) site unused (λ other is _. none-some (asks_otp words) other (renew_no_password words parts asked) is) silent (λ _ how. at_files (inr how)) (detail-by renews.status_of renew_detail ran.outcome status detail ran.status_is ran.detail_is (renew_plain ran.outcome));
+        drill = record { ran = λ number is. none-some (asks_drill words) number (renew_no_drill words parts asked) is };
+        leaves = moded-leaves (renew_no_serve words parts asked) (λ _ _ _ none. none-some (asks_renew words) parts none asked) (λ _ _ _ _ none _. none-some (asks_renew words) parts none asked) site unused (λ other is _. none-some (asks_otp words) other (renew_no_password words parts asked) is) silent (λ _ how. at_files (inr how)) (detail-by renews.status_of renew_detail ran.outcome status detail ran.status_is ran.detail_is (renew_plain ran.outcome));
         changes = changes-renewed words parts status detail old new before after ReadRose ReplaceRose EndsRose asked ran (renew_no_serve words parts asked);
       } where
         silent : (status ≡ 3) ⊎ (status ≡ 9) × (asks_renew words ≡ None) → ends_new ≡ ends_old
         silent (inl three) = at_files (inl three)
         silent (inr nine) = none-some (asks_renew words) parts nine.1 asked
+
+  pub whole-drilled : (number : ℕ) → asks_drill words ≡ Some number → DrillRan number status journal before after EndsRose → detail ≡ Nothing → log_new ≡ log_old → posts ≡ [] → ((status ≡ 3) ⊎ (status ≡ 9) → ends_new ≡ ends_old) → ((status ≡ 4) ⊎ (status ≡ 5) → ends_new ≡ ends_old) → files_new ≡ files_old → site_new ≡ site_old → Goes SameFiles old new
+      → Whole words forms status detail journal posts scene faults files_old files_new site_old site_new ends_old ends_new log_old log_new old new before after listens_old listens_new held_old held_new ReadRose ReplaceRose ListenRose LogRose EndsRose
+  whole-drilled number asked ran plain log workers silent no_file files site goes =
+      let of : IsModeStatus status = subst IsModeStatus (sym ran.status_is) (drill_status ran.outcome) in
+      record {
+        causes = moded words status (inr (inr (inr (inr (inr (inr (number, asked))))))) (spoken drill_command words number asked) of;
+        serve = record { ran = λ source is. none-some (asks_serve words) source (drill_no_serve words number asked) is };
+        password = record { ran = λ parts is. none-some (asks_otp words) parts (drill_no_password words number asked) is };
+        check = record { ran = λ setup is. none-some (asks_check words) setup (drill_no_check words number asked) is };
+        child = record { ran = λ parts is. none-some (asks_child words) parts (drill_no_child words number asked) is };
+        audit = record { ran = λ parts is. none-some (asks_audit words) parts (drill_no_audit words number asked) is };
+        renew = record { ran = λ parts is. none-some (asks_renew words) parts (drill_no_renew words number asked) is };
+        drill = record {
+          ran = λ other is.
+              let same : number ≡ other = (let e : Some number ≡ Some other = sym asked ∙ is in cc) in
+              inr (subst (λ n. DrillRan n status journal before after EndsRose) same ran);
+        };
+        leaves = record {
+          files = λ _ _ _ _ _. files;
+          plain_setup = λ _. files;
+          ends = λ _ _ _ _ _ none. none-some (asks_drill words) number none asked;
+          site = λ _. site;
+          unserved = λ _. record { log = log; workers = workers };
+          eventless = λ _ none. none-some (asks_drill words) number none asked;
+          unread = λ _ _ _. files;
+          silent = λ how. silent (three_or_nine how);
+          unprinted = λ _. no_file;
+          plain = λ _ _ _ _. plain;
+        };
+        changes = changes-none words status old new goes;
+      }
 
   -- nothing was done
   pub whole-nothing : StatusHasCause words status → (status ≡ 9) ⊎ (IsCommand words → ⊥) → detail ≡ Nothing → IsUnused log_old log_new journal posts → held_new ≡ held_old → files_new ≡ files_old → site_new ≡ site_old → ends_new ≡ ends_old → Goes SameFiles old new → listens_new ≡ listens_old
@@ -224,13 +265,15 @@ module _ {F S E K P : Type 0} {words : List (List ℕ)} {forms : List Key} {stat
     check = record { ran = λ setup asked. ran why (inr (inr (inl (setup, asked)))) };
     child = record { ran = λ parts asked. ran why (inr (inr (inr (inl (parts, asked))))) };
     audit = record { ran = λ parts asked. ran why (inr (inr (inr (inr (inl (parts, asked)))))) };
-    renew = record { ran = λ parts asked. ran why (inr (inr (inr (inr (inr (parts, asked)))))) };
+    renew = record { ran = λ parts asked. ran why (inr (inr (inr (inr (inr (inl (parts, asked))))))) };
+    drill = record { ran = λ number asked. ran why (inr (inr (inr (inr (inr (inr (number, asked))))))) };
     leaves = record {
       files = λ _ _ _ _ _. files;
       plain_setup = λ _. files;
-      ends = λ _ _ _ _ _. ends;
+      ends = λ _ _ _ _ _ _. ends;
       site = λ _. site;
-      unserved = λ _. unused;
+      unserved = λ _. record { log = unused.log; workers = unused.workers };
+      eventless = λ _ _. unused.events;
       unread = λ _ _ _. files;
       silent = λ _. ends;
       unprinted = λ _ _. ends;

@@ -8,6 +8,7 @@ use Rattle.child_mode.specs.Commands.{parts_of}
 use Rattle.child_mode.specs.Words.{ChildParts, child_command}
 use Rattle.audit_mode.specs.Commands as audits
 use Rattle.audit_mode.specs.Words.{AuditParts, audit_command}
+use Rattle.drill_mode.specs.Words.{drill_command}
 use Rattle.otp_extended.specs.Commands as renewals
 use Rattle.otp_extended.specs.Commands.{RenewParts, renew_command}
 use Rattle.serve_mode.specs.Commands.{source_of}
@@ -41,9 +42,13 @@ asks_audit words = option_and_then audit_command (plain_words words)
 abbrev pub asks_renew : List (List ℕ) → Option RenewParts
 asks_renew words = option_and_then renew_command (plain_words words)
 
--- the words of a command: those of the modes `serve`, `otp` and `check`, of the children's, and of `audit` and `renew`
+-- the number whose drill the words ask for, where none begins with a hyphen
+abbrev pub asks_drill : List (List ℕ) → Option ℕ
+asks_drill words = option_and_then drill_command (plain_words words)
+
+-- the words of a command: those of the modes `serve`, `otp` and `check`, of the children's, and of `audit`, `renew` and `drill`
 abbrev pub IsCommand : List (List ℕ) → Type 0
-IsCommand words = ((source : Source) × (asks_serve words ≡ Some source)) ⊎ ((parts : OtpParts) × (asks_otp words ≡ Some parts)) ⊎ ((setup : List ℕ) × (asks_check words ≡ Some setup)) ⊎ ((parts : ChildParts) × (asks_child words ≡ Some parts)) ⊎ ((parts : AuditParts) × (asks_audit words ≡ Some parts)) ⊎ ((parts : RenewParts) × (asks_renew words ≡ Some parts))
+IsCommand words = ((source : Source) × (asks_serve words ≡ Some source)) ⊎ ((parts : OtpParts) × (asks_otp words ≡ Some parts)) ⊎ ((setup : List ℕ) × (asks_check words ≡ Some setup)) ⊎ ((parts : ChildParts) × (asks_child words ≡ Some parts)) ⊎ ((parts : AuditParts) × (asks_audit words ≡ Some parts)) ⊎ ((parts : RenewParts) × (asks_renew words ≡ Some parts)) ⊎ ((number : ℕ) × (asks_drill words ≡ Some number))
 
 -- what a mode's word and the words behind it are read as
 abbrev pub IsMeant : List (List ℕ) → Option Command → Type 0
@@ -53,7 +58,8 @@ IsMeant words (Some (commands.Check setup)) = check_command words ≡ Some setup
 IsMeant words (Some (commands.Child command)) = child_command words ≡ Some (parts_of command)
 IsMeant words (Some (commands.Audit command)) = audit_command words ≡ Some (audits.command_parts command)
 IsMeant words (Some (commands.Renew command)) = renew_command words ≡ Some (renewals.command_parts command)
-IsMeant words None = (serve_command words ≡ None) × (otp_command words ≡ None) × (check_command words ≡ None) × (child_command words ≡ None) × (audit_command words ≡ None) × (renew_command words ≡ None)
+IsMeant words (Some (commands.Drill number)) = drill_command words ≡ Some number
+IsMeant words None = (serve_command words ≡ None) × (otp_command words ≡ None) × (check_command words ≡ None) × (child_command words ≡ None) × (audit_command words ≡ None) × (renew_command words ≡ None) × (drill_command words ≡ None)
 
 -- what the words of a command line are read as; want of memory comes only where none begins with a hyphen
 abbrev pub IsReading : List (List ℕ) → Result Command Unread → Type 0
@@ -63,5 +69,6 @@ IsReading words (Ok (commands.Check setup)) = asks_check words ≡ Some setup.no
 IsReading words (Ok (commands.Child command)) = asks_child words ≡ Some (parts_of command)
 IsReading words (Ok (commands.Audit command)) = asks_audit words ≡ Some (audits.command_parts command)
 IsReading words (Ok (commands.Renew command)) = asks_renew words ≡ Some (renewals.command_parts command)
+IsReading words (Ok (commands.Drill number)) = asks_drill words ≡ Some number
 IsReading words (Err unread.NoCommand) = IsCommand words → ⊥
 IsReading words (Err unread.OutOfMemory) = plain_words words ≢ None

@@ -5,6 +5,11 @@ use Rattle.command_line.specs.Words.{plain_words}
 use Rattle.policy_model.specs.declared.event.Event.{Event}
 use Rattle.monitor_server.specs.Commands.{IsCommand, asks_serve}
 
+-- nobody was served: there is no post, and the log is as it was
+pub record IsUnserved {P K : Type 0} (before after : K) (posts : List P) : Type 0 where
+  pub log : after ≡ before
+  pub workers : posts ≡ []
+
 -- nothing was used: no event, no post, and the log is as it was
 pub record IsUnused {P K : Type 0} (before after : K) (journal : List Event) (posts : List P) : Type 0 where
   pub log : after ≡ before

@@ -1,5 +1,6 @@
 -- Believed: what each mode promises, and what it leaves as it was.
-use Rattle.std.specs.Prelude.{◌≡◌, ◌≢◌, ◌⊎◌, ℕ, List, [], Option, Some, None, Result, Ok, Err}
+use Rattle.std.specs.Prelude.{◌≡◌, ◌≢◌, ◌⊎◌, ℕ, List, [], Option, Some, None, Result, Ok, Err, Vec}
+use Rattle.std.specs.Global.{Global}
 use Rattle.info_hooks.specs.declared.key.Key.{Key}
 use Rattle.outside.specs.declared.faults.Faults.{Faults}
 use Rattle.outside.specs.declared.place.Place.{Place as SitePlace}
@@ -33,6 +34,9 @@ use Rattle.audit_mode.specs.declared.error.AuditError.{AuditError}
 use Rattle.audit_mode.specs.declared.error.AuditError.TheVariants as audit_errors
 use Rattle.audit_mode.specs.Outcome as audits
 use Rattle.audit_mode.specs.Words.{AuditParts}
+use Rattle.drill_mode.specs.declared.error.DrillError.{DrillError}
+use Rattle.drill_mode.specs.Errors as drill_errors
+use Rattle.drill_mode.specs.Outcome as drills
 use Rattle.otp_extended.specs.declared.renewal.Renewed.{Renewed}
 use Rattle.otp_extended.specs.declared.run.RenewalFault.TheVariants as renewal_faults
 use Rattle.otp_extended.specs.Commands.{RenewParts}
@@ -43,8 +47,8 @@ use Rattle.renew_mode.specs.Outcome as renews
 use Rattle.monitor_server.specs.declared.report.Detail.{Detail}
 use Rattle.monitor_server.specs.declared.report.Detail.TheVariants.{AuditNo, Missing, Nothing, RenewBad, SetupBad, WordsBad}
 use Rattle.monitor_server.specs.declared.report.FileKind.TheVariants.{Log, Setup, Words}
-use Rattle.monitor_server.specs.Commands.{asks_audit, asks_check, asks_child, asks_otp, asks_renew, asks_serve}
-use Rattle.monitor_server.specs.Headline.{IsUnused}
+use Rattle.monitor_server.specs.Commands.{asks_audit, asks_check, asks_child, asks_drill, asks_otp, asks_renew, asks_serve}
+use Rattle.monitor_server.specs.Headline.{IsUnserved}
 
 -- what is missing or refused of what a run serves by
 abbrev pub serve_detail : Result (Unit {0}) ServeError → Detail
@@ -161,6 +165,22 @@ pub record RenewRan (parts : RenewParts) (status : ℕ) (detail : Detail) (old n
 pub record RenewMode (words : List (List ℕ)) (status : ℕ) (detail : Detail) (old new : Option Contents) (before after : Option Link) (ReadFailed ReplaceFailed EndsFailed : Type 0) : Type 0 where
   pub ran : (parts : RenewParts) → asks_renew words ≡ Some parts → (status ≡ 9) ⊎ RenewRan parts status detail old new before after ReadFailed ReplaceFailed EndsFailed
 
+-- the journal that is given of a drill
+abbrev pub drilled_journal : Result (Vec Event Global) DrillError → List Event
+drilled_journal (Ok journal) = journal.items
+drilled_journal (Err _) = []
+
+-- the mode `drill` came to an outcome that the ends account for, and that is told by the status; its journal is given
+pub record DrillRan (number : ℕ) (status : ℕ) (journal : List Event) (before after : Option Link) (EndsFailed : Type 0) : Type 0 where
+  pub outcome : Result (Vec Event Global) DrillError
+  pub status_is : status ≡ drill_errors.status_of outcome
+  pub journal_is : journal ≡ drilled_journal outcome
+  pub cause : drills.IsOutcome number before after EndsFailed outcome
+
+-- where the words are those of the mode `drill`, it ran, unless memory was wanted for them
+pub record DrillMode (words : List (List ℕ)) (status : ℕ) (journal : List Event) (before after : Option Link) (EndsFailed : Type 0) : Type 0 where
+  pub ran : (number : ℕ) → asks_drill words ≡ Some number → (status ≡ 9) ⊎ DrillRan number status journal before after EndsFailed
+
 -- no mode but `renew` and `serve` changes a file; `renew` at most the setup's that its words name, and with other statuses than 0, 8
 -- and 11 none; what `serve` changes its own promises tell
 pub record ChangesFiles (words : List (List ℕ)) (status : ℕ) (old new : Option Contents) : Type 0 where
@@ -169,15 +189,16 @@ pub record ChangesFiles (words : List (List ℕ)) (status : ℕ) (old new : Opti
   pub unwritten : asks_serve words ≡ None → status ≢ 0 → status ≢ 8 → status ≢ 11 → Goes SameFiles old new
 
 -- what a mode doesn't use it leaves as it was: all but `serve`, `otp`, `check`, `audit` and `renew` the files, all but `otp`, `check`,
--- `audit`, `renew` and the children's the ends, all but `serve` the site, the log and the posts; `serve` leaves the files where it
+-- `audit`, `renew`, `drill` and the children's the ends, all but `serve` the site, the log and the posts, and all but `serve` and `drill` the journal; `serve` leaves the files where it
 -- serves by the plain setup, and `otp` where the words name no list; with 3 nothing was received or sent, with 9 only by `renew`,
 -- and with 4 and 5 only by `check`; the detail tells of 4, 5, 14 and 15 alone
 pub record LeavesRest {F S E K P : Type 0} (words : List (List ℕ)) (status : ℕ) (detail : Detail) (files_old files_new : F) (site_old site_new : S) (ends_old ends_new : E) (log_old log_new : K) (journal : List Event) (posts : List P) : Type 0 where
   pub files : asks_serve words ≡ None → asks_otp words ≡ None → asks_check words ≡ None → asks_audit words ≡ None → asks_renew words ≡ None → files_new ≡ files_old
   pub plain_setup : asks_serve words ≡ Some Plain → files_new ≡ files_old
-  pub ends : asks_otp words ≡ None → asks_check words ≡ None → asks_child words ≡ None → asks_audit words ≡ None → asks_renew words ≡ None → ends_new ≡ ends_old
+  pub ends : asks_otp words ≡ None → asks_check words ≡ None → asks_child words ≡ None → asks_audit words ≡ None → asks_renew words ≡ None → asks_drill words ≡ None → ends_new ≡ ends_old
   pub site : asks_serve words ≡ None → site_new ≡ site_old
-  pub unserved : asks_serve words ≡ None → IsUnused log_old log_new journal posts
+  pub unserved : asks_serve words ≡ None → IsUnserved log_old log_new posts
+  pub eventless : asks_serve words ≡ None → asks_drill words ≡ None → journal ≡ []
   pub unread : (parts : OtpParts) → asks_otp words ≡ Some parts → parts.list ≡ None → files_new ≡ files_old
   pub silent : (status ≡ 3) ⊎ (status ≡ 9) × (asks_renew words ≡ None) → ends_new ≡ ends_old
   pub unprinted : asks_check words ≡ None → (status ≡ 4) ⊎ (status ≡ 5) → ends_new ≡ ends_old

@@ -8,6 +8,7 @@ use audit_mode::{AuditCommand, read_audit_command};
 use check_mode::read_check_command;
 use child_mode::{ChildCommand, read_child_command};
 use command_line::read_command_line;
+use drill_mode::read_drill_command;
 use otp_extended::{RenewCommand, read_renew_command};
 use otp_mode::{OtpCommand, read_otp_command};
 use outside::Word;
@@ -29,6 +30,8 @@ pub enum Command<'a> {
     Audit(AuditCommand<'a>),
     /// To renew a user's chain of passwords.
     Renew(RenewCommand<'a>),
+    /// To run the drill of this number, from 1 to 64.
+    Drill(u32),
 }
 
 /// Why words were not read as a command.
@@ -77,8 +80,11 @@ fn command_of<'a>(mode: &str, further: &[&'a str]) -> Option<Command<'a>>
     if let Some(command) = read_audit_command(mode, further) {
         return Some(Command::Audit(command));
     }
-    match read_renew_command(mode, further) {
-        Some(command) => Some(Command::Renew(command)),
+    if let Some(command) = read_renew_command(mode, further) {
+        return Some(Command::Renew(command));
+    }
+    match read_drill_command(mode, further) {
+        Some(number) => Some(Command::Drill(number)),
         None => None,
     }
 }

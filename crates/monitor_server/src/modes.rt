@@ -1,6 +1,6 @@
 //! The modes.
 
-ghost use Rattle.std.specs.Prelude.{◌≡◌, ◌⊎◌, None};
+ghost use Rattle.std.specs.Prelude.{◌≡◌, ◌⊎◌, ◌≤◌, [], None};
 ghost use Rattle.outside.specs.Files.{SameFiles};
 ghost use Rattle.outside.specs.Told.{Goes, Rose};
 ghost use Rattle.otp_mode.specs.Command.{command_parts};
@@ -11,13 +11,14 @@ ghost use Rattle.monitor_server.specs.declared.report.Detail.TheVariants.{Nothin
 ghost use Rattle.monitor_server.specs.Headline.{IsUnused};
 ghost use Rattle.serve_mode.specs.Commands as serves;
 ghost use Rattle.serve_mode.specs.Words.{Plain};
-ghost use Rattle.monitor_server.specs.Modes.{AuditRan, CheckRan, ChildRan, PasswordRan, RenewRan, ServeRan, audit_detail, fault_detail, finding_detail, renew_detail, serve_detail};
+ghost use Rattle.monitor_server.specs.Modes.{AuditRan, CheckRan, ChildRan, DrillRan, PasswordRan, RenewRan, ServeRan, audit_detail, fault_detail, finding_detail, renew_detail, serve_detail};
 
 use crate::report::{Detail, FileKind, Report, unused};
 use audit_check::Audit;
 use audit_mode::{AuditCommand, AuditError, run_audit};
 use check_mode::{Finding, run_check};
 use child_mode::{ChildCommand, run_child_mode};
+use drill_mode::run_drill;
 use otp_extended::{RenewCommand, RenewalFault, Renewed};
 use otp_mode::{OtpCommand, OtpFault, run_otp};
 use outside::{Files, Sink, Site, Stream};
@@ -249,5 +250,37 @@ fn renew_detail(outcome: Result<Renewed, RenewError>) -> Detail
         Err(RenewError::WordsRefused(fault)) => Detail::WordsBad(fault),
         Err(RenewError::NoRenewal(RenewalFault::Refused(fault))) => Detail::RenewBad(fault),
         _ => Detail::Nothing,
+    }
+}
+
+/// Runs the drill of a number, from 1 to 64, and tells the counts of its journal.
+pub(crate) fn play_drill<P, K, E: Stream, R: Threads + Wait + Sync>(
+    rt: &R,
+    alloc: Global,
+    number: u32,
+    log: K,
+    ends: &mut E,
+) -> Report<P, K>
+    requires low { 1 ≤ number }
+    requires high { number ≤ 64 }
+    ensures drill { DrillRan number result.status result.journal.items (E.link ends.old) (E.link ends.new) (Rose (E.faults ends.old) (E.faults ends.new)) }
+    ensures detail { result.detail ≡ Nothing }
+    ensures log { result.log ≡ log }
+    ensures posts { result.posts.items ≡ [] }
+    ensures silent { (result.status ≡ 3) ⊎ (result.status ≡ 9) → ends.new ≡ ends.old }
+    ensures no_file { (result.status ≡ 4) ⊎ (result.status ≡ 5) → ends.new ≡ ends.old }
+{
+    let outcome = run_drill(rt, alloc, number, ends);
+    let status = drill_mode::status(&outcome);
+    let journal = match outcome {
+        Ok(journal) => journal,
+        Err(_) => Vec::new(alloc),
+    };
+    Report {
+        status,
+        detail: Detail::Nothing,
+        journal,
+        log,
+        posts: Vec::new(alloc),
     }
 }

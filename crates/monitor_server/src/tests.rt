@@ -15,6 +15,7 @@ use std::sync::Wait;
 use std::test::Fail as Fault;
 use std::thread::Threads;
 
+mod drills;
 mod offline;
 
 /// The child before the login of the first session.
@@ -365,7 +366,7 @@ check -x
 check a b
 otp md5 -x TeSt
 otp md5 1 TeSt -x
-drill 7
+drills 7
 child-pre
 child-pre 01
 child-pre 262145

@@ -2,11 +2,13 @@
 
 ghost use Rattle.outside.specs.Told.{Rose};
 ghost use Rattle.monitor_server.specs.Headline.{StatusHasCause};
-ghost use Rattle.monitor_server.specs.Modes.{AuditMode, ChangesFiles, CheckMode, ChildMode, LeavesRest, PasswordMode, RenewMode, ServeMode};
+ghost use Rattle.monitor_server.specs.Modes.{AuditMode, ChangesFiles, CheckMode, ChildMode, DrillMode, LeavesRest, PasswordMode, RenewMode, ServeMode};
 ghost use Rattle.monitor_server.specs.Whole.{Whole};
 
 use crate::command::{Command, Unread, read_command};
-use crate::modes::{audit_log, check_setup, print_password, renew_account, run_child, serve_setup};
+use crate::modes::{
+    audit_log, check_setup, play_drill, print_password, renew_account, run_child, serve_setup,
+};
 use crate::report::{Detail, NO_MEMORY, Report, unused};
 use outside::{Files, Sink, Site, Stream, Word};
 use service_reading::Information;
@@ -46,6 +48,7 @@ fn run_command<
         Ok(Command::Child(command)) => run_child(alloc, &command, log, ends),
         Ok(Command::Audit(command)) => audit_log(alloc, &command, files, log, ends),
         Ok(Command::Renew(command)) => renew_account(alloc, &command, files, log, ends),
+        Ok(Command::Drill(number)) => play_drill(rt, alloc, number, log, ends),
         Err(Unread::NoCommand) => unused(alloc, NO_COMMAND, Detail::Nothing, log),
         Err(Unread::OutOfMemory) => unused(alloc, NO_MEMORY, Detail::Nothing, log),
     }
@@ -66,7 +69,9 @@ fn run_command<
 ///   monitor with that setup could have written;
 /// - `renew SETUP NAME` takes the first line that `ends` gives as a response of RFC 2243, writes the
 ///   new chain of that user's passwords into the setup's file, and sends to `ends` one line that says
-///   so. No monitor may run with that file meanwhile.
+///   so. No monitor may run with that file meanwhile;
+/// - `drill N` runs four workers in memory through sessions that are made of that number, from 1 to 64,
+///   by the same run as `serve`, gives their journal and sends its counts to `ends`.
 ///
 /// Other words are no command, and neither are those of which one begins with `-`.
 pub fn otplogd<
@@ -100,6 +105,8 @@ pub fn otplogd<
     ensures audit { AuditMode words.now result.status result.detail (F.contents files.new) (E.link ends.old) (E.link ends.new) (Rose (F.read_faults files.old) (F.read_faults files.new)) (Rose (E.faults ends.old) (E.faults ends.new)) }
     // The mode `renew` writes the setup with the new chain, or says why not.
     ensures renew { RenewMode words.now result.status result.detail (F.contents files.old) (F.contents files.new) (E.link ends.old) (E.link ends.new) (Rose (F.read_faults files.old) (F.read_faults files.new)) (Rose (F.replace_faults files.old) (F.replace_faults files.new)) (Rose (E.faults ends.old) (E.faults ends.new)) }
+    // The mode `drill` runs the drill of its number, gives its journal and tells the journal's counts, or says why not.
+    ensures drill { DrillMode words.now result.status result.journal.items (E.link ends.old) (E.link ends.new) (Rose (E.faults ends.old) (E.faults ends.new)) }
     // What a mode doesn't use it leaves as it was.
     ensures leaves { LeavesRest words.now result.status result.detail files.old files.new site.old site.new ends.old ends.new log result.log result.journal.items result.posts.items }
     // No mode but `serve` and `renew` writes a file, and `renew` the setup's alone.

@@ -53,7 +53,7 @@ fn status_text(status: u8) -> &'static str {
     match status {
         2 => {
             "call it as otplogd serve [SETUP], otplogd check SETUP, otplogd audit SETUP LOG, \
-            otplogd renew SETUP NAME or otplogd otp md5|sha1 N SEED [WORDS]"
+            otplogd renew SETUP NAME, otplogd otp md5|sha1 N SEED [WORDS] or otplogd drill N"
         }
         3 => "a file could not be read",
         4 => "a file is not there",

@@ -22,7 +22,7 @@ fn each_status_has_its_line(rt: HostRuntime) -> Result<(), Fail> {
             2,
             Detail::Nothing,
             "otplogd: call it as otplogd serve [SETUP], otplogd check SETUP, otplogd audit SETUP LOG, \
-            otplogd renew SETUP NAME or otplogd otp md5|sha1 N SEED [WORDS]",
+            otplogd renew SETUP NAME, otplogd otp md5|sha1 N SEED [WORDS] or otplogd drill N",
         ),
         (3, Detail::Nothing, "otplogd: a file could not be read"),
         (

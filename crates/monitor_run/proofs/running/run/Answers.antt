@@ -9,8 +9,9 @@ use Rattle.session_loop.specs.Stories.{is_accept_fault}
 use Rattle.session_turns.specs.Passes.{IsHeldBy, OwnsAll}
 use Rattle.turn_cell.specs.Facts.{AreAllPasses, AreNewPasses}
 use Rattle.monitor_run.specs.Headline.{FaultsAreCounted}
+use Rattle.monitor_run.specs.Ran.{PlansStay}
 use Rattle.monitor_run.specs.Workers.{IsDeskOf}
-use Rattle.monitor_run.proofs.Gathered.{all_at, desk_own, of_reverse, passes_back, put_back, ready_lent, run_ended, served_all, written_whole}
+use Rattle.monitor_run.proofs.Gathered.{all_at, desk_own, of_reverse, passes_back, plans_stay, put_back, ready_lent, run_ended, served_all, written_whole}
 use Rattle.monitor_run.proofs.Promises.{BookSays, book_says, book_setup, run_promises, run_told}
 use Rattle.monitor_run.proofs.running.run.Goals as goal
 
@@ -86,6 +87,22 @@ returns-clause-promises g c held faults told =
     let ended = run_ended service place g.P.Post.scene g.P.Post.faults (λ w. w.post) (λ w. w.pass) (λ w. w.end) old new served book.journal says.run made.cell.1 (subst (All (IsHeldBy book.journal)) passes c.close_cell.ensures.passes) in
     let one_each : length (reverse (map (λ w. w.post) new)) ≡ service.setup.workers = length-reverse (map (λ w. w.post) new) ∙ length-map new (λ w. w.post) ∙ served.same ∙ sym (length-reverse (map (λ w. w.pass) old) ∙ length-map old (λ w. w.pass)) ∙ served.passes_new.0 ∙ made.cell.1 in
     run_told same failed c.parts-core.ensures.journal posts c.parts-core.ensures.log.0 c.parts-core.ensures.log.1 (run_promises service (list_any (λ w. is_accept_fault w.end) new) book.journal (reverse (map (λ w. w.post) new)) g.P.Post.scene g.P.Post.faults held book.held faults book.faults ended says c.parts-core.ensures.few one_each (subst (FaultsAreCounted g.P.Post.scene g.P.Post.faults) (c.as_slice.ensures.value ∙ posts) c.count_as_told.ensures))
+
+pub returns-clause-plans : goal.returns-clause-plans
+returns-clause-plans g c =
+    let service = g.T.Texts.service c.prepared.inside.texts.now in
+    let place = c.prepared.inside.cell in
+    let made = c.prepared.invariant.0 in
+    let old = c.gather.new.workers.items in
+    let lent = c.deref_mut.result.now in
+    let new = c.serve_all.new.workers in
+    let all = subst (All (λ d. IsDeskOf service (g.T.Texts.service d.replies.texts.now) d.replies.frames.width d.reader)) (sym c.gather.ensures.desks) c.prepared.invariant.1 in
+    let passes_new = subst (AreNewPasses place) (sym c.gather.ensures.passes.1) made.new in
+    let fresh = subst (All (IsFresh g.P.Post.scene g.P.Post.faults)) (sym c.gather.ensures.posts.1) c.requires.fresh in
+    let served = served_all service (λ w. g.T.Texts.service w.desk.replies.texts.now) place g.P.Post.scene g.P.Post.faults (λ w. w.post) (λ w. w.pass) (λ w. w.end) old lent new c.deref_mut.ensures.value c.serve_all.auto.workers passes_new fresh (λ k d lt. (of_reverse (λ w. w.desk) (λ d. IsDeskOf service (g.T.Texts.service d.replies.texts.now) d.replies.frames.width d.reader) old all k d lt).service_is) c.serve_all.ensures.served in
+    let len : c.gather.new.workers.len ≡ length new = let same = served.same in let whole = c.gather.new.workers.ok in omega (arith, same, whole) in
+    let posts = put_back (λ w. w.post) c.gather.new.posts.items c.part-accept_failed.new.posts.items old new c.gather.new.workers.len c.gather.ensures.posts.0 len c.part-accept_failed.ensures.posts in
+    subst (λ ps. PlansStay g.P.Post.scene ps c.part-accept_failed.new.posts.items) c.gather.ensures.posts.1 (subst (PlansStay g.P.Post.scene (reverse (map (λ w. w.post) old))) (sym posts) (plans_stay service place g.P.Post.scene g.P.Post.faults (λ w. w.post) (λ w. w.pass) (λ w. w.end) old new served))
 
 pub returns-clause-setup : goal.returns-clause-setup
 returns-clause-setup g c =

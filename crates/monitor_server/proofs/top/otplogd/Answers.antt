@@ -26,3 +26,6 @@ returns-clause-leaves g c = c.run_command.ensures.leaves
 
 pub returns-clause-changes : goal.returns-clause-changes
 returns-clause-changes g c = c.run_command.ensures.changes
+
+pub returns-clause-drill : goal.returns-clause-drill
+returns-clause-drill g c = c.run_command.ensures.drill

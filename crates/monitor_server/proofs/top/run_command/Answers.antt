@@ -7,8 +7,9 @@ use Rattle.otp_extended.specs.Commands as renewals
 use Rattle.otp_mode.specs.Command.{command_parts}
 use Rattle.serve_mode.specs.Commands.{source_of}
 use Rattle.monitor_server.specs.Commands.{IsReading}
+use Rattle.monitor_server.proofs.Apart.{drill_within}
 use Rattle.monitor_server.proofs.Told.{uncommanded, unremembered}
-use Rattle.monitor_server.proofs.Whole.{whole-audited, whole-checked, whole-child, whole-nothing, whole-password, whole-renewed, whole-served}
+use Rattle.monitor_server.proofs.Whole.{whole-audited, whole-checked, whole-child, whole-drilled, whole-nothing, whole-password, whole-renewed, whole-served}
 use Rattle.monitor_server.proofs.top.run_command.Goals as goal
 
 pub returns-in-Ok-Serve : goal.returns-in-Ok-Serve
@@ -34,6 +35,17 @@ returns-in-Ok-Audit g c =
 pub returns-in-Ok-Renew : goal.returns-in-Ok-Renew
 returns-in-Ok-Renew g c =
     whole-renewed (renewals.command_parts c.in-Ok-Renew.command) (subst (λ command. IsReading c.args.words.now (Ok command)) c.in-Ok-Renew.field-0-is c.in-Ok-Renew.ensures) c.renew_account.ensures.renew c.renew_account.ensures.unused c.renew_account.ensures.at_files refl
+
+-- the number is that of the words, so it is in its range
+pub play_drill-requires-clause-low : goal.play_drill-requires-clause-low
+play_drill-requires-clause-low g c κs within = (drill_within c.args.words.now c.in-Ok-Drill.number (subst (λ command. IsReading c.args.words.now (Ok command)) c.in-Ok-Drill.field-0-is c.in-Ok-Drill.ensures)).0
+
+pub play_drill-requires-clause-high : goal.play_drill-requires-clause-high
+play_drill-requires-clause-high g c κs within = (drill_within c.args.words.now c.in-Ok-Drill.number (subst (λ command. IsReading c.args.words.now (Ok command)) c.in-Ok-Drill.field-0-is c.in-Ok-Drill.ensures)).1
+
+pub returns-in-Ok-Drill : goal.returns-in-Ok-Drill
+returns-in-Ok-Drill g c =
+    whole-drilled c.in-Ok-Drill.number (subst (λ command. IsReading c.args.words.now (Ok command)) c.in-Ok-Drill.field-0-is c.in-Ok-Drill.ensures) c.play_drill.ensures.drill c.play_drill.ensures.detail c.play_drill.ensures.log c.play_drill.ensures.posts c.play_drill.ensures.silent c.play_drill.ensures.no_file refl refl (Goes-same SameFiles (λ files. record { same = λ name. refl }) (g.F.Files.contents c.args.files.now))
 
 pub returns-in-Err-NoCommand : goal.returns-in-Err-NoCommand
 returns-in-Err-NoCommand g c =

@@ -1,0 +1,10 @@
+pub mod Readings
+pub mod Said
+pub mod Walk
+pub mod Decided
+pub mod Holding
+pub mod Ends
+pub mod Heard
+pub mod Apart
+pub mod Sessions
+pub mod Whole

@@ -1,0 +1,6 @@
+pub mod Words
+pub mod Errors
+pub mod Services
+pub mod Posts
+pub mod Drilled
+pub mod Outcome

@@ -1,0 +1,25 @@
+-- Believed: what the mode `drill` came to, and why.
+use Rattle.std.specs.Prelude.{◌≡◌, ℕ, Bool, true, false, List, [], Option, Vec, Result, Ok, Err}
+use Rattle.std.specs.Global.{Global}
+use Rattle.outside.specs.Link.{Exchanged, Link, SendsPart}
+use Rattle.outside.specs.Told.{Goes}
+use Rattle.policy_model.specs.declared.event.Event.{Event}
+use Rattle.journal_counts.specs.CountsText.{counts_text}
+use Rattle.drill_mode.specs.declared.error.DrillError.{DrillError}
+use Rattle.drill_mode.specs.declared.error.DrillError.TheVariants as errors
+use Rattle.drill_mode.specs.Drilled.{IsDrilled}
+
+-- what came of the mode, by what the ends told before and after, and whether a call on them failed: the counts of the drill's
+-- journal are told whole, or in part where the ends failed, or nothing is told
+abbrev pub IsOutcome : ℕ → Option Link → Option Link → Type 0 → Result (Vec Event Global) DrillError → Type 0
+IsOutcome n before after EndsFailed (Ok journal) =
+    IsDrilled n journal.items × Goes (Exchanged [] (counts_text journal.items)) before after
+IsOutcome n before after EndsFailed (Err errors.EndsFailed) =
+    EndsFailed × ((journal : List Event) × IsDrilled n journal × SendsPart (counts_text journal) before after)
+IsOutcome n before after EndsFailed (Err error) = after ≡ before
+
+-- whether the mode ended before it told anything
+abbrev pub ends_untold : Result (Vec Event Global) DrillError → Bool
+ends_untold (Ok journal) = false
+ends_untold (Err errors.EndsFailed) = false
+ends_untold (Err error) = true

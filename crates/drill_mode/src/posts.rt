@@ -1,0 +1,99 @@
+//! The posts of a drill.
+
+ghost use Rattle.std.specs.Prelude.{◌≡◌, ◌<◌, ◌≤◌, IfOk, IsTrue, length};
+ghost use Rattle.std.specs.List.{list_all, list_any};
+ghost use Rattle.quiet_outside.specs.QuietPost.{scene_of};
+ghost use Rattle.service_model.specs.Stories.{is_stop};
+ghost use Rattle.drill_mode.specs.Posts.{AreNewPosts, IsNewPost, tells_whole};
+
+use drill_plan::{WORKERS, drill_scripts};
+use outside::{Accepted, Act};
+use quiet_outside::{Pieces, PostRoom, QuietPost};
+use std::alloc::{AllocError, Global};
+
+/// How many acts a session of a drill has at most.
+const ACTS: usize = 12;
+
+/// How many children it has at most.
+const CHILDREN: usize = 2;
+
+/// How many buffers its acts and its file take at most.
+const BUFFERS: usize = 4;
+
+/// The size of a buffer, in bytes: more than any child of a drill says or is told.
+const BUFFER_LEN: usize = 512;
+
+/// The moment at which a drill takes place, in milliseconds.
+const MOMENT: u64 = 1_000;
+
+/// The posts of the drill of `n`, one for each worker.
+///
+/// # Errors
+///
+/// There isn't the memory.
+pub(crate) fn drill_posts(alloc: Global, n: u32) -> Result<Vec<QuietPost>, AllocError>
+    requires low { 1 ≤ n }
+    requires high { n ≤ 64 }
+    ensures count { IfOk result (λ posts. length posts.items ≡ 4) }
+    ensures each { IfOk result (λ posts. AreNewPosts n posts.items) }
+{
+    let mut posts = Vec::with_capacity(alloc, WORKERS as usize)?;
+    for worker in 0..WORKERS {
+        posts.push(drill_post(alloc, n, worker)?)?;
+    }
+    Ok(posts)
+}
+
+/// The post of a worker.
+fn drill_post(alloc: Global, n: u32, worker: u32) -> Result<QuietPost, AllocError>
+    requires low { 1 ≤ n }
+    requires high { n ≤ 64 }
+    requires below { worker < 4 }
+    ensures { IfOk result (IsNewPost n worker) }
+{
+    let sessions = 8 * n as usize;
+    let room = PostRoom {
+        acts: ACTS * sessions,
+        talks: CHILDREN * sessions,
+        pieces: Pieces {
+            count: BUFFERS * sessions,
+            size: BUFFER_LEN,
+        },
+    };
+    let scripts = drill_scripts(alloc, n, worker)?;
+    QuietPost::new(alloc, scripts, &[BUFFER_LEN], &[MOMENT], room)
+}
+
+/// Whether all posts told what was asked of them to the end, and each had a connection whenever its
+/// worker waited for one.
+pub(crate) fn tell_whole(posts: &[QuietPost]) -> bool
+    ensures { result ≡ list_all (λ post. tells_whole (scene_of post)) posts.now }
+{
+    posts.iter().all(tells_whole)
+}
+
+/// Whether a post did.
+fn tells_whole(post: &QuietPost) -> bool
+    ensures { result ≡ tells_whole (scene_of post.now) }
+{
+    post.tells() && !has_stop(post.acts())
+}
+
+/// Whether a worker waited for a connection, and none came.
+fn has_stop(acts: &[Act]) -> bool
+    ensures { result ≡ list_any is_stop acts.now }
+{
+    acts.iter().any(is_stop)
+}
+
+/// Whether an act is an accept by which no connection came.
+fn is_stop(act: &Act) -> bool
+    ensures { result ≡ is_stop act.now }
+{
+    matches!(
+        act,
+        Act::Accept {
+            outcome: Accepted::NoneLeft | Accepted::Failed
+        }
+    )
+}

@@ -1,0 +1,4 @@
+pub mod Users
+pub mod Texts
+pub mod Plans
+pub mod Setups

@@ -1,0 +1,55 @@
+-- Believed: which journals are a drill's.
+use Rattle.std.specs.Prelude.{◌≡◌, ℕ, ◌<◌, ◌≤◌, ◌==◌, Bool, true, false, List, [], ◌∷◌, ◌++◌, filter, length, slice_get, Some, MatchBool}
+use Rattle.std.specs.List.{flat_map, list_any}
+use Rattle.request_catalogue.specs.Catalogue.{RequestValue}
+use Rattle.request_catalogue.specs.Rules.{not_in_phase}
+use Rattle.policy_model.specs.declared.event.Ask.TheVariants as asks
+use Rattle.policy_model.specs.declared.event.Event.{Event}
+use Rattle.policy_model.specs.declared.event.Why.{Why}
+use Rattle.policy_model.specs.declared.event.Why.TheVariants.{Finished, Truncated, Violation}
+use Rattle.policy_model.specs.Asks.{accepts, ends_session, is_permit, opens as is_opening}
+use Rattle.drill_plan.specs.declared.class.Class.{Class}
+use Rattle.drill_plan.specs.declared.class.Class.TheVariants.{LogsIn, Repeats, Exports, BreaksOff}
+use Rattle.drill_plan.specs.Classes.{class_of}
+use Rattle.drill_plan.specs.Passwords.{session_count}
+use Rattle.drill_plan.specs.Requests.{IsAskFor, drill_requests}
+
+-- the events ask these requests, one after the other, up to the first behind which the session is over, and all of them where there is no such
+abbrev pub AreAsked : List RequestValue → List Event → Type 0
+AreAsked [] events = events ≡ []
+AreAsked (request ∷ requests) [] = ⊥
+AreAsked (request ∷ requests) (e ∷ events) = IsAskFor request e.ask × MatchBool (ends_session e) (events ≡ []) (AreAsked requests events)
+
+-- why a session of a class ends, where its reply was accepted and where it wasn't
+abbrev pub drill_end : Class → Bool → Why
+drill_end LogsIn true = Finished
+drill_end LogsIn false = Violation not_in_phase
+drill_end Repeats accepted = Finished
+drill_end Exports accepted = Violation not_in_phase
+drill_end BreaksOff accepted = Truncated
+
+-- the events of a worker's session: its permitted opening, what it asked, and its permitted end
+pub record IsDrillSession (n worker session : ℕ) (events : List Event) : Type 0 where
+  pub opening : Event
+  pub asked : List Event
+  pub ending : Event
+  pub parts : events ≡ opening ∷ asked ++ ending ∷ []
+  pub opened : is_opening opening ≡ true
+  pub requests : AreAsked (drill_requests n worker session) asked
+  pub ended : ending.ask ≡ asks.End (drill_end (class_of n worker session) (list_any accepts asked))
+  pub permitted : is_permit ending.decision ≡ true
+
+-- a worker's events are those of its sessions, one after the other
+pub record IsDrillOf (n worker : ℕ) (events : List Event) : Type 0 where
+  pub sessions : List (List Event)
+  pub all : events ≡ flat_map (λ session. session) sessions
+  pub count : length sessions ≡ session_count n
+  pub each : (k : ℕ) (session : List Event) → slice_get sessions k ≡ Some session → IsDrillSession n worker k session
+
+abbrev pub events_by : List Event → ℕ → List Event
+events_by journal worker = filter (λ e. e.worker == worker) journal
+
+-- the journal of the drill of n: that of four workers, and of no other
+pub record IsDrill (n : ℕ) (journal : List Event) : Type 0 where
+  pub workers : (worker : ℕ) → worker < 4 → IsDrillOf n worker (events_by journal worker)
+  pub others : (worker : ℕ) → 4 ≤ worker → events_by journal worker ≡ []
