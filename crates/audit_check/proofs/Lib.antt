@@ -10,6 +10,7 @@ pub mod Witness
 pub mod LogLaws
 pub mod Recent
 pub mod OwnEvents
+pub mod SeatLemmas
 pub mod Gates
 pub mod KeptLemmas
 pub mod OneAnswer

@@ -42,13 +42,13 @@ undecided_kept setup before session (Permit value) h = refl
 undecided_kept setup before session (Deny rule detail) h = refl
 undecided_kept setup before session Lost h = absurd cc
 
-not_lost : (setup : Settings) (events : List Event) (e : Event) → MayFollow setup events e → is_lost e.decision ≡ false
+pub not_lost : (setup : Settings) (events : List Event) (e : Event) → MayFollow setup events e → is_lost e.decision ≡ false
 not_lost setup events e may = go (is_open setup events e) refl where
   go : (b : Bool) → is_open setup events e ≡ b → is_lost e.decision ≡ false
   go true h = undecided_kept setup events (open_session_of events e.worker) e.decision (may.decision.undecided h)
   go false h = ap is_lost (may.decision.decided h) ∙ never_lost setup events e.worker e.ask
 
-apart : (setup : Settings) (events : List Event) → IsLegalLog setup events → AreApart events
+pub apart : (setup : Settings) (events : List Event) → IsLegalLog setup events → AreApart events
 apart setup events legal = (by_log setup (λ xs. AreNumbered xs (openings_of xs) × AreApart xs) (tt, record { apart = λ v w ne some same. some refl }) more events legal).1 where
   more : (xs : List Event) (e : Event) → MayFollow setup xs e → AreNumbered xs (openings_of xs) × AreApart xs → AreNumbered (xs ++ e ∷ []) (openings_of (xs ++ e ∷ [])) × AreApart (xs ++ e ∷ [])
   more xs e may h = (numbered-push xs e may.session h.0, AreApart-push xs e h.0 may.session h.1)

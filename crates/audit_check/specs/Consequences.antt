@@ -1,5 +1,5 @@
 -- Believed: what follows of every legal log, and the journals whose text is one.
-use Rattle.std.specs.Prelude.{◌<◌, ◌≤◌, ◌^◌, List, length}
+use Rattle.std.specs.Prelude.{◌≤◌, List, length}
 use Rattle.std.specs.List.{AllByRecursion}
 use Rattle.policy_laws.specs.Consequences.{NoPasswordTwice, OneTakerAtATime, SequenceFalls, VerifiedBeforeExport}
 use Rattle.policy_model.specs.declared.event.Event.{Event}

@@ -21,6 +21,8 @@ use Rattle.audit_check.specs.declared.history.Hold.{Hold}
 use Rattle.audit_check.specs.declared.history.History.{History}
 use Rattle.audit_check.specs.Following.{IsRecent, recent_after}
 use Rattle.audit_check.specs.Legal.{IsLegalLog}
+use Rattle.audit_check.specs.Seats.{IsSeat}
+use Rattle.audit_check.specs.declared.seats.Seat.{Seat}
 
 -- what a log says of who took a user last and who holds it
 abbrev pub hold_by : List Event → Name → Hold
@@ -56,12 +58,14 @@ pub record AreFollowed (e : Event) (old new : List (Vec Event Global)) : Type 0 
   pub same : length new ≡ length old
   pub each : (n : ℕ) (d : Vec Event Global) → n < length old → (slice_index_or new n d).items ≡ recent_after n e (slice_index_or old n d).items
 
--- what is kept of a legal log: for each worker the events of its open session, how many sessions were opened, and for each account its hold and the passwords of its replies
+-- what is kept of a legal log: for each worker what its open session has come to and the events of it, how many sessions were opened, and for each account its hold and the passwords of its replies
 pub record IsKept (setup : Settings) (h : History) : Type 0 where
   pub in_range : IsInRange setup
   pub legal : IsLegalLog setup h.events.items
   pub followed : length h.recent.items ≡ setup.workers
   pub recents : (n : ℕ) (d : Vec Event Global) → n < length h.recent.items → IsRecent (slice_index_or h.recent.items n d).items n h.events.items
+  pub seated : length h.seats.items ≡ setup.workers
+  pub seats : (n : ℕ) (d : Seat) → n < length h.seats.items → IsSeat (slice_index_or h.seats.items n d) n h.events.items
   pub opened : h.opened ≡ openings_of h.events.items
   pub held : length h.holds.items ≡ length setup.accounts
   pub holds : (n : ℕ) (account : Account) (d : Hold) → slice_get setup.accounts n ≡ Some account → slice_index_or h.holds.items n d ≡ hold_by h.events.items account.name

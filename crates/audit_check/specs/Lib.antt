@@ -3,4 +3,5 @@ pub mod Legal
 pub mod Said
 pub mod Following
 pub mod Consequences
+pub mod Seats
 pub mod History

@@ -1,20 +1,19 @@
 //! What is decided by the accounts, where a session's own events decide nothing else.
 
-ghost use Rattle.std.specs.Prelude.{◌≡◌, ◌≢◌, ◌<◌, ◌+◌, ◌&&◌, [], ◌∷◌, None, Some, length, nat_eq, nat_lt, not, slice_get, unwrap_or};
+ghost use Rattle.std.specs.Prelude.{◌≡◌, ◌≢◌, ◌<◌, ◌&&◌, [], ◌∷◌, None, Some, length, nat_eq, not, slice_get, unwrap_or};
 ghost use Rattle.std.specs.List.{last_or, list_any};
 ghost use Rattle.policy_model.specs.declared.account.Account.{Account};
 ghost use Rattle.policy_model.specs.declared.event.Decision.TheVariants.{Permit};
 ghost use Rattle.policy_model.specs.Journal.{open_session_of};
 ghost use Rattle.policy_model.specs.Logins.{account_of, current_sequence, is_decoy, user_named, verified_user};
-ghost use Rattle.policy_model.specs.Verdict.{account_named, account_verdict, decoy_challenge, is_holder, is_next_password, is_other, reply_verdict, sequence_of, user_verdict};
+ghost use Rattle.policy_model.specs.Verdict.{account_named, account_verdict, is_holder, is_next_password, reply_verdict, sequence_of, user_verdict};
 ghost use Rattle.audit_check.specs.History.{IsKept, challenge_by, is_next_by, silent_by, standing_by};
 ghost use Rattle.audit_check.specs.Legal.{is_password_of};
 
 use crate::history::{History, Hold};
-use crate::reading::DECOYS_FROM;
 use crate::sessions::{is_decoy, login_of, recent, user_named, verified_user};
 use otp_hash::step;
-use policy_model::{Account, Decision, Event, Setup, open_session};
+use policy_model::{Account, Decision, Event, Setup, is_other, is_within, open_session};
 use request_catalogue::{Name, rules};
 
 /// How many passwords an account's chain still has.
@@ -25,32 +24,6 @@ fn sequence(setup: &Setup, history: &History, account: u32) -> u64
 {
     let first = setup.parts().accounts.as_slice()[account as usize].sequence;
     u64::from(first).saturating_sub(history.replies[account as usize].len() as u64)
-}
-
-/// Whether some other session holds.
-fn is_other(session: u32, holder: Option<u32>) -> bool
-    ensures { result ≡ is_other session holder }
-{
-    match holder {
-        None => false,
-        Some(holder) => holder != session,
-    }
-}
-
-/// Whether `now` is less than `hold` milliseconds behind a moment, or before it.
-fn is_within(now: u64, moment: u64, hold: u32) -> bool
-    ensures { result ≡ nat_lt now (moment + hold) }
-{
-    now < moment || now - moment < u64::from(hold)
-}
-
-/// What a user is challenged with that can't log in.
-fn challenge_decoy(setup: &Setup, user: &Name) -> Decision
-    ensures { result ≡ decoy_challenge setup.now user.now }
-{
-    Decision::Permit {
-        value: DECOYS_FROM + u64::from(setup.decoy(user).n),
-    }
 }
 
 /// What is kept of an account.
@@ -81,7 +54,7 @@ fn challenge_by(setup: &Setup, user: &Name, session: u32, now: u64, standing: St
 {
     let hold = standing.hold;
     if !standing.enabled || standing.sequence == 0 {
-        challenge_decoy(setup, user)
+        setup.challenge_decoy(user)
     } else if is_other(session, hold.holder) && is_within(now, hold.moment, setup.parts().hold) {
         Decision::Deny {
             rule: rules::USER_HELD,
@@ -106,7 +79,7 @@ pub(crate) fn judge_challenge(
     ensures { result ≡ account_verdict setup.now history.now.events.items session user.now now (account_of setup.now user.now) }
 {
     match setup.find(user) {
-        None => challenge_decoy(setup, user),
+        None => setup.challenge_decoy(user),
         Some(account) => challenge_by(
             setup,
             user,
@@ -228,7 +201,12 @@ fn last_or(passwords: &[u64], other: u64) -> u64
 fn was_replied(replies: &[u64], password: u64) -> bool
     ensures { result ≡ list_any (nat_eq password) replies.now }
 {
-    replies.iter().any(|reply| password == *reply)
+    // All are looked at, without a branch, since most often none is the one.
+    let mut found = false;
+    for reply in replies {
+        found |= password == *reply;
+    }
+    found
 }
 
 /// Whether a password is an account's first or one of its replies.

@@ -15,6 +15,7 @@ use crate::following::may_follow;
 use crate::history::History;
 use crate::said::event_said;
 use decision_log::read_line;
+use memchr::memchr;
 use policy_model::{Event, Setup};
 use std::alloc::{AllocError, Global};
 
@@ -26,11 +27,10 @@ fn newline_at(text: &[u8]) -> usize
     ensures at { result ≡ position_or_len (λ c. c == 10) text.now }
     ensures within { result ≤ length text.now }
 {
-    let mut at = 0;
-    while at < text.len() && text[at] != b'\n' {
-        at += 1;
+    match memchr(b'\n', text) {
+        None => text.len(),
+        Some(at) => at,
     }
-    at
 }
 
 /// How long the first line of a text is, with its newline.

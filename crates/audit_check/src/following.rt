@@ -1,6 +1,6 @@
 //! Whether an event may stand behind others in a log.
 
-ghost use Rattle.std.specs.Prelude.{◌≡◌, ◌^◌, ◌-◌, ◌<◌, List, false, true, length};
+ghost use Rattle.std.specs.Prelude.{◌≡◌, ◌^◌, ◌-◌, ◌<◌, IfSome, List, false, true, length};
 ghost use Rattle.std.specs.Bool.{MatchBool};
 ghost use Rattle.policy_model.specs.Journal.{open_session_of, openings_of};
 ghost use Rattle.policy_model.specs.Legal.{opening_session, session_of};
@@ -15,6 +15,7 @@ ghost use Rattle.audit_check.specs.Legal.{IsDecided, MayFollow, is_open, may_be_
 use crate::accounts::{judge_challenge, judge_info, judge_reply, permits};
 use crate::history::History;
 use crate::reading::is_reply;
+use crate::seats::judge_by_seat;
 use crate::sessions::{is_decoy, login_of, recent};
 use policy_model::{Ask, Decision, Event, Setup, judge, open_session};
 use request_catalogue::rules;
@@ -65,8 +66,22 @@ fn verdict_by_accounts(setup: &Setup, history: &History, event: &Event) -> Decis
     }
 }
 
-/// The policy's verdict on the event's ask.
-fn verdict(setup: &Setup, history: &History, event: &Event) -> Decision
+/// The policy's verdict on the event's ask, where what its worker's open session has come to decides it.
+fn verdict_by_seat(setup: &Setup, history: &History, event: &Event) -> Option<Decision>
+    requires kept { IsKept setup.now history.now }
+    requires worker { event.now.worker < length history.now.seats.items }
+    ensures { IfSome result (λ d. d ≡ verdict_of setup.now history.now.events.items event.now.worker event.now.ask) }
+{
+    judge_by_seat(
+        setup.requests(),
+        history.opened,
+        history.seats[event.worker as usize],
+        &event.ask,
+    )
+}
+
+/// The policy's verdict on the event's ask, by its worker's events and the accounts.
+fn verdict_by_events(setup: &Setup, history: &History, event: &Event) -> Decision
     requires kept { IsKept setup.now history.now }
     requires worker { event.now.worker < length history.now.recent.items }
     requires shown { without_readings event.now.ask ≡ event.now.ask }
@@ -77,6 +92,19 @@ fn verdict(setup: &Setup, history: &History, event: &Event) -> Decision
         judge(setup, recent, event.worker, &event.ask)
     } else {
         verdict_by_accounts(setup, history, event)
+    }
+}
+
+/// The policy's verdict on the event's ask.
+fn verdict(setup: &Setup, history: &History, event: &Event) -> Decision
+    requires kept { IsKept setup.now history.now }
+    requires worker { event.now.worker < length history.now.recent.items }
+    requires shown { without_readings event.now.ask ≡ event.now.ask }
+    ensures { result ≡ verdict_of setup.now history.now.events.items event.now.worker event.now.ask }
+{
+    match verdict_by_seat(setup, history, event) {
+        None => verdict_by_events(setup, history, event),
+        Some(verdict) => verdict,
     }
 }
 
@@ -147,12 +175,12 @@ fn is_decided(setup: &Setup, history: &History, event: &Event) -> bool
 fn opening_session(history: &History, worker: u32, decision: &Decision) -> u32
     requires few { length history.now.events.items < 2 ^ 32 - 1 }
     requires opened { history.now.opened ≡ openings_of history.now.events.items }
-    requires worker { worker < length history.now.recent.items }
+    requires worker { worker < length history.now.seats.items }
     ensures { (setup : Settings) → IsKept setup history.now → result ≡ opening_session history.now.events.items worker decision.now }
 {
     match decision {
         Decision::Permit { .. } => history.opened + 1,
-        Decision::Deny { .. } => open_session(recent(history, worker), worker),
+        Decision::Deny { .. } => history.seats[worker as usize].session,
         Decision::Lost => 0,
     }
 }
@@ -161,13 +189,13 @@ fn opening_session(history: &History, worker: u32, decision: &Decision) -> u32
 fn session_after(history: &History, event: &Event) -> u32
     requires few { length history.now.events.items < 2 ^ 32 - 1 }
     requires opened { history.now.opened ≡ openings_of history.now.events.items }
-    requires worker { event.now.worker < length history.now.recent.items }
+    requires worker { event.now.worker < length history.now.seats.items }
     ensures { (setup : Settings) → IsKept setup history.now → result ≡ session_of history.now.events.items event.now.worker event.now.ask event.now.decision }
 {
     if event.ask.is_begin() {
         opening_session(history, event.worker, &event.decision)
     } else {
-        open_session(recent(history, event.worker), event.worker)
+        history.seats[event.worker as usize].session
     }
 }
 

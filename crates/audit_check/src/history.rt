@@ -1,14 +1,17 @@
 //! The events of a log so far, and beside them what they say of each account, so that nobody looks
 //! through all of them again.
 
-ghost use Rattle.std.specs.Prelude.{◌≡◌, ◌<◌, ◌-◌, ◌^◌, [], ◌∷◌, ◌++◌, ◌+◌, IfOk, IfSome, length, map, if◌then◌else◌};
+ghost use Rattle.std.specs.Prelude.{◌≡◌, ◌<◌, ◌-◌, ◌^◌, [], ◌∷◌, ◌++◌, ◌+◌, IfOk, IfSome, length, map, slice_index_or, if◌then◌else◌};
 ghost use Rattle.policy_model.specs.Asks.{opens};
 ghost use Rattle.session_laws.specs.Tied.{holder_after};
 ghost use Rattle.audit_check.specs.Following.{own_after};
 ghost use Rattle.audit_check.specs.Legal.{MayFollow};
+ghost use Rattle.audit_check.specs.declared.seats.Seat.{Seat};
+ghost use Rattle.audit_check.specs.Seats.{AreSeated, AreVacant};
 ghost use Rattle.audit_check.specs.History.{AreEmpty, AreFollowed, AreIdle, AreReplied, IsKept, IsRenewed, IsReplyFor, first_hold, hold_after};
 
-use crate::reading::{accepts, is_turn, leaves, moment, opens, reserves, takes, value};
+use crate::reading::{is_turn, leaves};
+use crate::seats::{Seat, seat_after};
 use crate::sessions::{login_of, user_named};
 use policy_model::{Account, Event, Setup};
 use request_catalogue::Name;
@@ -30,6 +33,8 @@ pub(crate) struct History {
     pub(crate) events: Vec<Event>,
     /// By the workers' numbers: each worker's events from its last permitted opening or end on.
     pub(crate) recent: Vec<Vec<Event>>,
+    /// By the workers' numbers: what each worker's open session has come to.
+    pub(crate) seats: Vec<Seat>,
     /// How many sessions were opened.
     pub(crate) opened: u32,
     /// By the accounts' numbers.
@@ -52,10 +57,10 @@ fn holder_after(holder: Option<u32>, event: &Event) -> Option<u32>
 fn hold_after(hold: Hold, event: &Event, user: &Name) -> Hold
     ensures { result ≡ hold_after user.now event.now hold }
 {
-    if reserves(event, user) {
+    if event.reserves(user) {
         Hold {
             taker: event.session,
-            moment: moment(&event.ask),
+            moment: event.ask.moment(),
             holder: Some(event.session),
         }
     } else {
@@ -81,7 +86,7 @@ fn settle(holds: &mut Vec<Hold>, accounts: &[Account], event: &Event)
     requires { length holds.old.items ≡ length accounts.now }
     ensures { IsRenewed accounts.now event.now holds.old.items holds.new.items }
 {
-    if takes(event) || leaves(event) {
+    if event.takes() || leaves(event) {
         renew(holds, accounts, event);
     }
 }
@@ -107,7 +112,7 @@ fn opened_after(opened: u32, event: &Event) -> u32
     requires { opened < 2 ^ 32 - 1 }
     ensures { result ≡ opened + (if opens event.now then 1 else 0) }
 {
-    if opens(event) { opened + 1 } else { opened }
+    if event.opens() { opened + 1 } else { opened }
 }
 
 /// A worker's events with one more, from its last permitted opening or end on.
@@ -127,6 +132,16 @@ fn follow(recent: &mut Vec<Vec<Event>>, event: Event) -> Result<(), AllocError>
     ensures { IfOk result (λ done. AreFollowed event recent.old.items recent.new.items) }
 {
     append(&mut recent[event.worker as usize], event)
+}
+
+/// The seats of all workers after an event.
+fn seat(seats: &mut Vec<Seat>, event: &Event)
+    requires worker { event.now.worker < length seats.old.items }
+    requires few { (d : Seat) → (slice_index_or seats.old.items event.now.worker d).asks < 2 ^ 32 - 1 }
+    ensures { AreSeated event.now seats.old.items seats.new.items }
+{
+    let worker = event.worker as usize;
+    seats[worker] = seat_after(seats[worker], event);
 }
 
 /// The hold of an account before the first event.
@@ -175,6 +190,22 @@ fn no_events(alloc: Global, count: usize) -> Result<Vec<Vec<Event>>, AllocError>
     Ok(recent)
 }
 
+/// The seats of so many workers before the first event.
+fn no_sessions(alloc: Global, count: usize) -> Result<Vec<Seat>, AllocError>
+    ensures same { IfOk result (λ seats. length seats.items ≡ count) }
+    ensures none { IfOk result (λ seats. AreVacant seats.items) }
+{
+    let mut seats = Vec::with_capacity(alloc, count)?;
+    for _i in 0..count {
+        seats.push(Seat {
+            session: 0,
+            over: false,
+            asks: 0,
+        })?;
+    }
+    Ok(seats)
+}
+
 impl History {
     /// What is kept of a log without an event.
     ///
@@ -189,6 +220,7 @@ impl History {
         Ok(History {
             events: Vec::new(alloc),
             recent: no_events(alloc, setup.workers() as usize)?,
+            seats: no_sessions(alloc, setup.workers() as usize)?,
             opened: 0,
             holds: first_holds(alloc, accounts)?,
             replies: no_replies(alloc, accounts.len())?,
@@ -202,7 +234,7 @@ impl History {
         requires next { MayFollow setup.now self.now.events.items event.now }
         ensures { IsReplyFor setup.now self.now.events.items event.now result }
     {
-        if !accepts(event) {
+        if !event.accepts() {
             return None;
         }
         match user_named(&login_of(self, event.worker)) {
@@ -224,9 +256,10 @@ impl History {
         ensures events { IfOk result (λ done. self.new.events.items ≡ self.old.events.items ++ event ∷ []) }
     {
         let account = self.account_of_reply(setup, &event);
-        accept(&mut self.replies, account, value(&event.decision))?;
+        accept(&mut self.replies, account, event.decision.value())?;
         settle(&mut self.holds, setup.parts().accounts.as_slice(), &event);
         self.opened = opened_after(self.opened, &event);
+        seat(&mut self.seats, &event);
         follow(&mut self.recent, event)?;
         self.events.push(event)?;
         Ok(())

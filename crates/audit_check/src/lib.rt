@@ -10,6 +10,7 @@ mod history;
 mod laws;
 mod reading;
 mod said;
+mod seats;
 mod sessions;
 
 pub use answer::{Audit, AuditWhy};

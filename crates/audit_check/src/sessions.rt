@@ -9,8 +9,7 @@ ghost use Rattle.audit_check.specs.Following.{IsRecent};
 ghost use Rattle.audit_check.specs.History.{IsKept};
 
 use crate::history::History;
-use crate::reading::{DECOYS_FROM, accepts, challenge_name, takes, value};
-use policy_model::{Event, open_session};
+use policy_model::{DECOYS_FROM, Event, open_session};
 use request_catalogue::Name;
 
 /// The worker's events from its last permitted opening or end on: all that its open session did.
@@ -25,7 +24,7 @@ pub(crate) fn recent(history: &History, worker: u32) -> &[Event]
 fn later(last: Option<Event>, event: &Event, session: u32) -> Option<Event>
     ensures { result ≡ (if is_own session takes event.now then Some event.now else last) }
 {
-    if event.session == session && takes(event) {
+    if event.session == session && event.takes() {
         Some(*event)
     } else {
         last
@@ -49,7 +48,7 @@ pub(crate) fn is_decoy(taking: &Option<Event>) -> bool
 {
     match taking {
         None => false,
-        Some(event) => value(&event.decision) >= DECOYS_FROM,
+        Some(event) => event.decision.value() >= DECOYS_FROM,
     }
 }
 
@@ -59,7 +58,7 @@ pub(crate) fn user_named(taking: &Option<Event>) -> Option<Name>
 {
     match taking {
         None => None,
-        Some(event) => challenge_name(&event.ask),
+        Some(event) => event.ask.challenge_name(),
     }
 }
 
@@ -85,7 +84,7 @@ fn challenged_user(events: &[Event], session: u32) -> Option<Name>
 fn verified_after(user: Option<Name>, before: &[Event], event: &Event, session: u32) -> Option<Name>
     ensures { result ≡ (if is_own session accepts event.now then challenged_user before.now session else user) }
 {
-    if event.session == session && accepts(event) {
+    if event.session == session && event.accepts() {
         challenged_user(before, session)
     } else {
         user

@@ -1,7 +1,6 @@
 //! What is counted of a journal.
 
 ghost use Rattle.std.specs.Prelude.{◌≡◌, count_by};
-ghost use Rattle.policy_model.specs.Asks.{accepts, opens};
 ghost use Rattle.journal_counts.specs.Counted.{count_in, is_counted, is_denial, is_denial_by, is_end_of, is_of_kind};
 ghost use Rattle.journal_counts.specs.CountsText.{kind_word};
 
@@ -94,29 +93,15 @@ impl Counted {
         ensures { result ≡ is_counted self event.now }
     {
         match self {
-            Counted::Sessions => opens(event),
+            Counted::Sessions => event.opens(),
             Counted::Events => true,
             Counted::Permitted => event.decision.is_permit(),
             Counted::Denied => is_denial(&event.decision),
-            Counted::Accepted => accepts(event),
+            Counted::Accepted => event.accepts(),
             Counted::Rule(rule) => is_denial_by(rule, &event.decision),
             Counted::End(kind) => is_end_of(kind, &event.ask),
         }
     }
-}
-
-/// Whether an event opens a session.
-fn opens(event: &Event) -> bool
-    ensures { result ≡ opens event.now }
-{
-    event.ask.is_begin() && event.decision.is_permit()
-}
-
-/// Whether an event is a permitted reply.
-fn accepts(event: &Event) -> bool
-    ensures { result ≡ accepts event.now }
-{
-    matches!(event.ask, Ask::Reply { .. }) && event.decision.is_permit()
 }
 
 /// Whether an ask was denied.

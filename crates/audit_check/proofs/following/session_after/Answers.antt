@@ -1,6 +1,7 @@
-use Rattle.std.proofs.Common.{◌∙◌, sym}
+use Rattle.std.proofs.Common.{◌∙◌, ap, sym}
 use Rattle.policy_model.proofs.Verdicts.{session_of-other}
 use Rattle.audit_check.proofs.KeptLemmas.{begin_session}
+use Rattle.audit_check.specs.declared.seats.Seat.{Seat}
 use Rattle.audit_check.proofs.following.session_after.Goals as goal
 
 pub returns-then-is_begin : goal.returns-then-is_begin
@@ -10,6 +11,6 @@ returns-then-is_begin c = λ setup kept.
 
 pub returns-else-is_begin : goal.returns-else-is_begin
 returns-else-is_begin c = λ setup kept.
-    c.open_session.ensures
-    ∙ (c.recent.ensures setup kept).session
+    ap (λ (s : Seat). s.session) c.index.ensures
+    ∙ (kept.seats c.args.event.now.worker c.index.result.now c.requires.worker).session
     ∙ sym (session_of-other c.args.history.now.events.items c.args.event.now.worker c.args.event.now.ask c.args.event.now.decision (sym c.is_begin.ensures ∙ c.if-is_begin.false))

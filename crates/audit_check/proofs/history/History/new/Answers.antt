@@ -13,6 +13,8 @@ use Rattle.audit_check.specs.Legal.{IsLegalLog}
 use Rattle.audit_check.proofs.Fronts.{legal_none}
 use Rattle.audit_check.proofs.KeptLemmas.{first_told}
 use Rattle.audit_check.proofs.OwnEvents.{recent_none}
+use Rattle.audit_check.specs.Seats.{IsSeat}
+use Rattle.audit_check.proofs.SeatLemmas.{seat_none}
 use Rattle.audit_check.proofs.history.History.new.Goals as goal
 
 pub returns-clause-kept : goal.returns-clause-kept
@@ -27,6 +29,10 @@ returns-clause-kept c =
       recents = λ n d lt.
           subst (IsRecent (get_or c.in_ok-no_events.field-0.items n d).items n) (sym c.new.ensures.items)
           (subst (λ own. IsRecent own n []) (sym (c.in_ok-no_events.ensures.none n d lt)) (recent_none n));
+      seated = c.in_ok-no_sessions.ensures.same ∙ c.workers-2.ensures.value;
+      seats = λ n d lt.
+          subst (IsSeat (get_or c.in_ok-no_sessions.field-0.items n d) n) (sym c.new.ensures.items)
+          (subst (λ s. IsSeat s n []) (sym (c.in_ok-no_sessions.ensures.none n d lt)) (seat_none n));
       opened = sym (ap openings_of c.new.ensures.items);
       held = ap length holds ∙ length-map c.args.setup.now.accounts first_hold;
       holds = λ n account d stands.

@@ -12,6 +12,8 @@ use Rattle.audit_check.specs.Legal.{IsLegalLog}
 use Rattle.audit_check.proofs.Fronts.{legal_push}
 use Rattle.audit_check.proofs.KeptLemmas.{hold_more, replies_more}
 use Rattle.audit_check.proofs.OwnEvents.{recent_more}
+use Rattle.audit_check.specs.Seats.{IsSeat}
+use Rattle.audit_check.proofs.SeatLemmas.{seat_more}
 use Rattle.audit_check.proofs.history.History.push.Goals as goal
 
 pub returns-clause-kept : goal.returns-clause-kept
@@ -25,6 +27,13 @@ returns-clause-kept c = record {
       subst (IsRecent (get_or c.follow.new.recent.items n d).items n) (sym c.in_ok-push.ensures.items)
       (subst (λ own. IsRecent own n (c.args.self.now.events.items ++ c.args.event ∷ [])) (sym (c.in_ok-follow.ensures.each n d below))
       (recent_more c.args.setup.now c.args.self.now.events.items c.args.event n (get_or c.args.self.now.recent.items n d).items c.requires.kept.legal c.requires.next (c.requires.kept.recents n d below)));
+  seated = c.seat.ensures.same ∙ c.requires.kept.seated;
+  seats = λ n d lt.
+      let same = c.seat.ensures.same in
+      let below : n < length c.args.self.now.seats.items = omega (arith, lt, same) in
+      subst (IsSeat (get_or c.seat.new.seats.items n d) n) (sym c.in_ok-push.ensures.items)
+      (subst (λ s. IsSeat s n (c.args.self.now.events.items ++ c.args.event ∷ [])) (sym (c.seat.ensures.each n d below))
+      (seat_more c.args.setup.now c.args.self.now.events.items c.args.event n (get_or c.args.self.now.seats.items n d) c.requires.kept.legal c.requires.next (c.requires.kept.seats n d below)));
   opened =
       c.opened_after-self.ensures
       ∙ ap (λ n. n + cond (opens c.args.event) 1 0) c.requires.kept.opened

@@ -1,6 +1,6 @@
 use Rattle.std.proofs.Common.{◌∙◌, sym}
 use Rattle.audit_check.proofs.Recent.{recent_verdict}
-use Rattle.audit_check.proofs.following.verdict.Goals as goal
+use Rattle.audit_check.proofs.following.verdict_by_events.Goals as goal
 
 pub returns-then-is_local : goal.returns-then-is_local
 returns-then-is_local c =
