@@ -1,6 +1,6 @@
--- The words of one command are those of no other.
+-- The words of one mode are those of no other.
 use Rattle.std.proofs.Common.{◌≡◌, ℕ, ◌≤◌, Bool, true, false, ◌&&◌, cond, leb, map, List, [], ◌∷◌, Option, Some, None, refl, sym, ap, subst, ◌∙◌}
-use Rattle.std.specs.Prelude.{◌≢◌, codes, option_and_then, option_map}
+use Rattle.std.specs.Prelude.{◌≢◌, ◌==◌, codes, option_and_then, option_map}
 use Rattle.std.specs.Bool.{then_some}
 use Rattle.std.specs.Char.{to_ascii_lowercase}
 use Rattle.std.specs.Str.{bytes_eq}
@@ -15,14 +15,12 @@ use Rattle.audit_mode.specs.Words.{AuditParts, audit_command}
 use Rattle.drill_mode.specs.Words.{drill_command, drill_number}
 use Rattle.text_line.specs.Reading.{decimal_of}
 use Rattle.otp_extended.specs.Commands.{RenewParts, renew_command}
-use Rattle.serve_mode.specs.Words.{Named, Source, serve_command}
-use Rattle.monitor_server.specs.Commands.{asks_audit, asks_check, asks_child, asks_drill, asks_otp, asks_renew, asks_serve}
+use Rattle.recover_mode.specs.Words.{RecoverParts, recover_command}
+use Rattle.serve_mode.specs.Words.{Named, Plain, Source, serve_command}
+use Rattle.monitor_server.specs.Commands.{asks_audit, asks_check, asks_child, asks_drill, asks_otp, asks_recover, asks_renew, asks_serve}
 
 pub none-some : {A B : Type 0} (o : Option A) (a : A) → o ≡ None → o ≡ Some a → B
 none-some o a none some = absurd (let e : None ≡ Some a = sym none ∙ some in cc)
-
-pub some_parts : (parts other : OtpParts) → Some parts ≡ Some other → parts ≡ other
-some_parts parts other e = cc
 
 -- where nothing is asked for
 none_of : {A : Type 0} (o : Option A) → ((a : A) → o ≡ Some a → ⊥) → o ≡ None
@@ -33,249 +31,197 @@ none_of (Some a) never = absurd (never a refl)
 pub spoken : {A : Type 0} (read : List (List ℕ) → Option A) (words : List (List ℕ)) (a : A) → option_and_then read (plain_words words) ≡ Some a → plain_words words ≢ None
 spoken read words a asked none = none-some (option_and_then read (plain_words words)) a (ap (option_and_then read) none) asked
 
--- the words of `check` are two, those of `otp` four or five
-check_no_otp : (words : List (List ℕ)) (setup : List ℕ) → check_command words ≡ Some setup → otp_command words ≡ None
-check_no_otp [] setup asked = refl
-check_no_otp (mode ∷ []) setup asked = refl
-check_no_otp (mode ∷ name ∷ []) setup asked = refl
-check_no_otp (mode ∷ name ∷ more ∷ rest) setup asked = none-some (check_command (mode ∷ name ∷ more ∷ rest)) setup refl asked
+-- ---- the mode that the first word names
 
-pub check_no_password : (words : List (List ℕ)) (setup : List ℕ) → asks_check words ≡ Some setup → asks_otp words ≡ None
-check_no_password words setup = go (plain_words words) where
-  go : (o : Option (List (List ℕ))) → option_and_then check_command o ≡ Some setup → option_and_then otp_command o ≡ None
-  go None asked = refl
-  go (Some plain) asked = check_no_otp plain setup asked
+pub data Mode : Type 0 where
+  Serve : Mode
+  Otp : Mode
+  Check : Mode
+  Child : Mode
+  Audit : Mode
+  Renew : Mode
+  Drill : Mode
+  Recover : Mode
 
--- the first words of the modes differ
-other_mode : (mode one other : List ℕ) → bytes_eq mode one ≡ true → bytes_eq one other ≡ false → bytes_eq mode other ≡ false
-other_mode mode one other is differ = ap (λ (m : List ℕ). bytes_eq m other) ((bytes_eq-Decides mode one).0 is) ∙ differ
+abbrev pub place : Mode → ℕ
+place Serve = 0
+place Otp = 1
+place Check = 2
+place Child = 3
+place Audit = 4
+place Renew = 5
+place Drill = 6
+place Recover = 7
 
-check_mode_is : (mode name setup : List ℕ) → check_command (mode ∷ name ∷ []) ≡ Some setup → bytes_eq mode (codes "check") ≡ true
-check_mode_is mode name setup asked = go (bytes_eq mode (codes "check")) asked where
-  go : (b : Bool) → then_some b name ≡ Some setup → b ≡ true
-  go true h = refl
-  go false h = absurd cc
+-- the words of the modes
+abbrev mode_words : List (List ℕ × Mode)
+mode_words = (codes "serve", Serve) ∷ (codes "otp", Otp) ∷ (codes "check", Check) ∷ (codes "child-pre", Child) ∷ (codes "child-user", Child) ∷ (codes "audit", Audit) ∷ (codes "renew", Renew) ∷ (codes "drill", Drill) ∷ (codes "recover", Recover) ∷ []
 
-check_no_child_words : (words : List (List ℕ)) (setup : List ℕ) → check_command words ≡ Some setup → child_command words ≡ None
-check_no_child_words [] setup asked = refl
-check_no_child_words (mode ∷ []) setup asked = refl
-check_no_child_words (mode ∷ name ∷ []) setup asked = rw (other_mode mode (codes "check") (codes "child-pre") (check_mode_is mode name setup asked) refl) refl
-check_no_child_words (mode ∷ name ∷ more ∷ rest) setup asked = none-some (check_command (mode ∷ name ∷ more ∷ rest)) setup refl asked
+-- the mode that a word names, of a list of such words
+abbrev named_in : List (List ℕ × Mode) → List ℕ → Option Mode
+named_in [] word = None
+named_in ((name, mode) ∷ rest) word = cond (bytes_eq word name) (Some mode) (named_in rest word)
 
-otp_mode_is : (mode algo number seed : List ℕ) (list : Option (List ℕ)) (parts : OtpParts) → parts_of mode algo number seed list ≡ Some parts → bytes_eq mode (codes "otp") ≡ true
-otp_mode_is mode algo number seed list parts asked = go (bytes_eq mode (codes "otp")) asked where
-  go : (b : Bool) → cond (b && is_number_word number && is_seed_text seed) (option_map (λ a. record { algo = a; number = number_of_digits number; seed = map to_ascii_lowercase seed; list = list }) (algo_named algo)) None ≡ Some parts → b ≡ true
-  go true h = refl
-  go false h = absurd cc
+abbrev mode_of : List (List ℕ) → Option Mode
+mode_of [] = None
+mode_of (word ∷ rest) = named_in mode_words word
 
-otp_no_child_words : (words : List (List ℕ)) (parts : OtpParts) → otp_command words ≡ Some parts → child_command words ≡ None
-otp_no_child_words [] parts asked = refl
-otp_no_child_words (mode ∷ []) parts asked = refl
-otp_no_child_words (mode ∷ one ∷ []) parts asked = none-some (otp_command (mode ∷ one ∷ [])) parts refl asked
-otp_no_child_words (mode ∷ one ∷ two ∷ []) parts asked = refl
-otp_no_child_words (mode ∷ algo ∷ number ∷ seed ∷ []) parts asked = rw (other_mode mode (codes "otp") (codes "child-user") (otp_mode_is mode algo number seed None parts asked) refl) refl
-otp_no_child_words (mode ∷ one ∷ two ∷ three ∷ four ∷ rest) parts asked = refl
+-- words that begin with a mode's word are of that mode
+begins : (word name : List ℕ) (rest : List (List ℕ)) (mode : Mode) → bytes_eq word name ≡ true → named_in mode_words name ≡ Some mode → mode_of (word ∷ rest) ≡ Some mode
+begins word name rest mode is named = ap (named_in mode_words) ((bytes_eq-Decides word name).0 is) ∙ named
 
-pub check_no_child : (words : List (List ℕ)) (setup : List ℕ) → asks_check words ≡ Some setup → asks_child words ≡ None
-check_no_child words setup = go (plain_words words) where
-  go : (o : Option (List (List ℕ))) → option_and_then check_command o ≡ Some setup → option_and_then child_command o ≡ None
-  go None asked = refl
-  go (Some plain) asked = check_no_child_words plain setup asked
+-- something is asked for only where the test before it holds
+then_true : {A : Type 0} (b : Bool) (x y : A) → then_some b x ≡ Some y → b ≡ true
+then_true true x y h = refl
+then_true false x y h = absurd cc
 
-pub password_no_child : (words : List (List ℕ)) (parts : OtpParts) → asks_otp words ≡ Some parts → asks_child words ≡ None
-password_no_child words parts = go (plain_words words) where
-  go : (o : Option (List (List ℕ))) → option_and_then otp_command o ≡ Some parts → option_and_then child_command o ≡ None
-  go None asked = refl
-  go (Some plain) asked = otp_no_child_words plain parts asked
+cond_true : {A : Type 0} (b : Bool) (o : Option A) (y : A) → cond b o None ≡ Some y → b ≡ true
+cond_true true o y h = refl
+cond_true false o y h = absurd cc
 
--- what is read of three words alone is read of no others
-record AreThree (words : List (List ℕ)) : Type 0 where
-  pub mode : List ℕ
-  pub one : List ℕ
-  pub two : List ℕ
-  pub are : words ≡ mode ∷ one ∷ two ∷ []
+first_true : (a b : Bool) → (a && b) ≡ true → a ≡ true
+first_true true b h = refl
+first_true false b h = absurd cc
 
-audit_three : (words : List (List ℕ)) (parts : AuditParts) → audit_command words ≡ Some parts → AreThree words
-audit_three [] parts asked = none-some (audit_command []) parts refl asked
-audit_three (mode ∷ []) parts asked = none-some (audit_command (mode ∷ [])) parts refl asked
-audit_three (mode ∷ one ∷ []) parts asked = none-some (audit_command (mode ∷ one ∷ [])) parts refl asked
-audit_three (mode ∷ one ∷ two ∷ []) parts asked = record { mode = mode; one = one; two = two; are = refl }
-audit_three (mode ∷ one ∷ two ∷ more ∷ rest) parts asked = none-some (audit_command (mode ∷ one ∷ two ∷ more ∷ rest)) parts refl asked
+serve_mode_of : (words : List (List ℕ)) (source : Source) → serve_command words ≡ Some source → mode_of words ≡ Some Serve
+serve_mode_of [] source asked = none-some (serve_command []) source refl asked
+serve_mode_of (mode ∷ []) source asked = begins mode (codes "serve") [] Serve (then_true (bytes_eq mode (codes "serve")) Plain source asked) refl
+serve_mode_of (mode ∷ name ∷ []) source asked = begins mode (codes "serve") (name ∷ []) Serve (then_true (bytes_eq mode (codes "serve")) (Named name None) source asked) refl
+serve_mode_of (mode ∷ name ∷ log ∷ []) source asked = begins mode (codes "serve") (name ∷ log ∷ []) Serve (then_true (bytes_eq mode (codes "serve")) (Named name (Some log)) source asked) refl
+serve_mode_of (mode ∷ name ∷ log ∷ more ∷ rest) source asked = none-some (serve_command (mode ∷ name ∷ log ∷ more ∷ rest)) source refl asked
 
-renew_three : (words : List (List ℕ)) (parts : RenewParts) → renew_command words ≡ Some parts → AreThree words
-renew_three [] parts asked = none-some (renew_command []) parts refl asked
-renew_three (mode ∷ []) parts asked = none-some (renew_command (mode ∷ [])) parts refl asked
-renew_three (mode ∷ one ∷ []) parts asked = none-some (renew_command (mode ∷ one ∷ [])) parts refl asked
-renew_three (mode ∷ one ∷ two ∷ []) parts asked = record { mode = mode; one = one; two = two; are = refl }
-renew_three (mode ∷ one ∷ two ∷ more ∷ rest) parts asked = none-some (renew_command (mode ∷ one ∷ two ∷ more ∷ rest)) parts refl asked
+otp_parts_mode : (mode algo number seed : List ℕ) (list : Option (List ℕ)) (rest : List (List ℕ)) (parts : OtpParts) → parts_of mode algo number seed list ≡ Some parts → mode_of (mode ∷ rest) ≡ Some Otp
+otp_parts_mode mode algo number seed list rest parts asked =
+    let both = cond_true (bytes_eq mode (codes "otp") && is_number_word number && is_seed_text seed) (option_map (λ a. record { algo = a; number = number_of_digits number; seed = map to_ascii_lowercase seed; list = list }) (algo_named algo)) parts asked in
+    begins mode (codes "otp") rest Otp (first_true (bytes_eq mode (codes "otp")) (is_number_word number) (first_true (bytes_eq mode (codes "otp") && is_number_word number) (is_seed_text seed) both)) refl
 
--- what the plain words don't ask for the words don't
-no_ask : {A B : Type 0} (read : List (List ℕ) → Option A) (other : List (List ℕ) → Option B) → ((plain : List (List ℕ)) (a : A) → read plain ≡ Some a → other plain ≡ None) → (words : List (List ℕ)) (a : A) → option_and_then read (plain_words words) ≡ Some a → option_and_then other (plain_words words) ≡ None
-no_ask read other apart words a = go (plain_words words) where
-  go : (o : Option (List (List ℕ))) → option_and_then read o ≡ Some a → option_and_then other o ≡ None
-  go None asked = refl
-  go (Some plain) asked = apart plain a asked
+otp_mode_of : (words : List (List ℕ)) (parts : OtpParts) → otp_command words ≡ Some parts → mode_of words ≡ Some Otp
+otp_mode_of [] parts asked = none-some (otp_command []) parts refl asked
+otp_mode_of (mode ∷ []) parts asked = none-some (otp_command (mode ∷ [])) parts refl asked
+otp_mode_of (mode ∷ one ∷ []) parts asked = none-some (otp_command (mode ∷ one ∷ [])) parts refl asked
+otp_mode_of (mode ∷ one ∷ two ∷ []) parts asked = none-some (otp_command (mode ∷ one ∷ two ∷ [])) parts refl asked
+otp_mode_of (mode ∷ algo ∷ number ∷ seed ∷ []) parts asked = otp_parts_mode mode algo number seed None (algo ∷ number ∷ seed ∷ []) parts asked
+otp_mode_of (mode ∷ algo ∷ number ∷ seed ∷ list ∷ []) parts asked = otp_parts_mode mode algo number seed (Some list) (algo ∷ number ∷ seed ∷ list ∷ []) parts asked
+otp_mode_of (mode ∷ one ∷ two ∷ three ∷ four ∷ more ∷ rest) parts asked = none-some (otp_command (mode ∷ one ∷ two ∷ three ∷ four ∷ more ∷ rest)) parts refl asked
 
-pub audit_no_password : (words : List (List ℕ)) (parts : AuditParts) → asks_audit words ≡ Some parts → asks_otp words ≡ None
-audit_no_password = no_ask audit_command otp_command (λ plain parts asked. ap otp_command (audit_three plain parts asked).are)
+check_mode_of : (words : List (List ℕ)) (setup : List ℕ) → check_command words ≡ Some setup → mode_of words ≡ Some Check
+check_mode_of [] setup asked = none-some (check_command []) setup refl asked
+check_mode_of (mode ∷ []) setup asked = none-some (check_command (mode ∷ [])) setup refl asked
+check_mode_of (mode ∷ name ∷ []) setup asked = begins mode (codes "check") (name ∷ []) Check (then_true (bytes_eq mode (codes "check")) name setup asked) refl
+check_mode_of (mode ∷ name ∷ more ∷ rest) setup asked = none-some (check_command (mode ∷ name ∷ more ∷ rest)) setup refl asked
 
-pub audit_no_check : (words : List (List ℕ)) (parts : AuditParts) → asks_audit words ≡ Some parts → asks_check words ≡ None
-audit_no_check = no_ask audit_command check_command (λ plain parts asked. ap check_command (audit_three plain parts asked).are)
+child_mode_of : (words : List (List ℕ)) (parts : ChildParts) → child_command words ≡ Some parts → mode_of words ≡ Some Child
+child_mode_of [] parts asked = none-some (child_command []) parts refl asked
+child_mode_of (mode ∷ []) parts asked = none-some (child_command (mode ∷ [])) parts refl asked
+child_mode_of (mode ∷ session ∷ []) parts asked = begins mode (codes "child-pre") (session ∷ []) Child (cond_true (bytes_eq mode (codes "child-pre")) _ parts asked) refl
+child_mode_of (mode ∷ session ∷ uid ∷ []) parts asked = none-some (child_command (mode ∷ session ∷ uid ∷ [])) parts refl asked
+child_mode_of (mode ∷ session ∷ uid ∷ name ∷ []) parts asked = begins mode (codes "child-user") (session ∷ uid ∷ name ∷ []) Child (first_true (bytes_eq mode (codes "child-user")) _ (cond_true _ _ parts asked)) refl
+child_mode_of (mode ∷ session ∷ uid ∷ name ∷ more ∷ rest) parts asked = none-some (child_command (mode ∷ session ∷ uid ∷ name ∷ more ∷ rest)) parts refl asked
 
-pub audit_no_child : (words : List (List ℕ)) (parts : AuditParts) → asks_audit words ≡ Some parts → asks_child words ≡ None
-audit_no_child = no_ask audit_command child_command (λ plain parts asked. ap child_command (audit_three plain parts asked).are)
+audit_mode_of : (words : List (List ℕ)) (parts : AuditParts) → audit_command words ≡ Some parts → mode_of words ≡ Some Audit
+audit_mode_of [] parts asked = none-some (audit_command []) parts refl asked
+audit_mode_of (mode ∷ []) parts asked = none-some (audit_command (mode ∷ [])) parts refl asked
+audit_mode_of (mode ∷ setup ∷ []) parts asked = none-some (audit_command (mode ∷ setup ∷ [])) parts refl asked
+audit_mode_of (mode ∷ setup ∷ log ∷ []) parts asked = begins mode (codes "audit") (setup ∷ log ∷ []) Audit (then_true (bytes_eq mode (codes "audit")) (record { setup = setup; log = log }) parts asked) refl
+audit_mode_of (mode ∷ setup ∷ log ∷ more ∷ rest) parts asked = none-some (audit_command (mode ∷ setup ∷ log ∷ more ∷ rest)) parts refl asked
 
-pub renew_no_password : (words : List (List ℕ)) (parts : RenewParts) → asks_renew words ≡ Some parts → asks_otp words ≡ None
-renew_no_password = no_ask renew_command otp_command (λ plain parts asked. ap otp_command (renew_three plain parts asked).are)
+recover_mode_of : (words : List (List ℕ)) (parts : RecoverParts) → recover_command words ≡ Some parts → mode_of words ≡ Some Recover
+recover_mode_of [] parts asked = none-some (recover_command []) parts refl asked
+recover_mode_of (mode ∷ []) parts asked = none-some (recover_command (mode ∷ [])) parts refl asked
+recover_mode_of (mode ∷ setup ∷ []) parts asked = none-some (recover_command (mode ∷ setup ∷ [])) parts refl asked
+recover_mode_of (mode ∷ setup ∷ log ∷ []) parts asked = begins mode (codes "recover") (setup ∷ log ∷ []) Recover (then_true (bytes_eq mode (codes "recover")) (record { setup = setup; log = log }) parts asked) refl
+recover_mode_of (mode ∷ setup ∷ log ∷ more ∷ rest) parts asked = none-some (recover_command (mode ∷ setup ∷ log ∷ more ∷ rest)) parts refl asked
 
-pub renew_no_check : (words : List (List ℕ)) (parts : RenewParts) → asks_renew words ≡ Some parts → asks_check words ≡ None
-renew_no_check = no_ask renew_command check_command (λ plain parts asked. ap check_command (renew_three plain parts asked).are)
+renew_mode_of : (words : List (List ℕ)) (parts : RenewParts) → renew_command words ≡ Some parts → mode_of words ≡ Some Renew
+renew_mode_of [] parts asked = none-some (renew_command []) parts refl asked
+renew_mode_of (mode ∷ []) parts asked = none-some (renew_command (mode ∷ [])) parts refl asked
+renew_mode_of (mode ∷ setup ∷ []) parts asked = none-some (renew_command (mode ∷ setup ∷ [])) parts refl asked
+renew_mode_of (mode ∷ setup ∷ user ∷ []) parts asked = begins mode (codes "renew") (setup ∷ user ∷ []) Renew (cond_true (bytes_eq mode (codes "renew")) _ parts asked) refl
+renew_mode_of (mode ∷ setup ∷ log ∷ more ∷ rest) parts asked = none-some (renew_command (mode ∷ setup ∷ log ∷ more ∷ rest)) parts refl asked
 
-pub renew_no_child : (words : List (List ℕ)) (parts : RenewParts) → asks_renew words ≡ Some parts → asks_child words ≡ None
-renew_no_child = no_ask renew_command child_command (λ plain parts asked. ap child_command (renew_three plain parts asked).are)
+drill_mode_of : (words : List (List ℕ)) (number : ℕ) → drill_command words ≡ Some number → mode_of words ≡ Some Drill
+drill_mode_of [] number asked = none-some (drill_command []) number refl asked
+drill_mode_of (mode ∷ []) number asked = none-some (drill_command (mode ∷ [])) number refl asked
+drill_mode_of (mode ∷ word ∷ []) number asked = begins mode (codes "drill") (word ∷ []) Drill (cond_true (bytes_eq mode (codes "drill")) (drill_number word) number asked) refl
+drill_mode_of (mode ∷ word ∷ more ∷ rest) number asked = none-some (drill_command (mode ∷ word ∷ more ∷ rest)) number refl asked
 
--- `audit` is not `renew`
-audit_mode_is : (mode setup log : List ℕ) (parts : AuditParts) → audit_command (mode ∷ setup ∷ log ∷ []) ≡ Some parts → bytes_eq mode (codes "audit") ≡ true
-audit_mode_is mode setup log parts asked = go (bytes_eq mode (codes "audit")) asked where
-  go : (b : Bool) → then_some b (record { setup = setup; log = log }) ≡ Some parts → b ≡ true
-  go true h = refl
-  go false h = absurd cc
+-- ---- what is asked of one mode is asked of no other
 
-audit_no_renew_words : (words : List (List ℕ)) (parts : AuditParts) → audit_command words ≡ Some parts → renew_command words ≡ None
-audit_no_renew_words [] parts asked = refl
-audit_no_renew_words (mode ∷ []) parts asked = refl
-audit_no_renew_words (mode ∷ one ∷ []) parts asked = refl
-audit_no_renew_words (mode ∷ one ∷ two ∷ []) parts asked = rw (other_mode mode (codes "audit") (codes "renew") (audit_mode_is mode one two parts asked) refl) refl
-audit_no_renew_words (mode ∷ one ∷ two ∷ more ∷ rest) parts asked = refl
+abbrev mode_in : List (List ℕ) → Option Mode
+mode_in words = option_and_then mode_of (plain_words words)
 
-pub audit_no_renew : (words : List (List ℕ)) (parts : AuditParts) → asks_audit words ≡ Some parts → asks_renew words ≡ None
-audit_no_renew = no_ask audit_command renew_command audit_no_renew_words
+-- words that ask a mode for something are of that mode
+asked_mode : {A : Type 0} (read : List (List ℕ) → Option A) (mode : Mode) → ((plain : List (List ℕ)) (a : A) → read plain ≡ Some a → mode_of plain ≡ Some mode) → (words : List (List ℕ)) (a : A) → option_and_then read (plain_words words) ≡ Some a → mode_in words ≡ Some mode
+asked_mode read mode of words a = go (plain_words words) where
+  go : (o : Option (List (List ℕ))) → option_and_then read o ≡ Some a → option_and_then mode_of o ≡ Some mode
+  go None asked = absurd cc
+  go (Some plain) asked = of plain a asked
 
-pub audit_no_serve : (words : List (List ℕ)) (parts : AuditParts) → asks_audit words ≡ Some parts → asks_serve words ≡ None
-audit_no_serve = no_ask audit_command serve_command (λ plain parts asked. ap serve_command (audit_three plain parts asked).are)
+-- a mode has its own place
+same_place : (mode : Mode) → (place mode == place mode) ≡ false → ⊥
+same_place Serve e = absurd cc
+same_place Otp e = absurd cc
+same_place Check e = absurd cc
+same_place Child e = absurd cc
+same_place Audit e = absurd cc
+same_place Renew e = absurd cc
+same_place Drill e = absurd cc
+same_place Recover e = absurd cc
 
-pub renew_no_serve : (words : List (List ℕ)) (parts : RenewParts) → asks_renew words ≡ Some parts → asks_serve words ≡ None
-renew_no_serve = no_ask renew_command serve_command (λ plain parts asked. ap serve_command (renew_three plain parts asked).are)
+-- so they ask another mode for nothing
+apart : {A : Type 0} (read : List (List ℕ) → Option A) (mode other : Mode) → ((plain : List (List ℕ)) (a : A) → read plain ≡ Some a → mode_of plain ≡ Some mode) → (words : List (List ℕ)) → mode_in words ≡ Some other → (place mode == place other) ≡ false → option_and_then read (plain_words words) ≡ None
+apart read mode other of words is differ = none_of (option_and_then read (plain_words words)) (λ a asked. clash (let e : Some mode ≡ Some other = sym (asked_mode read mode of words a asked) ∙ is in cc)) where
+  clash : mode ≡ other → ⊥
+  clash same = let e : (place mode == place mode) ≡ false = ap (λ m. place mode == place m) same ∙ differ in same_place mode e
 
--- the words of `serve` are one or two
-serve_mode_is : (mode : List ℕ) (source other : Source) → then_some (bytes_eq mode (codes "serve")) source ≡ Some other → bytes_eq mode (codes "serve") ≡ true
-serve_mode_is mode source other asked = go (bytes_eq mode (codes "serve")) asked where
-  go : (b : Bool) → then_some b source ≡ Some other → b ≡ true
-  go true h = refl
-  go false h = absurd cc
+-- words that ask no other mode for anything
+pub record AskOnly (words : List (List ℕ)) (mode : Mode) : Type 0 where
+  pub serve : (place Serve == place mode) ≡ false → asks_serve words ≡ None
+  pub otp : (place Otp == place mode) ≡ false → asks_otp words ≡ None
+  pub check : (place Check == place mode) ≡ false → asks_check words ≡ None
+  pub child : (place Child == place mode) ≡ false → asks_child words ≡ None
+  pub audit : (place Audit == place mode) ≡ false → asks_audit words ≡ None
+  pub renew : (place Renew == place mode) ≡ false → asks_renew words ≡ None
+  pub drill : (place Drill == place mode) ≡ false → asks_drill words ≡ None
+  pub recover : (place Recover == place mode) ≡ false → asks_recover words ≡ None
 
-serve_no_otp_words : (words : List (List ℕ)) (source : Source) → serve_command words ≡ Some source → otp_command words ≡ None
-serve_no_otp_words [] source asked = refl
-serve_no_otp_words (mode ∷ []) source asked = refl
-serve_no_otp_words (mode ∷ name ∷ []) source asked = refl
-serve_no_otp_words (mode ∷ name ∷ more ∷ rest) source asked = none-some (serve_command (mode ∷ name ∷ more ∷ rest)) source refl asked
+ask_only : (words : List (List ℕ)) (mode : Mode) → mode_in words ≡ Some mode → AskOnly words mode
+ask_only words mode is = record {
+  serve = apart serve_command Serve mode serve_mode_of words is;
+  otp = apart otp_command Otp mode otp_mode_of words is;
+  check = apart check_command Check mode check_mode_of words is;
+  child = apart child_command Child mode child_mode_of words is;
+  audit = apart audit_command Audit mode audit_mode_of words is;
+  renew = apart renew_command Renew mode renew_mode_of words is;
+  drill = apart drill_command Drill mode drill_mode_of words is;
+  recover = apart recover_command Recover mode recover_mode_of words is;
+}
 
-serve_no_check_words : (words : List (List ℕ)) (source : Source) → serve_command words ≡ Some source → check_command words ≡ None
-serve_no_check_words [] source asked = refl
-serve_no_check_words (mode ∷ []) source asked = refl
-serve_no_check_words (mode ∷ name ∷ []) source asked = rw (other_mode mode (codes "serve") (codes "check") (serve_mode_is mode (Named name) source asked) refl) refl
-serve_no_check_words (mode ∷ name ∷ more ∷ rest) source asked = none-some (serve_command (mode ∷ name ∷ more ∷ rest)) source refl asked
+pub only_serve : (words : List (List ℕ)) (source : Source) → asks_serve words ≡ Some source → AskOnly words Serve
+only_serve words source asked = ask_only words Serve (asked_mode serve_command Serve serve_mode_of words source asked)
 
-serve_no_child_words : (words : List (List ℕ)) (source : Source) → serve_command words ≡ Some source → child_command words ≡ None
-serve_no_child_words [] source asked = refl
-serve_no_child_words (mode ∷ []) source asked = refl
-serve_no_child_words (mode ∷ name ∷ []) source asked = rw (other_mode mode (codes "serve") (codes "child-pre") (serve_mode_is mode (Named name) source asked) refl) refl
-serve_no_child_words (mode ∷ name ∷ more ∷ rest) source asked = none-some (serve_command (mode ∷ name ∷ more ∷ rest)) source refl asked
+pub only_otp : (words : List (List ℕ)) (parts : OtpParts) → asks_otp words ≡ Some parts → AskOnly words Otp
+only_otp words parts asked = ask_only words Otp (asked_mode otp_command Otp otp_mode_of words parts asked)
 
-pub serve_no_password : (words : List (List ℕ)) (source : Source) → asks_serve words ≡ Some source → asks_otp words ≡ None
-serve_no_password = no_ask serve_command otp_command serve_no_otp_words
+pub only_check : (words : List (List ℕ)) (setup : List ℕ) → asks_check words ≡ Some setup → AskOnly words Check
+only_check words setup asked = ask_only words Check (asked_mode check_command Check check_mode_of words setup asked)
 
-pub serve_no_check : (words : List (List ℕ)) (source : Source) → asks_serve words ≡ Some source → asks_check words ≡ None
-serve_no_check = no_ask serve_command check_command serve_no_check_words
+pub only_child : (words : List (List ℕ)) (parts : ChildParts) → asks_child words ≡ Some parts → AskOnly words Child
+only_child words parts asked = ask_only words Child (asked_mode child_command Child child_mode_of words parts asked)
 
-pub serve_no_child : (words : List (List ℕ)) (source : Source) → asks_serve words ≡ Some source → asks_child words ≡ None
-serve_no_child = no_ask serve_command child_command serve_no_child_words
+pub only_audit : (words : List (List ℕ)) (parts : AuditParts) → asks_audit words ≡ Some parts → AskOnly words Audit
+only_audit words parts asked = ask_only words Audit (asked_mode audit_command Audit audit_mode_of words parts asked)
 
-pub serve_no_audit : (words : List (List ℕ)) (source : Source) → asks_serve words ≡ Some source → asks_audit words ≡ None
-serve_no_audit words source asked = none_of (asks_audit words) (λ parts is. none-some (asks_serve words) source (audit_no_serve words parts is) asked)
+pub only_renew : (words : List (List ℕ)) (parts : RenewParts) → asks_renew words ≡ Some parts → AskOnly words Renew
+only_renew words parts asked = ask_only words Renew (asked_mode renew_command Renew renew_mode_of words parts asked)
 
-pub serve_no_renew : (words : List (List ℕ)) (source : Source) → asks_serve words ≡ Some source → asks_renew words ≡ None
-serve_no_renew words source asked = none_of (asks_renew words) (λ parts is. none-some (asks_serve words) source (renew_no_serve words parts is) asked)
+pub only_drill : (words : List (List ℕ)) (number : ℕ) → asks_drill words ≡ Some number → AskOnly words Drill
+only_drill words number asked = ask_only words Drill (asked_mode drill_command Drill drill_mode_of words number asked)
 
--- and those of another mode are not of `serve`
-pub password_no_serve : (words : List (List ℕ)) (parts : OtpParts) → asks_otp words ≡ Some parts → asks_serve words ≡ None
-password_no_serve words parts asked = none_of (asks_serve words) (λ source is. none-some (asks_otp words) parts (serve_no_password words source is) asked)
+pub only_recover : (words : List (List ℕ)) (parts : RecoverParts) → asks_recover words ≡ Some parts → AskOnly words Recover
+only_recover words parts asked = ask_only words Recover (asked_mode recover_command Recover recover_mode_of words parts asked)
 
-pub check_no_serve : (words : List (List ℕ)) (setup : List ℕ) → asks_check words ≡ Some setup → asks_serve words ≡ None
-check_no_serve words setup asked = none_of (asks_serve words) (λ source is. none-some (asks_check words) setup (serve_no_check words source is) asked)
-
-pub child_no_serve : (words : List (List ℕ)) (parts : ChildParts) → asks_child words ≡ Some parts → asks_serve words ≡ None
-child_no_serve words parts asked = none_of (asks_serve words) (λ source is. none-some (asks_child words) parts (serve_no_child words source is) asked)
-
--- the words of `drill` are two
-record AreOfDrill (words : List (List ℕ)) : Type 0 where
-  pub mode : List ℕ
-  pub number : List ℕ
-  pub are : words ≡ mode ∷ number ∷ []
-  pub is : bytes_eq mode (codes "drill") ≡ true
-
-drill_words : (words : List (List ℕ)) (n : ℕ) → drill_command words ≡ Some n → AreOfDrill words
-drill_words [] n asked = none-some (drill_command []) n refl asked
-drill_words (mode ∷ []) n asked = none-some (drill_command (mode ∷ [])) n refl asked
-drill_words (mode ∷ number ∷ []) n asked = record { mode = mode; number = number; are = refl; is = go (bytes_eq mode (codes "drill")) asked } where
-  go : (b : Bool) → cond b (drill_number number) None ≡ Some n → b ≡ true
-  go true h = refl
-  go false h = absurd cc
-drill_words (mode ∷ number ∷ more ∷ rest) n asked = none-some (drill_command (mode ∷ number ∷ more ∷ rest)) n refl asked
-
-drill_no_otp_words : (words : List (List ℕ)) (n : ℕ) → drill_command words ≡ Some n → otp_command words ≡ None
-drill_no_otp_words words n asked = ap otp_command (drill_words words n asked).are
-
-drill_no_check_words : (words : List (List ℕ)) (n : ℕ) → drill_command words ≡ Some n → check_command words ≡ None
-drill_no_check_words words n asked =
-    let d = drill_words words n asked in
-    ap check_command d.are ∙ ap (λ b. then_some b d.number) (other_mode d.mode (codes "drill") (codes "check") d.is refl)
-
-drill_no_child_words : (words : List (List ℕ)) (n : ℕ) → drill_command words ≡ Some n → child_command words ≡ None
-drill_no_child_words words n asked =
-    let d = drill_words words n asked in
-    ap child_command d.are ∙ rw (other_mode d.mode (codes "drill") (codes "child-pre") d.is refl) refl
-
-drill_no_serve_words : (words : List (List ℕ)) (n : ℕ) → drill_command words ≡ Some n → serve_command words ≡ None
-drill_no_serve_words words n asked =
-    let d = drill_words words n asked in
-    ap serve_command d.are ∙ ap (λ b. then_some b (Named d.number)) (other_mode d.mode (codes "drill") (codes "serve") d.is refl)
-
-pub drill_no_password : (words : List (List ℕ)) (n : ℕ) → asks_drill words ≡ Some n → asks_otp words ≡ None
-drill_no_password = no_ask drill_command otp_command drill_no_otp_words
-
-pub drill_no_check : (words : List (List ℕ)) (n : ℕ) → asks_drill words ≡ Some n → asks_check words ≡ None
-drill_no_check = no_ask drill_command check_command drill_no_check_words
-
-pub drill_no_child : (words : List (List ℕ)) (n : ℕ) → asks_drill words ≡ Some n → asks_child words ≡ None
-drill_no_child = no_ask drill_command child_command drill_no_child_words
-
-pub drill_no_audit : (words : List (List ℕ)) (n : ℕ) → asks_drill words ≡ Some n → asks_audit words ≡ None
-drill_no_audit = no_ask drill_command audit_command (λ plain n asked. ap audit_command (drill_words plain n asked).are)
-
-pub drill_no_renew : (words : List (List ℕ)) (n : ℕ) → asks_drill words ≡ Some n → asks_renew words ≡ None
-drill_no_renew = no_ask drill_command renew_command (λ plain n asked. ap renew_command (drill_words plain n asked).are)
-
-pub drill_no_serve : (words : List (List ℕ)) (n : ℕ) → asks_drill words ≡ Some n → asks_serve words ≡ None
-drill_no_serve = no_ask drill_command serve_command drill_no_serve_words
-
-pub serve_no_drill : (words : List (List ℕ)) (source : Source) → asks_serve words ≡ Some source → asks_drill words ≡ None
-serve_no_drill words source asked = none_of (asks_drill words) (λ n is. none-some (asks_serve words) source (drill_no_serve words n is) asked)
-
-pub password_no_drill : (words : List (List ℕ)) (parts : OtpParts) → asks_otp words ≡ Some parts → asks_drill words ≡ None
-password_no_drill words parts asked = none_of (asks_drill words) (λ n is. none-some (asks_otp words) parts (drill_no_password words n is) asked)
-
-pub check_no_drill : (words : List (List ℕ)) (setup : List ℕ) → asks_check words ≡ Some setup → asks_drill words ≡ None
-check_no_drill words setup asked = none_of (asks_drill words) (λ n is. none-some (asks_check words) setup (drill_no_check words n is) asked)
-
-pub child_no_drill : (words : List (List ℕ)) (parts : ChildParts) → asks_child words ≡ Some parts → asks_drill words ≡ None
-child_no_drill words parts asked = none_of (asks_drill words) (λ n is. none-some (asks_child words) parts (drill_no_child words n is) asked)
-
-pub audit_no_drill : (words : List (List ℕ)) (parts : AuditParts) → asks_audit words ≡ Some parts → asks_drill words ≡ None
-audit_no_drill words parts asked = none_of (asks_drill words) (λ n is. none-some (asks_audit words) parts (drill_no_audit words n is) asked)
-
-pub renew_no_drill : (words : List (List ℕ)) (parts : RenewParts) → asks_renew words ≡ Some parts → asks_drill words ≡ None
-renew_no_drill words parts asked = none_of (asks_drill words) (λ n is. none-some (asks_renew words) parts (drill_no_renew words n is) asked)
+-- ---- the number of a drill
 
 -- the number is from 1 to 64
 number_within : (o : Option ℕ) (n : ℕ) → option_and_then (λ m. then_some (leb 1 m && leb m 64) m) o ≡ Some n → (1 ≤ n) × (n ≤ 64)
@@ -289,9 +235,10 @@ number_within (Some m) n is = go (leb 1 m && leb m 64) refl is where
   go false within same = absurd cc
 
 drill_range : (words : List (List ℕ)) (n : ℕ) → drill_command words ≡ Some n → (1 ≤ n) × (n ≤ 64)
-drill_range words n asked =
-    let d = drill_words words n asked in
-    number_within (decimal_of d.number) n (ap (λ b. cond b (drill_number d.number) None) (sym d.is) ∙ ap drill_command (sym d.are) ∙ asked)
+drill_range [] n asked = none-some (drill_command []) n refl asked
+drill_range (mode ∷ []) n asked = none-some (drill_command (mode ∷ [])) n refl asked
+drill_range (mode ∷ word ∷ []) n asked = number_within (decimal_of word) n (ap (λ b. cond b (drill_number word) None) (sym (cond_true (bytes_eq mode (codes "drill")) (drill_number word) n asked)) ∙ asked)
+drill_range (mode ∷ word ∷ more ∷ rest) n asked = none-some (drill_command (mode ∷ word ∷ more ∷ rest)) n refl asked
 
 pub drill_within : (words : List (List ℕ)) (n : ℕ) → asks_drill words ≡ Some n → (1 ≤ n) × (n ≤ 64)
 drill_within words n = go (plain_words words) where

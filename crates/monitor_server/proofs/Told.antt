@@ -30,6 +30,10 @@ use Rattle.otp_extended.specs.declared.run.RenewalFault.TheVariants as renewal_f
 use Rattle.renew_mode.specs.declared.error.RenewError.{RenewError}
 use Rattle.renew_mode.specs.declared.error.RenewError.TheVariants as renew_errors
 use Rattle.renew_mode.specs.Errors as renews
+use Rattle.recover_mode.specs.declared.line.Recovery.{Recovery}
+use Rattle.recover_mode.specs.declared.error.RecoveryError.{RecoveryError}
+use Rattle.recover_mode.specs.declared.error.RecoveryError.TheVariants as recovery_errors
+use Rattle.recover_mode.specs.Errors as recoveries
 use Rattle.service_reading.specs.declared.error.ServiceError.TheVariants as service_errors
 use Rattle.serve_mode.specs.declared.error.ServeError.{ServeError}
 use Rattle.serve_mode.specs.declared.error.ServeError.TheVariants as serve_errors
@@ -39,7 +43,7 @@ use Rattle.monitor_server.specs.declared.report.Detail.{Detail}
 use Rattle.monitor_server.specs.declared.report.Detail.TheVariants.{Nothing}
 use Rattle.monitor_server.specs.Commands.{IsCommand, asks_serve}
 use Rattle.monitor_server.specs.Headline.{IsStatus, StatusHasCause, is_serve_status, statuses}
-use Rattle.monitor_server.specs.Modes.{audit_detail, checked_detail, detail_of, renew_detail, serve_detail}
+use Rattle.monitor_server.specs.Modes.{audit_detail, checked_detail, detail_of, recover_detail, renew_detail, serve_detail}
 
 -- a status of a mode that serves nobody
 abbrev pub is_mode_status : ℕ → Bool
@@ -52,6 +56,7 @@ IsModeStatus status = is_mode_status status ≡ true
 pub record IsPlainStatus (status : ℕ) : Type 0 where
   pub four : status ≢ 4
   pub five : status ≢ 5
+  pub thirteen : status ≢ 13
   pub fourteen : status ≢ 14
   pub fifteen : status ≢ 15
 
@@ -80,6 +85,16 @@ renew_status (Err (renew_errors.NoRenewal (renewal_faults.Refused fault))) = ref
 renew_status (Err renew_errors.OutOfMemory) = refl
 renew_status (Err renew_errors.ReplaceFailed) = refl
 renew_status (Err renew_errors.SendFailed) = refl
+
+pub recover_status : (outcome : Result Recovery RecoveryError) → IsModeStatus (recoveries.status_of outcome)
+recover_status (Ok recovery) = refl
+recover_status (Err recovery_errors.ReadFailed) = refl
+recover_status (Err recovery_errors.SetupMissing) = refl
+recover_status (Err (recovery_errors.SetupRefused fault)) = refl
+recover_status (Err (recovery_errors.LogRefused number)) = refl
+recover_status (Err recovery_errors.OutOfMemory) = refl
+recover_status (Err recovery_errors.ReplaceFailed) = refl
+recover_status (Err recovery_errors.SendFailed) = refl
 
 pub drill_status : (outcome : Result (Vec Event Global) DrillError) → IsModeStatus (drills.status_of outcome)
 drill_status (Ok journal) = refl
@@ -157,10 +172,20 @@ renew_plain (Err renew_errors.OutOfMemory) plain = refl
 renew_plain (Err renew_errors.ReplaceFailed) plain = refl
 renew_plain (Err renew_errors.SendFailed) plain = refl
 
+pub recover_plain : (outcome : Result Recovery RecoveryError) → IsPlainStatus (recoveries.status_of outcome) → recover_detail outcome ≡ Nothing
+recover_plain (Ok recovery) plain = refl
+recover_plain (Err recovery_errors.ReadFailed) plain = refl
+recover_plain (Err recovery_errors.SetupMissing) plain = absurd (plain.four refl)
+recover_plain (Err (recovery_errors.SetupRefused fault)) plain = absurd (plain.five refl)
+recover_plain (Err (recovery_errors.LogRefused number)) plain = absurd (plain.thirteen refl)
+recover_plain (Err recovery_errors.OutOfMemory) plain = refl
+recover_plain (Err recovery_errors.ReplaceFailed) plain = refl
+recover_plain (Err recovery_errors.SendFailed) plain = refl
+
 -- a detail that the outcome of a mode tells
-pub detail-by : {A : Type 0} (status_of : A → ℕ) (detail_by : A → Detail) (outcome : A) (status : ℕ) (detail : Detail) → status ≡ status_of outcome → detail ≡ detail_by outcome → (IsPlainStatus (status_of outcome) → detail_by outcome ≡ Nothing) → status ≢ 4 → status ≢ 5 → status ≢ 14 → status ≢ 15 → detail ≡ Nothing
-detail-by status_of detail_by outcome status detail is told plain four five fourteen fifteen =
-    told ∙ plain (record { four = λ e. four (is ∙ e); five = λ e. five (is ∙ e); fourteen = λ e. fourteen (is ∙ e); fifteen = λ e. fifteen (is ∙ e) })
+pub detail-by : {A : Type 0} (status_of : A → ℕ) (detail_by : A → Detail) (outcome : A) (status : ℕ) (detail : Detail) → status ≡ status_of outcome → detail ≡ detail_by outcome → (IsPlainStatus (status_of outcome) → detail_by outcome ≡ Nothing) → status ≢ 4 → status ≢ 5 → status ≢ 13 → status ≢ 14 → status ≢ 15 → detail ≡ Nothing
+detail-by status_of detail_by outcome status detail is told plain four five thirteen fourteen fifteen =
+    told ∙ plain (record { four = λ e. four (is ∙ e); five = λ e. five (is ∙ e); thirteen = λ e. thirteen (is ∙ e); fourteen = λ e. fourteen (is ∙ e); fifteen = λ e. fifteen (is ∙ e) })
 
 pub serve_status : (outcome : Result (Unit {0}) ServeError) → IsStatus (serves.status_of outcome)
 serve_status (Ok done) = refl
@@ -175,6 +200,7 @@ serve_status (Err serve_errors.ListenFailed) = refl
 serve_status (Err serve_errors.LogLost) = refl
 serve_status (Err serve_errors.AcceptFailed) = refl
 serve_status (Err serve_errors.ReplaceFailed) = refl
+serve_status (Err serve_errors.LogNotFresh) = refl
 
 -- `serve` never says that its words are no command
 pub serve_command_status : (outcome : Result (Unit {0}) ServeError) → serves.status_of outcome ≢ 2
@@ -190,6 +216,7 @@ serve_command_status (Err serve_errors.ListenFailed) e = omega (arith, e)
 serve_command_status (Err serve_errors.LogLost) e = omega (arith, e)
 serve_command_status (Err serve_errors.AcceptFailed) e = omega (arith, e)
 serve_command_status (Err serve_errors.ReplaceFailed) e = omega (arith, e)
+serve_command_status (Err serve_errors.LogNotFresh) e = omega (arith, e)
 
 pub serve_plain : (outcome : Result (Unit {0}) ServeError) → IsPlainStatus (serves.status_of outcome) → serve_detail outcome ≡ Nothing
 serve_plain (Ok done) plain = refl
@@ -204,6 +231,7 @@ serve_plain (Err serve_errors.ListenFailed) plain = refl
 serve_plain (Err serve_errors.LogLost) plain = refl
 serve_plain (Err serve_errors.AcceptFailed) plain = refl
 serve_plain (Err serve_errors.ReplaceFailed) plain = refl
+serve_plain (Err serve_errors.LogNotFresh) plain = absurd (plain.thirteen refl)
 
 -- ---- why a status came
 

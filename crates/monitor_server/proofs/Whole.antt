@@ -22,43 +22,64 @@ use Rattle.drill_mode.specs.Words.{drill_command}
 use Rattle.otp_extended.specs.Commands.{RenewParts, renew_command}
 use Rattle.renew_mode.specs.Errors as renews
 use Rattle.renew_mode.specs.Outcome.{Spares}
+use Rattle.recover_mode.specs.Errors as recoveries
+use Rattle.recover_mode.specs.Outcome as recovered
+use Rattle.recover_mode.specs.Words.{RecoverParts, recover_command}
+use Rattle.drill_mode.specs.declared.error.DrillError.TheVariants as drill_errors
 use Rattle.serve_mode.specs.declared.error.ServeError.TheVariants as serve_errors
 use Rattle.serve_mode.specs.Errors as serves
 use Rattle.serve_mode.specs.Words.{Plain, Source, serve_command}
-use Rattle.serve_mode.proofs.Promises.{not_served_tells, unserved_ended}
+use Rattle.serve_mode.proofs.Promises.{memory_why, unserved_ended}
 use Rattle.monitor_server.specs.declared.report.Detail.{Detail}
 use Rattle.monitor_server.specs.declared.report.Detail.TheVariants.{Nothing}
-use Rattle.monitor_server.specs.Commands.{IsCommand, asks_audit, asks_check, asks_child, asks_drill, asks_otp, asks_renew, asks_serve}
+use Rattle.monitor_server.specs.Commands.{IsCommand, asks_audit, asks_check, asks_child, asks_drill, asks_otp, asks_recover, asks_renew, asks_serve}
 use Rattle.monitor_server.specs.Headline.{IsStatus, IsUnserved, IsUnused, StatusHasCause}
-use Rattle.monitor_server.specs.Modes.{AuditRan, ChangesFiles, CheckRan, ChildRan, DrillRan, LeavesRest, PasswordRan, RenewRan, ServeRan, audit_detail, checked_detail, detail_of, renew_detail, serve_detail}
+use Rattle.monitor_server.specs.Modes.{AuditRan, ChangesFiles, CheckRan, ChildRan, DrillRan, LeavesRest, PasswordRan, RecoverRan, RenewRan, ServeRan, audit_detail, checked_detail, detail_of, recover_detail, renew_detail, serve_detail}
 use Rattle.monitor_server.specs.Whole.{Whole}
-use Rattle.monitor_server.proofs.Apart.{audit_no_check, audit_no_child, audit_no_drill, audit_no_password, audit_no_renew, audit_no_serve, check_no_child, check_no_drill, check_no_password, check_no_serve, child_no_drill, child_no_serve, drill_no_audit, drill_no_check, drill_no_child, drill_no_password, drill_no_renew, drill_no_serve, none-some, password_no_child, password_no_drill, password_no_serve, renew_no_check, renew_no_child, renew_no_drill, renew_no_password, renew_no_serve, serve_no_audit, serve_no_check, serve_no_child, serve_no_drill, serve_no_password, serve_no_renew, some_parts, spoken}
-use Rattle.monitor_server.proofs.Told.{IsModeStatus, audit_plain, audit_status, check_detail, check_status, child_status, detail-by, drill_status, moded, password_detail, password_status, renew_plain, renew_status, serve_command_status, serve_plain, serve_status, served}
+use Rattle.monitor_server.proofs.Apart.{AskOnly, Audit, Check, Child, Drill, Otp, Recover, Renew, Serve, none-some, only_audit, only_check, only_child, only_drill, only_otp, only_recover, only_renew, only_serve, spoken}
+use Rattle.monitor_server.proofs.Told.{IsModeStatus, audit_plain, audit_status, check_detail, check_status, child_status, detail-by, drill_status, moded, password_detail, password_status, recover_plain, recover_status, renew_plain, renew_status, serve_command_status, serve_plain, serve_status, served}
 
 -- ---- the files that are changed
 
 -- each file is as it was
 pub changes-none : (words : List (List ℕ)) (status : ℕ) (old new : Option Contents) → Goes SameFiles old new → ChangesFiles words status old new
-changes-none words status old new goes = record { same = λ _ _. goes; spares = λ parts _. go old new goes parts.setup; unwritten = λ _ _ _ _. goes } where
-  go : (old new : Option Contents) → Goes SameFiles old new → (name : List ℕ) → Goes (Spares name) old new
-  go old None goes name = tt
-  go None (Some new) goes name = absurd goes
-  go (Some old) (Some new) goes name = record { others = λ other _. goes.same other }
+changes-none words status old new goes = record {
+  same = λ _ _ _. goes;
+  spares = λ parts _. go (Spares parts.setup) (λ a b kept. record { others = λ other _. kept.same other }) old new goes;
+  recovered = λ parts _. go (recovered.Spares parts) (λ a b kept. record { others = λ other _ _. kept.same other }) old new goes;
+  unwritten = λ _ _ _ _. goes;
+} where
+  go : (step : Contents → Contents → Type 0) → ((a b : Contents) → SameFiles a b → step a b) → (old new : Option Contents) → Goes SameFiles old new → Goes step old new
+  go step of old None goes = tt
+  go step of None (Some new) goes = absurd goes
+  go step of (Some old) (Some new) goes = of old new goes
 
 -- the setup's file may have been written
-pub changes-renewed : (words : List (List ℕ)) (parts : RenewParts) (status : ℕ) (detail : Detail) (old new : Option Contents) (before after : Option Link) (ReadFailed ReplaceFailed EndsFailed : Type 0) → asks_renew words ≡ Some parts → RenewRan parts status detail old new before after ReadFailed ReplaceFailed EndsFailed → asks_serve words ≡ None → ChangesFiles words status old new
-changes-renewed words parts status detail old new before after R P E asked ran unserved = record {
-  same = λ _ none. none-some (asks_renew words) parts none asked;
+pub changes-renewed : (words : List (List ℕ)) (parts : RenewParts) (status : ℕ) (detail : Detail) (old new : Option Contents) (before after : Option Link) (ReadFailed ReplaceFailed EndsFailed : Type 0) → asks_renew words ≡ Some parts → RenewRan parts status detail old new before after ReadFailed ReplaceFailed EndsFailed → AskOnly words Renew → ChangesFiles words status old new
+changes-renewed words parts status detail old new before after R P E asked ran only = record {
+  same = λ _ none _. none-some (asks_renew words) parts none asked;
   spares = λ other is.
       let same : parts ≡ other = (let e : Some parts ≡ Some other = sym asked ∙ is in cc) in
       subst (λ (p : RenewParts). Goes (Spares p.setup) old new) same ran.spares;
+  recovered = λ other is. none-some (asks_recover words) other (only.recover refl) is;
+  unwritten = λ _. ran.unwritten;
+}
+
+-- the setup's file and the log's may have been written
+pub changes-recovered : (words : List (List ℕ)) (parts : RecoverParts) (status : ℕ) (detail : Detail) (old new : Option Contents) (before after : Option Link) (ReadFailed ReplaceFailed EndsFailed : Type 0) → asks_recover words ≡ Some parts → RecoverRan parts status detail old new before after ReadFailed ReplaceFailed EndsFailed → AskOnly words Recover → ChangesFiles words status old new
+changes-recovered words parts status detail old new before after R P E asked ran only = record {
+  same = λ _ _ none. none-some (asks_recover words) parts none asked;
+  spares = λ other is. none-some (asks_renew words) other (only.renew refl) is;
+  recovered = λ other is.
+      let same : parts ≡ other = (let e : Some parts ≡ Some other = sym asked ∙ is in cc) in
+      subst (λ (p : RecoverParts). Goes (recovered.Spares p) old new) same ran.spares;
   unwritten = λ _. ran.unwritten;
 }
 
 -- ---- all that is said of each command
 
 -- where nobody was served, and a mode ran
-moded-leaves : {F S E K P : Type 0} {words : List (List ℕ)} {status : ℕ} {detail : Detail} {journal : List Event} {posts : List P} {files_old files_new : F} {site_old site_new : S} {ends_old ends_new : E} {log_old log_new : K} → asks_serve words ≡ None → (asks_otp words ≡ None → asks_check words ≡ None → asks_audit words ≡ None → asks_renew words ≡ None → files_new ≡ files_old) → (asks_otp words ≡ None → asks_check words ≡ None → asks_child words ≡ None → asks_audit words ≡ None → asks_renew words ≡ None → asks_drill words ≡ None → ends_new ≡ ends_old) → site_new ≡ site_old → IsUnused log_old log_new journal posts → ((parts : OtpParts) → asks_otp words ≡ Some parts → parts.list ≡ None → files_new ≡ files_old) → ((status ≡ 3) ⊎ (status ≡ 9) × (asks_renew words ≡ None) → ends_new ≡ ends_old) → (asks_check words ≡ None → (status ≡ 4) ⊎ (status ≡ 5) → ends_new ≡ ends_old) → (status ≢ 4 → status ≢ 5 → status ≢ 14 → status ≢ 15 → detail ≡ Nothing) → LeavesRest words status detail files_old files_new site_old site_new ends_old ends_new log_old log_new journal posts
+moded-leaves : {F S E K P : Type 0} {words : List (List ℕ)} {status : ℕ} {detail : Detail} {journal : List Event} {posts : List P} {files_old files_new : F} {site_old site_new : S} {ends_old ends_new : E} {log_old log_new : K} → asks_serve words ≡ None → (asks_otp words ≡ None → asks_check words ≡ None → asks_audit words ≡ None → asks_renew words ≡ None → asks_recover words ≡ None → files_new ≡ files_old) → (asks_otp words ≡ None → asks_check words ≡ None → asks_child words ≡ None → asks_audit words ≡ None → asks_renew words ≡ None → asks_drill words ≡ None → asks_recover words ≡ None → ends_new ≡ ends_old) → site_new ≡ site_old → IsUnused log_old log_new journal posts → ((parts : OtpParts) → asks_otp words ≡ Some parts → parts.list ≡ None → files_new ≡ files_old) → ((status ≡ 3) ⊎ (status ≡ 9) × (asks_renew words ≡ None) → ends_new ≡ ends_old) → (asks_check words ≡ None → (status ≡ 4) ⊎ (status ≡ 5) → ends_new ≡ ends_old) → (status ≢ 4 → status ≢ 5 → status ≢ 13 → status ≢ 14 → status ≢ 15 → detail ≡ Nothing) → LeavesRest words status detail files_old files_new site_old site_new ends_old ends_new log_old log_new journal posts
 moded-leaves {words = words} unserved files ends site unused unread silent unprinted plain = record {
   files = λ _. files;
   plain_setup = λ plain. none-some (asks_serve words) Plain unserved plain;
@@ -80,30 +101,32 @@ three_or_nine (inr both) = inr both.0
 module _ {F S E K P : Type 0} {words : List (List ℕ)} {forms : List Key} {status : ℕ} {detail : Detail} {journal : List Event} {posts : List P} {scene : P → Option Scene} {faults : P → Faults} {files_old files_new : F} {site_old site_new : S} {ends_old ends_new : E} {log_old log_new : K} {old new : Option Contents} {before after : Option Link} {listens_old listens_new : Option (List SitePlace)} {held_old held_new : Option (List ℕ)} {ReadRose ReplaceRose ListenRose LogRose EndsRose : Type 0} where
   pub whole-served : (source : Source) → asks_serve words ≡ Some source → ServeRan source forms status detail journal posts scene faults old new listens_old listens_new held_old held_new ReadRose ReplaceRose ListenRose LogRose → (source ≡ Plain → files_new ≡ files_old) → ends_new ≡ ends_old
       → Whole words forms status detail journal posts scene faults files_old files_new site_old site_new ends_old ends_new log_old log_new old new before after listens_old listens_new held_old held_new ReadRose ReplaceRose ListenRose LogRose EndsRose
-  whole-served source asked ran plain ends = record {
+  whole-served source asked ran plain ends = let only = only_serve words source asked in record {
     causes = served words source status asked (spoken serve_command words source asked) (subst IsStatus (sym ran.status_is) (serve_status ran.end)) (λ two. serve_command_status ran.end (sym ran.status_is ∙ two));
     serve = record { ran = λ other is. subst (λ s. ServeRan s forms status detail journal posts scene faults old new listens_old listens_new held_old held_new ReadRose ReplaceRose ListenRose LogRose) (once source other (sym asked ∙ is)) ran };
-    password = record { ran = λ parts is. none-some (asks_otp words) parts (serve_no_password words source asked) is };
-    check = record { ran = λ setup is. none-some (asks_check words) setup (serve_no_check words source asked) is };
-    child = record { ran = λ parts is. none-some (asks_child words) parts (serve_no_child words source asked) is };
-    audit = record { ran = λ parts is. none-some (asks_audit words) parts (serve_no_audit words source asked) is };
-    renew = record { ran = λ parts is. none-some (asks_renew words) parts (serve_no_renew words source asked) is };
-    drill = record { ran = λ number is. none-some (asks_drill words) number (serve_no_drill words source asked) is };
+    password = record { ran = λ other is. none-some (asks_otp words) other (only.otp refl) is };
+    check = record { ran = λ other is. none-some (asks_check words) other (only.check refl) is };
+    child = record { ran = λ other is. none-some (asks_child words) other (only.child refl) is };
+    audit = record { ran = λ other is. none-some (asks_audit words) other (only.audit refl) is };
+    renew = record { ran = λ other is. none-some (asks_renew words) other (only.renew refl) is };
+    drill = record { ran = λ other is. none-some (asks_drill words) other (only.drill refl) is };
+    recover = record { ran = λ other is. none-some (asks_recover words) other (only.recover refl) is };
     leaves = record {
-      files = λ none _ _ _ _. none-some (asks_serve words) source none asked;
+      files = λ none _ _ _ _ _. none-some (asks_serve words) source none asked;
       plain_setup = λ is. plain (once source Plain (sym asked ∙ is));
-      ends = λ _ _ _ _ _ _. ends;
+      ends = λ _ _ _ _ _ _ _. ends;
       site = λ none. none-some (asks_serve words) source none asked;
       unserved = λ none. none-some (asks_serve words) source none asked;
       eventless = λ none _. none-some (asks_serve words) source none asked;
-      unread = λ parts is _. none-some (asks_otp words) parts (serve_no_password words source asked) is;
+      unread = λ parts is _. none-some (asks_otp words) parts (only.otp refl) is;
       silent = λ _. ends;
       unprinted = λ _ _. ends;
       plain = detail-by serves.status_of serve_detail ran.end status detail ran.status_is ran.detail_is (serve_plain ran.end);
     };
     changes = record {
-      same = λ none _. none-some (asks_serve words) source none asked;
-      spares = λ parts is. none-some (asks_renew words) parts (serve_no_renew words source asked) is;
+      same = λ none _ _. none-some (asks_serve words) source none asked;
+      spares = λ parts is. none-some (asks_renew words) parts (only.renew refl) is;
+      recovered = λ parts is. none-some (asks_recover words) parts (only.recover refl) is;
       unwritten = λ none _ _ _. none-some (asks_serve words) source none asked;
     };
   } where
@@ -115,20 +138,22 @@ module _ {F S E K P : Type 0} {words : List (List ℕ)} {forms : List Key} {stat
   whole-password parts asked ran unused unread silent at_list site goes =
       let status_is = sym ran.status_is in
       let of : IsModeStatus status = subst IsModeStatus status_is (password_status ran.outcome) in
+      let only = only_otp words parts asked in
       record {
         causes = moded words status (inr (inl (parts, asked))) (spoken otp_command words parts asked) of;
-        serve = record { ran = λ source is. none-some (asks_serve words) source (password_no_serve words parts asked) is };
+        serve = record { ran = λ other is. none-some (asks_serve words) other (only.serve refl) is };
         password = record {
           ran = λ other is.
               let same : parts ≡ other = (let e : Some parts ≡ Some other = sym asked ∙ is in cc) in
               inr (subst (λ p. PasswordRan p status detail new before after ReadRose EndsRose) same ran);
         };
-        check = record { ran = λ setup is. none-some (asks_otp words) parts (check_no_password words setup is) asked };
-        child = record { ran = λ other is. none-some (asks_child words) other (password_no_child words parts asked) is };
-        audit = record { ran = λ other is. none-some (asks_otp words) parts (audit_no_password words other is) asked };
-        renew = record { ran = λ other is. none-some (asks_otp words) parts (renew_no_password words other is) asked };
-        drill = record { ran = λ number is. none-some (asks_drill words) number (password_no_drill words parts asked) is };
-        leaves = moded-leaves (password_no_serve words parts asked) (λ none _ _ _. none-some (asks_otp words) parts none asked) (λ none _ _ _ _ _. none-some (asks_otp words) parts none asked) site unused (λ other is none. unread (ap (λ p. p.list) (some_parts parts other (sym asked ∙ is)) ∙ none)) (λ how. silent (three_or_nine how)) (λ _. at_list) (detail-by passwords.status_of detail_of ran.outcome status detail ran.status_is ran.detail_is (password_detail ran.outcome));
+        check = record { ran = λ other is. none-some (asks_check words) other (only.check refl) is };
+        child = record { ran = λ other is. none-some (asks_child words) other (only.child refl) is };
+        audit = record { ran = λ other is. none-some (asks_audit words) other (only.audit refl) is };
+        renew = record { ran = λ other is. none-some (asks_renew words) other (only.renew refl) is };
+        drill = record { ran = λ other is. none-some (asks_drill words) other (only.drill refl) is };
+        recover = record { ran = λ other is. none-some (asks_recover words) other (only.recover refl) is };
+        leaves = moded-leaves (only.serve refl) (λ none _ _ _ _. none-some (asks_otp words) parts none asked) (λ none _ _ _ _ _ _. none-some (asks_otp words) parts none asked) site unused (λ other is none. unread (ap (λ (p : OtpParts). p.list) (let e : Some parts ≡ Some other = sym asked ∙ is in let same : parts ≡ other = cc in same) ∙ none)) (λ how. silent (three_or_nine how)) (λ _. at_list) (detail-by passwords.status_of detail_of ran.outcome status detail ran.status_is ran.detail_is (password_detail ran.outcome));
         changes = changes-none words status old new goes;
       }
 
@@ -137,20 +162,22 @@ module _ {F S E K P : Type 0} {words : List (List ℕ)} {forms : List Key} {stat
   whole-checked setup asked ran unused silent site goes =
       let status_is = sym ran.status_is in
       let of : IsModeStatus status = subst IsModeStatus status_is (check_status ran.outcome) in
+      let only = only_check words setup asked in
       record {
         causes = moded words status (inr (inr (inl (setup, asked)))) (spoken check_command words setup asked) of;
-        serve = record { ran = λ source is. none-some (asks_serve words) source (check_no_serve words setup asked) is };
-        password = record { ran = λ parts is. none-some (asks_otp words) parts (check_no_password words setup asked) is };
+        serve = record { ran = λ other is. none-some (asks_serve words) other (only.serve refl) is };
+        password = record { ran = λ other is. none-some (asks_otp words) other (only.otp refl) is };
         check = record {
           ran = λ other is.
               let same : setup ≡ other = (let e : Some setup ≡ Some other = sym asked ∙ is in cc) in
               inr (subst (λ p. CheckRan forms p status detail new before after ReadRose EndsRose) same ran);
         };
-        child = record { ran = λ parts is. none-some (asks_child words) parts (check_no_child words setup asked) is };
-        audit = record { ran = λ other is. none-some (asks_check words) setup (audit_no_check words other is) asked };
-        renew = record { ran = λ other is. none-some (asks_check words) setup (renew_no_check words other is) asked };
-        drill = record { ran = λ number is. none-some (asks_drill words) number (check_no_drill words setup asked) is };
-        leaves = moded-leaves (check_no_serve words setup asked) (λ _ none _ _. none-some (asks_check words) setup none asked) (λ _ none _ _ _ _. none-some (asks_check words) setup none asked) site unused (λ parts is _. none-some (asks_otp words) parts (check_no_password words setup asked) is) (λ how. silent (three_or_nine how)) (λ none _. none-some (asks_check words) setup none asked) (detail-by checks.status_of checked_detail ran.outcome status detail ran.status_is ran.detail_is (check_detail ran.outcome));
+        child = record { ran = λ other is. none-some (asks_child words) other (only.child refl) is };
+        audit = record { ran = λ other is. none-some (asks_audit words) other (only.audit refl) is };
+        renew = record { ran = λ other is. none-some (asks_renew words) other (only.renew refl) is };
+        drill = record { ran = λ other is. none-some (asks_drill words) other (only.drill refl) is };
+        recover = record { ran = λ other is. none-some (asks_recover words) other (only.recover refl) is };
+        leaves = moded-leaves (only.serve refl) (λ _ none _ _ _. none-some (asks_check words) setup none asked) (λ _ none _ _ _ _ _. none-some (asks_check words) setup none asked) site unused (λ parts is _. none-some (asks_otp words) parts (only.otp refl) is) (λ how. silent (three_or_nine how)) (λ none _. none-some (asks_check words) setup none asked) (detail-by checks.status_of checked_detail ran.outcome status detail ran.status_is ran.detail_is (check_detail ran.outcome));
         changes = changes-none words status old new goes;
       }
 
@@ -159,20 +186,22 @@ module _ {F S E K P : Type 0} {words : List (List ℕ)} {forms : List Key} {stat
   whole-child parts asked ran plain unused silent no_file files site goes =
       let status_is = sym ran.status_is in
       let of : IsModeStatus status = subst IsModeStatus status_is (child_status ran.outcome) in
+      let only = only_child words parts asked in
       record {
         causes = moded words status (inr (inr (inr (inl (parts, asked))))) (spoken child_command words parts asked) of;
-        serve = record { ran = λ source is. none-some (asks_serve words) source (child_no_serve words parts asked) is };
-        password = record { ran = λ other is. none-some (asks_child words) parts (password_no_child words other is) asked };
-        check = record { ran = λ setup is. none-some (asks_child words) parts (check_no_child words setup is) asked };
+        serve = record { ran = λ other is. none-some (asks_serve words) other (only.serve refl) is };
+        password = record { ran = λ other is. none-some (asks_otp words) other (only.otp refl) is };
+        check = record { ran = λ other is. none-some (asks_check words) other (only.check refl) is };
         child = record {
           ran = λ other is.
               let same : parts ≡ other = (let e : Some parts ≡ Some other = sym asked ∙ is in cc) in
               inr (subst (λ p. ChildRan p status before after EndsRose) same ran);
         };
-        audit = record { ran = λ other is. none-some (asks_child words) parts (audit_no_child words other is) asked };
-        renew = record { ran = λ other is. none-some (asks_child words) parts (renew_no_child words other is) asked };
-        drill = record { ran = λ number is. none-some (asks_drill words) number (child_no_drill words parts asked) is };
-        leaves = moded-leaves (child_no_serve words parts asked) (λ _ _ _ _. files) (λ _ _ none _ _ _. none-some (asks_child words) parts none asked) site unused (λ _ _ _. files) (λ how. silent (three_or_nine how)) (λ _. no_file) (λ _ _ _ _. plain);
+        audit = record { ran = λ other is. none-some (asks_audit words) other (only.audit refl) is };
+        renew = record { ran = λ other is. none-some (asks_renew words) other (only.renew refl) is };
+        drill = record { ran = λ other is. none-some (asks_drill words) other (only.drill refl) is };
+        recover = record { ran = λ other is. none-some (asks_recover words) other (only.recover refl) is };
+        leaves = moded-leaves (only.serve refl) (λ _ _ _ _ _. files) (λ _ _ none _ _ _ _. none-some (asks_child words) parts none asked) site unused (λ _ _ _. files) (λ how. silent (three_or_nine how)) (λ _. no_file) (λ _ _ _ _ _. plain);
         changes = changes-none words status old new goes;
       }
 
@@ -181,20 +210,22 @@ module _ {F S E K P : Type 0} {words : List (List ℕ)} {forms : List Key} {stat
   whole-audited parts asked ran unused silent at_file site goes =
       let status_is = sym ran.status_is in
       let of : IsModeStatus status = subst IsModeStatus status_is (audit_status ran.outcome) in
+      let only = only_audit words parts asked in
       record {
         causes = moded words status (inr (inr (inr (inr (inl (parts, asked)))))) (spoken audit_command words parts asked) of;
-        serve = record { ran = λ source is. none-some (asks_serve words) source (audit_no_serve words parts asked) is };
-        password = record { ran = λ other is. none-some (asks_otp words) other (audit_no_password words parts asked) is };
-        check = record { ran = λ setup is. none-some (asks_check words) setup (audit_no_check words parts asked) is };
-        child = record { ran = λ other is. none-some (asks_child words) other (audit_no_child words parts asked) is };
+        serve = record { ran = λ other is. none-some (asks_serve words) other (only.serve refl) is };
+        password = record { ran = λ other is. none-some (asks_otp words) other (only.otp refl) is };
+        check = record { ran = λ other is. none-some (asks_check words) other (only.check refl) is };
+        child = record { ran = λ other is. none-some (asks_child words) other (only.child refl) is };
         audit = record {
           ran = λ other is.
               let same : parts ≡ other = (let e : Some parts ≡ Some other = sym asked ∙ is in cc) in
               inr (subst (λ p. AuditRan p status detail new before after ReadRose EndsRose) same ran);
         };
-        renew = record { ran = λ other is. none-some (asks_renew words) other (audit_no_renew words parts asked) is };
-        drill = record { ran = λ number is. none-some (asks_drill words) number (audit_no_drill words parts asked) is };
-        leaves = moded-leaves (audit_no_serve words parts asked) (λ _ _ none _. none-some (asks_audit words) parts none asked) (λ _ _ _ none _ _. none-some (asks_audit words) parts none asked) site unused (λ other is _. none-some (asks_otp words) other (audit_no_password words parts asked) is) (λ how. silent (three_or_nine how)) (λ _. at_file) (detail-by audits.status_of audit_detail ran.outcome status detail ran.status_is ran.detail_is (audit_plain ran.outcome));
+        renew = record { ran = λ other is. none-some (asks_renew words) other (only.renew refl) is };
+        drill = record { ran = λ other is. none-some (asks_drill words) other (only.drill refl) is };
+        recover = record { ran = λ other is. none-some (asks_recover words) other (only.recover refl) is };
+        leaves = moded-leaves (only.serve refl) (λ _ _ none _ _. none-some (asks_audit words) parts none asked) (λ _ _ _ none _ _ _. none-some (asks_audit words) parts none asked) site unused (λ other is _. none-some (asks_otp words) other (only.otp refl) is) (λ how. silent (three_or_nine how)) (λ _. at_file) (detail-by audits.status_of audit_detail ran.outcome status detail ran.status_is ran.detail_is (audit_plain ran.outcome));
         changes = changes-none words status old new goes;
       }
 
@@ -203,21 +234,23 @@ module _ {F S E K P : Type 0} {words : List (List ℕ)} {forms : List Key} {stat
   whole-renewed parts asked ran unused at_files site =
       let status_is = sym ran.status_is in
       let of : IsModeStatus status = subst IsModeStatus status_is (renew_status ran.outcome) in
+      let only = only_renew words parts asked in
       record {
         causes = moded words status (inr (inr (inr (inr (inr (inl (parts, asked))))))) (spoken renew_command words parts asked) of;
-        serve = record { ran = λ source is. none-some (asks_serve words) source (renew_no_serve words parts asked) is };
-        password = record { ran = λ other is. none-some (asks_otp words) other (renew_no_password words parts asked) is };
-        check = record { ran = λ setup is. none-some (asks_check words) setup (renew_no_check words parts asked) is };
-        child = record { ran = λ other is. none-some (asks_child words) other (renew_no_child words parts asked) is };
-        audit = record { ran = λ other is. none-some (asks_renew words) parts (audit_no_renew words other is) asked };
+        serve = record { ran = λ other is. none-some (asks_serve words) other (only.serve refl) is };
+        password = record { ran = λ other is. none-some (asks_otp words) other (only.otp refl) is };
+        check = record { ran = λ other is. none-some (asks_check words) other (only.check refl) is };
+        child = record { ran = λ other is. none-some (asks_child words) other (only.child refl) is };
+        audit = record { ran = λ other is. none-some (asks_audit words) other (only.audit refl) is };
         renew = record {
           ran = λ other is.
               let same : parts ≡ other = (let e : Some parts ≡ Some other = sym asked ∙ is in cc) in
               inr (subst (λ p. RenewRan p status detail old new before after ReadRose ReplaceRose EndsRose) same ran);
         };
-        drill = record { ran = λ number is. none-some (asks_drill words) number (renew_no_drill words parts asked) is };
-        leaves = moded-leaves (renew_no_serve words parts asked) (λ _ _ _ none. none-some (asks_renew words) parts none asked) (λ _ _ _ _ none _. none-some (asks_renew words) parts none asked) site unused (λ other is _. none-some (asks_otp words) other (renew_no_password words parts asked) is) silent (λ _ how. at_files (inr how)) (detail-by renews.status_of renew_detail ran.outcome status detail ran.status_is ran.detail_is (renew_plain ran.outcome));
-        changes = changes-renewed words parts status detail old new before after ReadRose ReplaceRose EndsRose asked ran (renew_no_serve words parts asked);
+        drill = record { ran = λ other is. none-some (asks_drill words) other (only.drill refl) is };
+        recover = record { ran = λ other is. none-some (asks_recover words) other (only.recover refl) is };
+        leaves = moded-leaves (only.serve refl) (λ _ _ _ none _. none-some (asks_renew words) parts none asked) (λ _ _ _ _ none _ _. none-some (asks_renew words) parts none asked) site unused (λ other is _. none-some (asks_otp words) other (only.otp refl) is) silent (λ _ how. at_files (inr how)) (detail-by renews.status_of renew_detail ran.outcome status detail ran.status_is ran.detail_is (renew_plain ran.outcome));
+        changes = changes-renewed words parts status detail old new before after ReadRose ReplaceRose EndsRose asked ran only;
       } where
         silent : (status ≡ 3) ⊎ (status ≡ 9) × (asks_renew words ≡ None) → ends_new ≡ ends_old
         silent (inl three) = at_files (inl three)
@@ -227,38 +260,64 @@ module _ {F S E K P : Type 0} {words : List (List ℕ)} {forms : List Key} {stat
       → Whole words forms status detail journal posts scene faults files_old files_new site_old site_new ends_old ends_new log_old log_new old new before after listens_old listens_new held_old held_new ReadRose ReplaceRose ListenRose LogRose EndsRose
   whole-drilled number asked ran plain log workers silent no_file files site goes =
       let of : IsModeStatus status = subst IsModeStatus (sym ran.status_is) (drill_status ran.outcome) in
+      let only = only_drill words number asked in
       record {
-        causes = moded words status (inr (inr (inr (inr (inr (inr (number, asked))))))) (spoken drill_command words number asked) of;
-        serve = record { ran = λ source is. none-some (asks_serve words) source (drill_no_serve words number asked) is };
-        password = record { ran = λ parts is. none-some (asks_otp words) parts (drill_no_password words number asked) is };
-        check = record { ran = λ setup is. none-some (asks_check words) setup (drill_no_check words number asked) is };
-        child = record { ran = λ parts is. none-some (asks_child words) parts (drill_no_child words number asked) is };
-        audit = record { ran = λ parts is. none-some (asks_audit words) parts (drill_no_audit words number asked) is };
-        renew = record { ran = λ parts is. none-some (asks_renew words) parts (drill_no_renew words number asked) is };
+        causes = moded words status (inr (inr (inr (inr (inr (inr (inl (number, asked)))))))) (spoken drill_command words number asked) of;
+        serve = record { ran = λ other is. none-some (asks_serve words) other (only.serve refl) is };
+        password = record { ran = λ other is. none-some (asks_otp words) other (only.otp refl) is };
+        check = record { ran = λ other is. none-some (asks_check words) other (only.check refl) is };
+        child = record { ran = λ other is. none-some (asks_child words) other (only.child refl) is };
+        audit = record { ran = λ other is. none-some (asks_audit words) other (only.audit refl) is };
+        renew = record { ran = λ other is. none-some (asks_renew words) other (only.renew refl) is };
         drill = record {
           ran = λ other is.
               let same : number ≡ other = (let e : Some number ≡ Some other = sym asked ∙ is in cc) in
-              inr (subst (λ n. DrillRan n status journal before after EndsRose) same ran);
+              subst (λ n. DrillRan n status journal before after EndsRose) same ran;
         };
+        recover = record { ran = λ other is. none-some (asks_recover words) other (only.recover refl) is };
         leaves = record {
-          files = λ _ _ _ _ _. files;
+          files = λ _ _ _ _ _ _. files;
           plain_setup = λ _. files;
-          ends = λ _ _ _ _ _ none. none-some (asks_drill words) number none asked;
+          ends = λ _ _ _ _ _ none _. none-some (asks_drill words) number none asked;
           site = λ _. site;
           unserved = λ _. record { log = log; workers = workers };
           eventless = λ _ none. none-some (asks_drill words) number none asked;
           unread = λ _ _ _. files;
           silent = λ how. silent (three_or_nine how);
           unprinted = λ _. no_file;
-          plain = λ _ _ _ _. plain;
+          plain = λ _ _ _ _ _. plain;
         };
         changes = changes-none words status old new goes;
       }
 
-  -- nothing was done
-  pub whole-nothing : StatusHasCause words status → (status ≡ 9) ⊎ (IsCommand words → ⊥) → detail ≡ Nothing → IsUnused log_old log_new journal posts → held_new ≡ held_old → files_new ≡ files_old → site_new ≡ site_old → ends_new ≡ ends_old → Goes SameFiles old new → listens_new ≡ listens_old
+  pub whole-recovered : (parts : RecoverParts) → asks_recover words ≡ Some parts → RecoverRan parts status detail old new before after ReadRose ReplaceRose EndsRose → IsUnused log_old log_new journal posts → ((status ≡ 3) ⊎ (status ≡ 9) → ends_new ≡ ends_old) → ((status ≡ 4) ⊎ (status ≡ 5) → ends_new ≡ ends_old) → site_new ≡ site_old
       → Whole words forms status detail journal posts scene faults files_old files_new site_old site_new ends_old ends_new log_old log_new old new before after listens_old listens_new held_old held_new ReadRose ReplaceRose ListenRose LogRose EndsRose
-  whole-nothing known why plain unused held files site ends goes listens = record {
+  whole-recovered parts asked ran unused silent at_files site =
+      let status_is = sym ran.status_is in
+      let of : IsModeStatus status = subst IsModeStatus status_is (recover_status ran.outcome) in
+      let only = only_recover words parts asked in
+      record {
+        causes = moded words status (inr (inr (inr (inr (inr (inr (inr (parts, asked)))))))) (spoken recover_command words parts asked) of;
+        serve = record { ran = λ other is. none-some (asks_serve words) other (only.serve refl) is };
+        password = record { ran = λ other is. none-some (asks_otp words) other (only.otp refl) is };
+        check = record { ran = λ other is. none-some (asks_check words) other (only.check refl) is };
+        child = record { ran = λ other is. none-some (asks_child words) other (only.child refl) is };
+        audit = record { ran = λ other is. none-some (asks_audit words) other (only.audit refl) is };
+        renew = record { ran = λ other is. none-some (asks_renew words) other (only.renew refl) is };
+        drill = record { ran = λ other is. none-some (asks_drill words) other (only.drill refl) is };
+        recover = record {
+          ran = λ other is.
+              let same : parts ≡ other = (let e : Some parts ≡ Some other = sym asked ∙ is in cc) in
+              inr (subst (λ p. RecoverRan p status detail old new before after ReadRose ReplaceRose EndsRose) same ran);
+        };
+        leaves = moded-leaves (only.serve refl) (λ _ _ _ _ none. none-some (asks_recover words) parts none asked) (λ _ _ _ _ _ _ none. none-some (asks_recover words) parts none asked) site unused (λ other is _. none-some (asks_otp words) other (only.otp refl) is) (λ how. silent (three_or_nine how)) (λ _. at_files) (detail-by recoveries.status_of recover_detail ran.outcome status detail ran.status_is ran.detail_is (recover_plain ran.outcome));
+        changes = changes-recovered words parts status detail old new before after ReadRose ReplaceRose EndsRose asked ran only;
+      }
+
+  -- nothing was done
+  pub whole-nothing : StatusHasCause words status → (status ≡ 9) ⊎ (IsCommand words → ⊥) → detail ≡ Nothing → IsUnused log_old log_new journal posts → held_new ≡ held_old → files_new ≡ files_old → site_new ≡ site_old → ends_new ≡ ends_old → Goes SameFiles old new → listens_new ≡ listens_old → after ≡ before
+      → Whole words forms status detail journal posts scene faults files_old files_new site_old site_new ends_old ends_new log_old log_new old new before after listens_old listens_new held_old held_new ReadRose ReplaceRose ListenRose LogRose EndsRose
+  whole-nothing known why plain unused held files site ends goes listens told = record {
     causes = known;
     serve = record { ran = λ source asked. unremembered_serve source (nine why (inl (source, asked))) };
     password = record { ran = λ parts asked. ran why (inr (inl (parts, asked))) };
@@ -266,18 +325,19 @@ module _ {F S E K P : Type 0} {words : List (List ℕ)} {forms : List Key} {stat
     child = record { ran = λ parts asked. ran why (inr (inr (inr (inl (parts, asked))))) };
     audit = record { ran = λ parts asked. ran why (inr (inr (inr (inr (inl (parts, asked)))))) };
     renew = record { ran = λ parts asked. ran why (inr (inr (inr (inr (inr (inl (parts, asked))))))) };
-    drill = record { ran = λ number asked. ran why (inr (inr (inr (inr (inr (inr (number, asked))))))) };
+    drill = record { ran = λ number asked. unremembered_drill number (nine why (inr (inr (inr (inr (inr (inr (inl (number, asked))))))))) };
+    recover = record { ran = λ parts asked. ran why (inr (inr (inr (inr (inr (inr (inr (parts, asked)))))))) };
     leaves = record {
-      files = λ _ _ _ _ _. files;
+      files = λ _ _ _ _ _ _. files;
       plain_setup = λ _. files;
-      ends = λ _ _ _ _ _ _. ends;
+      ends = λ _ _ _ _ _ _ _. ends;
       site = λ _. site;
       unserved = λ _. record { log = unused.log; workers = unused.workers };
       eventless = λ _ _. unused.events;
       unread = λ _ _ _. files;
       silent = λ _. ends;
       unprinted = λ _ _. ends;
-      plain = λ _ _ _ _. plain;
+      plain = λ _ _ _ _ _. plain;
     };
     changes = changes-none words status old new goes;
   } where
@@ -298,5 +358,8 @@ module _ {F S E K P : Type 0} {words : List (List ℕ)} {forms : List Key} {stat
           status_is = is;
           detail_is = plain;
           ended = unserved_ended source forms serve_errors.OutOfMemory (Err serve_errors.OutOfMemory) journal posts scene faults old new listens_old listens_new held_old held_new ReadRose ReplaceRose ListenRose LogRose
-              refl (not_served_tells serve_errors.OutOfMemory ReadRose ListenRose (inl refl)).tells (λ _ _ _ _. refl) (λ other e. absurd cc) unused.events unused.workers goes placed logs;
+              refl (memory_why source forms old new ReadRose ListenRose) unused.events unused.workers goes placed logs;
         }
+
+    unremembered_drill : (number : ℕ) → status ≡ 9 → DrillRan number status journal before after EndsRose
+    unremembered_drill number is = record { outcome = Err drill_errors.OutOfMemory; status_is = is; journal_is = unused.events; cause = told }

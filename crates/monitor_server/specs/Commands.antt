@@ -11,6 +11,8 @@ use Rattle.audit_mode.specs.Words.{AuditParts, audit_command}
 use Rattle.drill_mode.specs.Words.{drill_command}
 use Rattle.otp_extended.specs.Commands as renewals
 use Rattle.otp_extended.specs.Commands.{RenewParts, renew_command}
+use Rattle.recover_mode.specs.Commands as recoveries
+use Rattle.recover_mode.specs.Words.{RecoverParts, recover_command}
 use Rattle.serve_mode.specs.Commands.{source_of}
 use Rattle.serve_mode.specs.Words.{Source, serve_command}
 use Rattle.monitor_server.specs.declared.command.Command.{Command}
@@ -46,9 +48,13 @@ asks_renew words = option_and_then renew_command (plain_words words)
 abbrev pub asks_drill : List (List ℕ) → Option ℕ
 asks_drill words = option_and_then drill_command (plain_words words)
 
--- the words of a command: those of the modes `serve`, `otp` and `check`, of the children's, and of `audit`, `renew` and `drill`
+-- the setup and the durable log that the words ask the mode `recover` for, where none begins with a hyphen
+abbrev pub asks_recover : List (List ℕ) → Option RecoverParts
+asks_recover words = option_and_then recover_command (plain_words words)
+
+-- the words of a command: those of the modes `serve`, `otp` and `check`, of the children's, and of `audit`, `renew`, `drill` and `recover`
 abbrev pub IsCommand : List (List ℕ) → Type 0
-IsCommand words = ((source : Source) × (asks_serve words ≡ Some source)) ⊎ ((parts : OtpParts) × (asks_otp words ≡ Some parts)) ⊎ ((setup : List ℕ) × (asks_check words ≡ Some setup)) ⊎ ((parts : ChildParts) × (asks_child words ≡ Some parts)) ⊎ ((parts : AuditParts) × (asks_audit words ≡ Some parts)) ⊎ ((parts : RenewParts) × (asks_renew words ≡ Some parts)) ⊎ ((number : ℕ) × (asks_drill words ≡ Some number))
+IsCommand words = ((source : Source) × (asks_serve words ≡ Some source)) ⊎ ((parts : OtpParts) × (asks_otp words ≡ Some parts)) ⊎ ((setup : List ℕ) × (asks_check words ≡ Some setup)) ⊎ ((parts : ChildParts) × (asks_child words ≡ Some parts)) ⊎ ((parts : AuditParts) × (asks_audit words ≡ Some parts)) ⊎ ((parts : RenewParts) × (asks_renew words ≡ Some parts)) ⊎ ((number : ℕ) × (asks_drill words ≡ Some number)) ⊎ ((parts : RecoverParts) × (asks_recover words ≡ Some parts))
 
 -- what a mode's word and the words behind it are read as
 abbrev pub IsMeant : List (List ℕ) → Option Command → Type 0
@@ -59,7 +65,8 @@ IsMeant words (Some (commands.Child command)) = child_command words ≡ Some (pa
 IsMeant words (Some (commands.Audit command)) = audit_command words ≡ Some (audits.command_parts command)
 IsMeant words (Some (commands.Renew command)) = renew_command words ≡ Some (renewals.command_parts command)
 IsMeant words (Some (commands.Drill number)) = drill_command words ≡ Some number
-IsMeant words None = (serve_command words ≡ None) × (otp_command words ≡ None) × (check_command words ≡ None) × (child_command words ≡ None) × (audit_command words ≡ None) × (renew_command words ≡ None) × (drill_command words ≡ None)
+IsMeant words (Some (commands.Recover command)) = recover_command words ≡ Some (recoveries.command_parts command)
+IsMeant words None = (serve_command words ≡ None) × (otp_command words ≡ None) × (check_command words ≡ None) × (child_command words ≡ None) × (audit_command words ≡ None) × (renew_command words ≡ None) × (drill_command words ≡ None) × (recover_command words ≡ None)
 
 -- what the words of a command line are read as; want of memory comes only where none begins with a hyphen
 abbrev pub IsReading : List (List ℕ) → Result Command Unread → Type 0
@@ -70,5 +77,6 @@ IsReading words (Ok (commands.Child command)) = asks_child words ≡ Some (parts
 IsReading words (Ok (commands.Audit command)) = asks_audit words ≡ Some (audits.command_parts command)
 IsReading words (Ok (commands.Renew command)) = asks_renew words ≡ Some (renewals.command_parts command)
 IsReading words (Ok (commands.Drill number)) = asks_drill words ≡ Some number
+IsReading words (Ok (commands.Recover command)) = asks_recover words ≡ Some (recoveries.command_parts command)
 IsReading words (Err unread.NoCommand) = IsCommand words → ⊥
 IsReading words (Err unread.OutOfMemory) = plain_words words ≢ None

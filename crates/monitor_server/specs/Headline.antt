@@ -18,7 +18,7 @@ pub record IsUnused {P K : Type 0} (before after : K) (journal : List Event) (po
 
 -- the statuses of the program
 abbrev pub statuses : List ℕ
-statuses = 0 ∷ 2 ∷ 3 ∷ 4 ∷ 5 ∷ 6 ∷ 7 ∷ 8 ∷ 9 ∷ 10 ∷ 11 ∷ 12 ∷ 14 ∷ 15 ∷ []
+statuses = 0 ∷ 2 ∷ 3 ∷ 4 ∷ 5 ∷ 6 ∷ 7 ∷ 8 ∷ 9 ∷ 10 ∷ 11 ∷ 12 ∷ 13 ∷ 14 ∷ 15 ∷ []
 
 abbrev pub IsStatus : ℕ → Type 0
 IsStatus status = list_any (λ s. s == status) statuses ≡ true

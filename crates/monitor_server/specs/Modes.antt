@@ -44,18 +44,26 @@ use Rattle.renew_mode.specs.declared.error.RenewError.{RenewError}
 use Rattle.renew_mode.specs.declared.error.RenewError.TheVariants as renew_errors
 use Rattle.renew_mode.specs.Errors as error_statuses
 use Rattle.renew_mode.specs.Outcome as renews
+use Rattle.recover_mode.specs.declared.line.Recovery.{Recovery}
+use Rattle.recover_mode.specs.declared.error.RecoveryError.{RecoveryError}
+use Rattle.recover_mode.specs.declared.error.RecoveryError.TheVariants as recovery_errors
+use Rattle.recover_mode.specs.Errors as recovery_statuses
+use Rattle.recover_mode.specs.Outcome as recoveries
+use Rattle.recover_mode.specs.Returning.{BringsBack}
+use Rattle.recover_mode.specs.Words.{RecoverParts}
 use Rattle.monitor_server.specs.declared.report.Detail.{Detail}
-use Rattle.monitor_server.specs.declared.report.Detail.TheVariants.{AuditNo, Missing, Nothing, RenewBad, SetupBad, WordsBad}
+use Rattle.monitor_server.specs.declared.report.Detail.TheVariants.{AuditNo, LogBad, LogNotFresh, Missing, Nothing, RenewBad, SetupBad, WordsBad}
 use Rattle.monitor_server.specs.declared.report.FileKind.TheVariants.{Log, Setup, Words}
-use Rattle.monitor_server.specs.Commands.{asks_audit, asks_check, asks_child, asks_drill, asks_otp, asks_renew, asks_serve}
+use Rattle.monitor_server.specs.Commands.{asks_audit, asks_check, asks_child, asks_drill, asks_otp, asks_recover, asks_renew, asks_serve}
 use Rattle.monitor_server.specs.Headline.{IsUnserved}
 
--- what is missing or refused of what a run serves by
+-- what is missing or refused of what a run serves by and logs to
 abbrev pub serve_detail : Result (Unit {0}) ServeError → Detail
 serve_detail (Err (serve_errors.Unread service_errors.SetupMissing)) = Missing Setup
 serve_detail (Err (serve_errors.Unread (service_errors.SetupRefused fault))) = SetupBad fault
 serve_detail (Err (serve_errors.Unread service_errors.WordsMissing)) = Missing Words
 serve_detail (Err (serve_errors.Unread (service_errors.WordsRefused fault))) = WordsBad fault
+serve_detail (Err serve_errors.LogNotFresh) = LogNotFresh
 serve_detail _ = Nothing
 
 -- the mode `serve` came to an end that is told by status and detail
@@ -165,6 +173,27 @@ pub record RenewRan (parts : RenewParts) (status : ℕ) (detail : Detail) (old n
 pub record RenewMode (words : List (List ℕ)) (status : ℕ) (detail : Detail) (old new : Option Contents) (before after : Option Link) (ReadFailed ReplaceFailed EndsFailed : Type 0) : Type 0 where
   pub ran : (parts : RenewParts) → asks_renew words ≡ Some parts → (status ≡ 9) ⊎ RenewRan parts status detail old new before after ReadFailed ReplaceFailed EndsFailed
 
+-- what is missing, refused or bad of a setup and a durable log
+abbrev pub recover_detail : Result Recovery RecoveryError → Detail
+recover_detail (Err recovery_errors.SetupMissing) = Missing Setup
+recover_detail (Err (recovery_errors.SetupRefused fault)) = SetupBad fault
+recover_detail (Err (recovery_errors.LogRefused number)) = LogBad number
+recover_detail _ = Nothing
+
+-- the mode `recover` came to an outcome that the files, before and after, and the ends account for, and that is told by status and detail
+pub record RecoverRan (parts : RecoverParts) (status : ℕ) (detail : Detail) (old new : Option Contents) (before after : Option Link) (ReadFailed ReplaceFailed EndsFailed : Type 0) : Type 0 where
+  pub outcome : Result Recovery RecoveryError
+  pub status_is : status ≡ recovery_statuses.status_of outcome
+  pub detail_is : detail ≡ recover_detail outcome
+  pub cause : recoveries.IsOutcome parts old new before after ReadFailed ReplaceFailed EndsFailed outcome
+  pub logged : Goes (BringsBack parts outcome) old new
+  pub spares : Goes (recoveries.Spares parts) old new
+  pub unwritten : status ≢ 0 → status ≢ 8 → status ≢ 11 → Goes SameFiles old new
+
+-- where the words are those of the mode `recover`, it ran, unless memory was wanted for them
+pub record RecoverMode (words : List (List ℕ)) (status : ℕ) (detail : Detail) (old new : Option Contents) (before after : Option Link) (ReadFailed ReplaceFailed EndsFailed : Type 0) : Type 0 where
+  pub ran : (parts : RecoverParts) → asks_recover words ≡ Some parts → (status ≡ 9) ⊎ RecoverRan parts status detail old new before after ReadFailed ReplaceFailed EndsFailed
+
 -- the journal that is given of a drill
 abbrev pub drilled_journal : Result (Vec Event Global) DrillError → List Event
 drilled_journal (Ok journal) = journal.items
@@ -177,29 +206,31 @@ pub record DrillRan (number : ℕ) (status : ℕ) (journal : List Event) (before
   pub journal_is : journal ≡ drilled_journal outcome
   pub cause : drills.IsOutcome number before after EndsFailed outcome
 
--- where the words are those of the mode `drill`, it ran, unless memory was wanted for them
+-- where the words are those of the mode `drill`, it ran
 pub record DrillMode (words : List (List ℕ)) (status : ℕ) (journal : List Event) (before after : Option Link) (EndsFailed : Type 0) : Type 0 where
-  pub ran : (number : ℕ) → asks_drill words ≡ Some number → (status ≡ 9) ⊎ DrillRan number status journal before after EndsFailed
+  pub ran : (number : ℕ) → asks_drill words ≡ Some number → DrillRan number status journal before after EndsFailed
 
--- no mode but `renew` and `serve` changes a file; `renew` at most the setup's that its words name, and with other statuses than 0, 8
--- and 11 none; what `serve` changes its own promises tell
+-- no mode but `renew`, `recover` and `serve` changes a file; `renew` at most the setup's that its words name, `recover` at most the two
+-- that its words name, and both with other statuses than 0, 8 and 11 none; what `serve` changes its own promises tell
 pub record ChangesFiles (words : List (List ℕ)) (status : ℕ) (old new : Option Contents) : Type 0 where
-  pub same : asks_serve words ≡ None → asks_renew words ≡ None → Goes SameFiles old new
+  pub same : asks_serve words ≡ None → asks_renew words ≡ None → asks_recover words ≡ None → Goes SameFiles old new
   pub spares : (parts : RenewParts) → asks_renew words ≡ Some parts → Goes (renews.Spares parts.setup) old new
+  pub recovered : (parts : RecoverParts) → asks_recover words ≡ Some parts → Goes (recoveries.Spares parts) old new
   pub unwritten : asks_serve words ≡ None → status ≢ 0 → status ≢ 8 → status ≢ 11 → Goes SameFiles old new
 
--- what a mode doesn't use it leaves as it was: all but `serve`, `otp`, `check`, `audit` and `renew` the files, all but `otp`, `check`,
--- `audit`, `renew`, `drill` and the children's the ends, all but `serve` the site, the log and the posts, and all but `serve` and `drill` the journal; `serve` leaves the files where it
--- serves by the plain setup, and `otp` where the words name no list; with 3 nothing was received or sent, with 9 only by `renew`,
--- and with 4 and 5 only by `check`; the detail tells of 4, 5, 14 and 15 alone
+-- what a mode doesn't use it leaves as it was: all but `serve`, `otp`, `check`, `audit`, `renew` and `recover` the files; all but `otp`,
+-- `check`, `audit`, `renew`, `recover`, `drill` and the children's the ends; all but `serve` the site, the log and the posts; and all but
+-- `serve` and `drill` the journal. `serve` leaves the files where it serves by the plain setup, and `otp` where the words name no list.
+-- With 3 nothing was received or sent, with 9 only by `renew`, and with 4 and 5 only by `check`. The detail tells of 4, 5, 13, 14 and 15
+-- alone
 pub record LeavesRest {F S E K P : Type 0} (words : List (List ℕ)) (status : ℕ) (detail : Detail) (files_old files_new : F) (site_old site_new : S) (ends_old ends_new : E) (log_old log_new : K) (journal : List Event) (posts : List P) : Type 0 where
-  pub files : asks_serve words ≡ None → asks_otp words ≡ None → asks_check words ≡ None → asks_audit words ≡ None → asks_renew words ≡ None → files_new ≡ files_old
+  pub files : asks_serve words ≡ None → asks_otp words ≡ None → asks_check words ≡ None → asks_audit words ≡ None → asks_renew words ≡ None → asks_recover words ≡ None → files_new ≡ files_old
   pub plain_setup : asks_serve words ≡ Some Plain → files_new ≡ files_old
-  pub ends : asks_otp words ≡ None → asks_check words ≡ None → asks_child words ≡ None → asks_audit words ≡ None → asks_renew words ≡ None → asks_drill words ≡ None → ends_new ≡ ends_old
+  pub ends : asks_otp words ≡ None → asks_check words ≡ None → asks_child words ≡ None → asks_audit words ≡ None → asks_renew words ≡ None → asks_drill words ≡ None → asks_recover words ≡ None → ends_new ≡ ends_old
   pub site : asks_serve words ≡ None → site_new ≡ site_old
   pub unserved : asks_serve words ≡ None → IsUnserved log_old log_new posts
   pub eventless : asks_serve words ≡ None → asks_drill words ≡ None → journal ≡ []
   pub unread : (parts : OtpParts) → asks_otp words ≡ Some parts → parts.list ≡ None → files_new ≡ files_old
   pub silent : (status ≡ 3) ⊎ (status ≡ 9) × (asks_renew words ≡ None) → ends_new ≡ ends_old
   pub unprinted : asks_check words ≡ None → (status ≡ 4) ⊎ (status ≡ 5) → ends_new ≡ ends_old
-  pub plain : status ≢ 4 → status ≢ 5 → status ≢ 14 → status ≢ 15 → detail ≡ Nothing
+  pub plain : status ≢ 4 → status ≢ 5 → status ≢ 13 → status ≢ 14 → status ≢ 15 → detail ≡ Nothing

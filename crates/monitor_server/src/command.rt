@@ -12,6 +12,7 @@ use drill_mode::read_drill_command;
 use otp_extended::{RenewCommand, read_renew_command};
 use otp_mode::{OtpCommand, read_otp_command};
 use outside::Word;
+use recover_mode::{RecoverCommand, read_recover_command};
 use serve_mode::{ServeCommand, read_serve_command};
 use std::alloc::{AllocError, Global};
 
@@ -32,6 +33,8 @@ pub enum Command<'a> {
     Renew(RenewCommand<'a>),
     /// To run the drill of this number, from 1 to 64.
     Drill(u32),
+    /// To recover the accounts from a durable log.
+    Recover(RecoverCommand<'a>),
 }
 
 /// Why words were not read as a command.
@@ -83,8 +86,11 @@ fn command_of<'a>(mode: &str, further: &[&'a str]) -> Option<Command<'a>>
     if let Some(command) = read_renew_command(mode, further) {
         return Some(Command::Renew(command));
     }
-    match read_drill_command(mode, further) {
-        Some(number) => Some(Command::Drill(number)),
+    if let Some(number) = read_drill_command(mode, further) {
+        return Some(Command::Drill(number));
+    }
+    match read_recover_command(mode, further) {
+        Some(command) => Some(Command::Recover(command)),
         None => None,
     }
 }

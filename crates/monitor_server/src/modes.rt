@@ -7,11 +7,12 @@ ghost use Rattle.otp_mode.specs.Command.{command_parts};
 ghost use Rattle.child_mode.specs.Commands.{parts_of};
 ghost use Rattle.audit_mode.specs.Commands as audits;
 ghost use Rattle.otp_extended.specs.Commands as renewals;
+ghost use Rattle.recover_mode.specs.Commands as recoveries;
 ghost use Rattle.monitor_server.specs.declared.report.Detail.TheVariants.{Nothing};
 ghost use Rattle.monitor_server.specs.Headline.{IsUnused};
 ghost use Rattle.serve_mode.specs.Commands as serves;
 ghost use Rattle.serve_mode.specs.Words.{Plain};
-ghost use Rattle.monitor_server.specs.Modes.{AuditRan, CheckRan, ChildRan, DrillRan, PasswordRan, RenewRan, ServeRan, audit_detail, fault_detail, finding_detail, renew_detail, serve_detail};
+ghost use Rattle.monitor_server.specs.Modes.{AuditRan, CheckRan, ChildRan, DrillRan, PasswordRan, RecoverRan, RenewRan, ServeRan, audit_detail, fault_detail, finding_detail, recover_detail, renew_detail, serve_detail};
 
 use crate::report::{Detail, FileKind, Report, unused};
 use audit_check::Audit;
@@ -22,6 +23,7 @@ use drill_mode::run_drill;
 use otp_extended::{RenewCommand, RenewalFault, Renewed};
 use otp_mode::{OtpCommand, OtpFault, run_otp};
 use outside::{Files, Sink, Site, Stream};
+use recover_mode::{RecoverCommand, Recovery, RecoveryError, run_recover};
 use renew_mode::{RenewError, run_renew};
 use serve_mode::{ServeCommand, ServeError, Served, run_serve};
 use service_reading::{Information, ServiceError};
@@ -63,7 +65,7 @@ pub(crate) fn serve_setup<
     }
 }
 
-/// What is missing or refused of what a run serves by.
+/// What is missing or refused of what a run serves by and logs to.
 fn serve_detail(end: Result<(), ServeError>) -> Detail
     ensures { result ≡ serve_detail end }
 {
@@ -76,6 +78,7 @@ fn serve_detail(end: Result<(), ServeError>) -> Detail
             file: FileKind::Words,
         },
         Err(ServeError::Unread(ServiceError::WordsRefused(fault))) => Detail::WordsBad(fault),
+        Err(ServeError::LogNotFresh) => Detail::LogNotFresh,
         _ => Detail::Nothing,
     }
 }
@@ -249,6 +252,42 @@ fn renew_detail(outcome: Result<Renewed, RenewError>) -> Detail
         },
         Err(RenewError::WordsRefused(fault)) => Detail::WordsBad(fault),
         Err(RenewError::NoRenewal(RenewalFault::Refused(fault))) => Detail::RenewBad(fault),
+        _ => Detail::Nothing,
+    }
+}
+
+/// Recovers the accounts from a durable log into the setup's file, and makes the log fresh.
+pub(crate) fn recover_accounts<F: Files, P, K, E: Stream>(
+    alloc: Global,
+    command: &RecoverCommand<'_>,
+    files: &mut F,
+    log: K,
+    ends: &mut E,
+) -> Report<P, K>
+    ensures recover { RecoverRan (recoveries.command_parts command.now) result.status result.detail (F.contents files.old) (F.contents files.new) (E.link ends.old) (E.link ends.new) (Rose (F.read_faults files.old) (F.read_faults files.new)) (Rose (F.replace_faults files.old) (F.replace_faults files.new)) (Rose (E.faults ends.old) (E.faults ends.new)) }
+    ensures unused { IsUnused log result.log result.journal.items result.posts.items }
+    ensures silent { (result.status ≡ 3) ⊎ (result.status ≡ 9) → ends.new ≡ ends.old }
+    ensures at_files { (result.status ≡ 4) ⊎ (result.status ≡ 5) → ends.new ≡ ends.old }
+{
+    let outcome = run_recover(alloc, command, files, ends);
+    unused(
+        alloc,
+        recover_mode::status(outcome),
+        recover_detail(outcome),
+        log,
+    )
+}
+
+/// What is missing, refused or bad of a setup and a durable log.
+fn recover_detail(outcome: Result<Recovery, RecoveryError>) -> Detail
+    ensures { result ≡ recover_detail outcome }
+{
+    match outcome {
+        Err(RecoveryError::SetupMissing) => Detail::Missing {
+            file: FileKind::Setup,
+        },
+        Err(RecoveryError::SetupRefused(fault)) => Detail::SetupBad(fault),
+        Err(RecoveryError::LogRefused { number }) => Detail::LogBad { number },
         _ => Detail::Nothing,
     }
 }

@@ -35,6 +35,11 @@ pub enum Detail {
     SetupBad(SetupFault),
     /// The word list is refused by this fault, with status 5.
     WordsBad(DictFault),
+    /// The durable log that was named isn't there, or has something else than no record, with status 13.
+    LogNotFresh,
+    /// The durable log can't be recovered from, with status 13: its record at this place, counted from 1,
+    /// is the first with a fault; 0 where the file is no log.
+    LogBad { number: u32 },
     /// The log stops being a legal one at this line, counted from 1, with status 14.
     AuditNo { line: u32, why: AuditWhy },
     /// The response renews nothing, with status 15.
@@ -49,10 +54,10 @@ pub struct Report<P, K> {
     /// refused, 6 where the site could not listen, 7 where the log could not be written, 8 where the
     /// setup could not be replaced, 9 where memory was wanted, 10 where a worker could not wait for a
     /// connection, 11 where the ends failed, 12 where the pass phrase is refused, a response isn't one
-    /// or what a child was sent can't be read, 14 where a log is not legal, 15 where a response renews
+    /// or what a child was sent can't be read, 13 where a durable log isn't fresh or has a fault, 14 where a log is not legal, 15 where a response renews
     /// nothing.
     pub status: u8,
-    /// Which file is missing, or what is wrong with it or with the response.
+    /// Which file is missing, or what is wrong with one or with the response.
     pub detail: Detail,
     /// All events of the run, in the order in which they were decided.
     pub journal: Vec<Event>,

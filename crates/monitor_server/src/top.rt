@@ -2,12 +2,13 @@
 
 ghost use Rattle.outside.specs.Told.{Rose};
 ghost use Rattle.monitor_server.specs.Headline.{StatusHasCause};
-ghost use Rattle.monitor_server.specs.Modes.{AuditMode, ChangesFiles, CheckMode, ChildMode, DrillMode, LeavesRest, PasswordMode, RenewMode, ServeMode};
+ghost use Rattle.monitor_server.specs.Modes.{AuditMode, ChangesFiles, CheckMode, ChildMode, DrillMode, LeavesRest, PasswordMode, RecoverMode, RenewMode, ServeMode};
 ghost use Rattle.monitor_server.specs.Whole.{Whole};
 
 use crate::command::{Command, Unread, read_command};
 use crate::modes::{
-    audit_log, check_setup, play_drill, print_password, renew_account, run_child, serve_setup,
+    audit_log, check_setup, play_drill, print_password, recover_accounts, renew_account, run_child,
+    serve_setup,
 };
 use crate::report::{Detail, NO_MEMORY, Report, unused};
 use outside::{Files, Sink, Site, Stream, Word};
@@ -49,6 +50,7 @@ fn run_command<
         Ok(Command::Audit(command)) => audit_log(alloc, &command, files, log, ends),
         Ok(Command::Renew(command)) => renew_account(alloc, &command, files, log, ends),
         Ok(Command::Drill(number)) => play_drill(rt, alloc, number, log, ends),
+        Ok(Command::Recover(command)) => recover_accounts(alloc, &command, files, log, ends),
         Err(Unread::NoCommand) => unused(alloc, NO_COMMAND, Detail::Nothing, log),
         Err(Unread::OutOfMemory) => unused(alloc, NO_MEMORY, Detail::Nothing, log),
     }
@@ -57,7 +59,10 @@ fn run_command<
 /// Runs the program by the words of its command line, without the program's name:
 ///
 /// - `serve` serves the connections of the plain setup, and `serve SETUP` those of the setup in that
-///   file, into which the accounts are written back when the run ends;
+///   file, into which the accounts are written back when the run ends; `serve SETUP LOG` does so where
+///   the file LOG is a durable log without a record, and for it `log` is to be one over that file;
+/// - `recover SETUP LOG` brings back from that durable log what a run came to that was stopped, writes it
+///   into the setup's file, makes the log fresh, and sends to `ends` one line that says so;
 /// - `check SETUP` sends to `ends` one line that says whether the setup in that file and its word
 ///   list are right;
 /// - `otp ALGO N SEED` and `otp ALGO N SEED WORDS` print a one-time password of RFC 2289: the pass
@@ -107,9 +112,11 @@ pub fn otplogd<
     ensures renew { RenewMode words.now result.status result.detail (F.contents files.old) (F.contents files.new) (E.link ends.old) (E.link ends.new) (Rose (F.read_faults files.old) (F.read_faults files.new)) (Rose (F.replace_faults files.old) (F.replace_faults files.new)) (Rose (E.faults ends.old) (E.faults ends.new)) }
     // The mode `drill` runs the drill of its number, gives its journal and tells the journal's counts, or says why not.
     ensures drill { DrillMode words.now result.status result.journal.items (E.link ends.old) (E.link ends.new) (Rose (E.faults ends.old) (E.faults ends.new)) }
+    // The mode `recover` writes the setup that the log's lines lead to, and the fresh log, or says why not.
+    ensures recover { RecoverMode words.now result.status result.detail (F.contents files.old) (F.contents files.new) (E.link ends.old) (E.link ends.new) (Rose (F.read_faults files.old) (F.read_faults files.new)) (Rose (F.replace_faults files.old) (F.replace_faults files.new)) (Rose (E.faults ends.old) (E.faults ends.new)) }
     // What a mode doesn't use it leaves as it was.
     ensures leaves { LeavesRest words.now result.status result.detail files.old files.new site.old site.new ends.old ends.new log result.log result.journal.items result.posts.items }
-    // No mode but `serve` and `renew` writes a file, and `renew` the setup's alone.
+    // No mode but `serve`, `renew` and `recover` writes a file; `renew` the setup's alone, and `recover` that and the log's.
     ensures changes { ChangesFiles words.now result.status (F.contents files.old) (F.contents files.new) }
 {
     run_command(rt, alloc, words, files, site, log, ends, information)

@@ -34,6 +34,18 @@ impl fmt::Display for Complaint {
                 "the word list is refused: line {line} {}",
                 list_rule_text(rule)
             ),
+            Detail::LogNotFresh => {
+                f.write_str(
+                    "the durable log is not a fresh one: call otplogd recover SETUP LOG first",
+                )
+            }
+            Detail::LogBad { number: 0 } => f.write_str("the durable log is none"),
+            Detail::LogBad { number } => {
+                write!(
+                    f,
+                    "the durable log can't be recovered: record {number} is wrong"
+                )
+            }
             Detail::AuditNo { line, why } => {
                 write!(f, "the log is not legal: line {line} {}", why_text(why))
             }
@@ -52,20 +64,22 @@ impl fmt::Display for Complaint {
 fn status_text(status: u8) -> &'static str {
     match status {
         2 => {
-            "call it as otplogd serve [SETUP], otplogd check SETUP, otplogd audit SETUP LOG, \
-            otplogd renew SETUP NAME, otplogd otp md5|sha1 N SEED [WORDS] or otplogd drill N"
+            "call it as otplogd serve [SETUP [LOG]], otplogd recover SETUP LOG, otplogd check SETUP, \
+            otplogd audit SETUP LOG, otplogd renew SETUP NAME, otplogd otp md5|sha1 N SEED [WORDS] \
+            or otplogd drill N"
         }
         3 => "a file could not be read",
         4 => "a file is not there",
         5 => "a file is refused",
         6 => "the socket could not be listened at",
-        8 => "the setup could not be replaced",
+        8 => "the setup or the durable log could not be replaced",
         9 => "memory was wanted",
         11 => "standard input could not be read, or standard output not be written",
         12 => {
             "the input is refused: a pass phrase is 10 to 63 bytes of printable ASCII, \
             and a response one of RFC 2243"
         }
+        13 => "the durable log can't be used",
         14 => "the log is not legal",
         15 => "the response renews nothing",
         _ => "it failed",

@@ -1,6 +1,7 @@
 //! The program: it runs with the real outside by the words of its command line. It reads a pass
-//! phrase from standard input, prints to standard output and logs to standard error. Where it served
-//! nobody and didn't succeed, it says on standard error why; behind a run the log stands there alone.
+//! phrase from standard input, prints to standard output and logs to standard error, and before it to
+//! the file of a durable log where the words name one. Where it served nobody and didn't succeed, it says
+//! on standard error why; behind a run the log stands there alone.
 #![tactic(auto)]
 
 mod complaint;
@@ -9,13 +10,15 @@ mod information;
 use complaint::Complaint;
 use info_hooks::{Hook, Hooks};
 use information::{chain_form, person_form, say_chain, say_person};
+use line_log::LineLog;
 use monitor_server::{Detail, otplogd};
 use outside::Word;
 use outside_real::{RealEnds, RealFiles, RealSink, RealSite, fill_standard_streams};
+use real_log::{FileDisk, RealLog};
 use std::alloc::{AllocError, Global};
 use std::env;
 use std::env::Args;
-use std::io::ErrorKind;
+use std::io::{ErrorKind, Stderr};
 use std::process::ExitCode;
 use std::rt::Env;
 
@@ -49,6 +52,32 @@ fn words_given(rt: &HostRuntime) -> Result<Vec<Word>, u8> {
     }
 }
 
+/// The name of the durable log's file, where the words are those of a run that keeps one.
+fn durable_name(words: &[Word]) -> Option<&Word> {
+    match words {
+        [mode, _, log] if mode.as_str() == "serve" => Some(log),
+        _ => None,
+    }
+}
+
+/// The log of a run: standard error, or the durable one that the words name and then standard error.
+fn log_of(
+    rt: HostRuntime,
+    alloc: Global,
+    words: &[Word],
+) -> Result<RealLog<Stderr, HostRuntime>, AllocError> {
+    match durable_name(words) {
+        Some(name) => {
+            let disk = FileDisk::new(rt, name.copy(alloc)?);
+            Ok(RealLog::Durable {
+                log: LineLog::new(disk),
+                echo: RealSink::new(rt.stderr()),
+            })
+        }
+        None => Ok(RealLog::Stream(RealSink::new(rt.stderr()))),
+    }
+}
+
 /// Says why nobody was served, and gives the exit status.
 fn complain(rt: &impl Eprint, status: u8, detail: Detail) -> ExitCode {
     let _ = rt.eprintln(Complaint { status, detail });
@@ -74,7 +103,9 @@ fn main(rt: HostRuntime) -> ExitCode {
     let Ok(information) = Hooks::new(hooks) else {
         return complain(&rt, NO_MEMORY, Detail::Nothing);
     };
-    let log = RealSink::new(rt.stderr());
+    let Ok(log) = log_of(rt, alloc, words.as_slice()) else {
+        return complain(&rt, NO_MEMORY, Detail::Nothing);
+    };
     let mut ends = RealEnds::new(rt.stdin(), rt.stdout());
     let mut files = RealFiles::new(rt, alloc);
     let mut site = RealSite::new(rt, alloc);

@@ -21,8 +21,9 @@ fn each_status_has_its_line(rt: HostRuntime) -> Result<(), Fail> {
         (
             2,
             Detail::Nothing,
-            "otplogd: call it as otplogd serve [SETUP], otplogd check SETUP, otplogd audit SETUP LOG, \
-            otplogd renew SETUP NAME, otplogd otp md5|sha1 N SEED [WORDS] or otplogd drill N",
+            "otplogd: call it as otplogd serve [SETUP [LOG]], otplogd recover SETUP LOG, \
+            otplogd check SETUP, otplogd audit SETUP LOG, otplogd renew SETUP NAME, \
+            otplogd otp md5|sha1 N SEED [WORDS] or otplogd drill N",
         ),
         (3, Detail::Nothing, "otplogd: a file could not be read"),
         (
@@ -64,7 +65,7 @@ fn each_status_has_its_line(rt: HostRuntime) -> Result<(), Fail> {
         (
             8,
             Detail::Nothing,
-            "otplogd: the setup could not be replaced",
+            "otplogd: the setup or the durable log could not be replaced",
         ),
         (9, Detail::Nothing, "otplogd: memory was wanted"),
         (
@@ -77,6 +78,21 @@ fn each_status_has_its_line(rt: HostRuntime) -> Result<(), Fail> {
             Detail::Nothing,
             "otplogd: the input is refused: a pass phrase is 10 to 63 bytes of printable ASCII, \
             and a response one of RFC 2243",
+        ),
+        (
+            13,
+            Detail::LogNotFresh,
+            "otplogd: the durable log is not a fresh one: call otplogd recover SETUP LOG first",
+        ),
+        (
+            13,
+            Detail::LogBad { number: 0 },
+            "otplogd: the durable log is none",
+        ),
+        (
+            13,
+            Detail::LogBad { number: 7 },
+            "otplogd: the durable log can't be recovered: record 7 is wrong",
         ),
         (
             14,

@@ -4,7 +4,7 @@
 
 mod again;
 mod clock;
-mod counted;
+pub mod counted;
 mod ends;
 mod files;
 mod limits;

@@ -1,11 +1,12 @@
 -- A file spells one setup: what a file says of two setups is the same only where they are the same.
-use Rattle.std.proofs.Common.{◌≡◌, ℕ, true, List, [], ◌∷◌, map, Option, Some, None, Result, Ok, refl, sym, ap, ◌∙◌}
-use Rattle.std.specs.Prelude.{is_some}
+use Rattle.std.proofs.Common.{◌≡◌, ℕ, ◌≤◌, arith, true, List, [], ◌∷◌, map, Option, Some, None, Result, Ok, refl, sym, ap, subst, ◌∙◌}
+use Rattle.std.specs.Prelude.{IfSome, is_ok, is_some}
 use Rattle.request_catalogue.proofs.TextLemmas.{same_from_label_bytes, same_from_name_bytes}
 use Rattle.otp_hash.proofs.SeedLemmas.{same_from_seed_bytes}
 use Rattle.info_hooks.specs.declared.key.Key.{Key}
 use Rattle.outside.specs.Files.{Contents, SameFiles}
-use Rattle.outside.specs.Told.{Goes}
+use Rattle.outside.specs.Told.{Goes, Rose}
+use Rattle.outside.proofs.Told.{Rose-within}
 use Rattle.policy_model.specs.declared.account.Account.{Account}
 use Rattle.policy_model.specs.declared.account.Grant.{Grant}
 use Rattle.policy_model.specs.Settings.{Settings}
@@ -13,8 +14,12 @@ use Rattle.service_model.specs.Service.{Service}
 use Rattle.account_file.specs.Entries.{AccountEntry, GrantEntry, SetupEntries, account_entry, entries_of, grant_entry}
 use Rattle.service_reading.specs.declared.error.ServiceError.{ServiceError}
 use Rattle.service_reading.specs.Found.{FoundService, IsServiceIn, service_in}
-use Rattle.serve_mode.specs.Services.{IsServiceOf}
-use Rattle.serve_mode.specs.Steps.{IsReadFrom, service_by}
+use Rattle.fresh_log.specs.Fresh.{IsFresh}
+use Rattle.service_reading.specs.declared.error.ServiceError.TheVariants as unread
+use Rattle.serve_mode.specs.declared.error.ServeError.{ServeError}
+use Rattle.serve_mode.specs.declared.error.ServeError.TheVariants as errors
+use Rattle.serve_mode.specs.Services.{HasFreshLog, IsServedBy, IsServiceOf, IsUnfresh}
+use Rattle.serve_mode.specs.Steps.{IsLogRefused, IsReadFrom, IsUnready, log_of, service_by}
 use Rattle.serve_mode.specs.Words.{Named, Plain, Source}
 
 map_once : {A B : Type 0} (f : A → B) → ((a b : A) → f a ≡ f b → a ≡ b) → (xs ys : List A) → map f xs ≡ map f ys → xs ≡ ys
@@ -86,10 +91,57 @@ same_found a b e forms =
 -- what was read is what the run is promised by, where the files tell
 pub read_is : (source : Source) (forms : List Key) (old mid new : Option Contents) (setup : Settings) (words : List (List ℕ)) (service : Service) → IsReadFrom source forms mid setup words → Goes SameFiles old mid → (is_some new ≡ true → is_some mid ≡ true) → IsServiceOf source forms old new service → service ≡ service_by setup words forms
 read_is Plain forms old mid new setup words service (setup_is, words_are) kept telling is = is ∙ (λ i. record { setup = sym setup_is i; words = sym words_are i; forms = forms })
-read_is (Named name) forms old mid new setup words service read kept telling is = go old mid is.told kept read (telling is.still) where
+read_is (Named name log) forms old mid new setup words service read kept telling is = go old mid is.told kept read (telling is.still) where
   go : (old mid : Option Contents) → old ≡ Some is.files → Goes SameFiles old mid → IsServiceIn forms mid name setup words → is_some mid ≡ true → service ≡ service_by setup words forms
   go old None told kept read some = absurd cc
   go None (Some later) told kept read some = absurd kept
   go (Some files) (Some later) told kept read some =
       let same : files ≡ is.files = cc in
       same_found service (service_by setup words forms) (sym is.found ∙ ap (λ (c : Contents). service_in forms c name) (sym same) ∙ sym (service_still forms files later name kept) ∙ read) is.forms_are
+
+-- a log that is fresh in files is in those that they are the same as
+pub still_fresh : (log : Option (List ℕ)) (files later : Contents) → SameFiles files later → HasFreshLog log later → HasFreshLog log files
+still_fresh None files later kept fresh = fresh
+still_fresh (Some log) files later kept fresh = subst IsFresh (kept.same log) fresh
+
+-- what was read is what the run was served by, as the files stood before it
+pub read_by : (source : Source) (forms : List Key) (old mid new : Option Contents) (setup : Settings) (words : List (List ℕ)) → IsReadFrom source forms mid setup words → IfSome mid (HasFreshLog (log_of source)) → Goes SameFiles old mid → (is_some new ≡ true → is_some mid ≡ true) → IsServedBy source forms old new (service_by setup words forms)
+read_by Plain forms old mid new setup words (setup_is, words_are) fresh kept telling = λ i. record { setup = setup_is i; words = words_are i; forms = forms }
+read_by (Named name log) forms old mid new setup words read fresh kept telling = record { forms_are = refl; read = λ still. reads old mid (telling still) read kept; fresh = λ still. freshens old mid (telling still) fresh kept } where
+  reads : (old mid : Option Contents) → is_some mid ≡ true → IsServiceIn forms mid name setup words → Goes SameFiles old mid → IsServiceIn forms old name setup words
+  reads old None some read kept = absurd cc
+  reads None (Some later) some read kept = absurd kept
+  reads (Some files) (Some later) some read kept = sym (service_still forms files later name kept) ∙ read
+
+  freshens : (old mid : Option Contents) → is_some mid ≡ true → IfSome mid (HasFreshLog log) → Goes SameFiles old mid → IfSome old (HasFreshLog log)
+  freshens old None some fresh kept = absurd cc
+  freshens None (Some later) some fresh kept = absurd kept
+  freshens (Some files) (Some later) some fresh kept = still_fresh log files later kept fresh
+
+-- what was read is there still where the files stay the same
+pub read_still : (source : Source) (forms : List Key) (mid new : Option Contents) (setup : Settings) (words : List (List ℕ)) → IsReadFrom source forms mid setup words → Goes SameFiles mid new → IsReadFrom source forms new setup words
+read_still Plain forms mid new setup words read kept = read
+read_still (Named name log) forms mid None setup words read kept = tt
+read_still (Named name log) forms None (Some later) setup words read kept = absurd kept
+read_still (Named name log) forms (Some files) (Some later) setup words read kept = service_still forms files later name kept ∙ read
+
+-- behind what was read a log that is refused leaves nothing to begin with
+pub unready_log : (source : Source) (forms : List Key) (mid new : Option Contents) (setup : Settings) (words : List (List ℕ)) (first meanwhile last : ℕ) (error : ServeError) → IsReadFrom source forms mid setup words → Goes SameFiles mid new → first ≤ meanwhile → IsLogRefused (log_of source) new (Rose meanwhile last) error → IsUnready source forms new (Rose first last) error
+unready_log Plain forms mid new setup words first meanwhile last error read kept low refused = absurd refused
+unready_log (Named name None) forms mid new setup words first meanwhile last error read kept low refused = absurd refused
+unready_log (Named name (Some log)) forms mid new setup words first meanwhile last errors.LogNotFresh read kept low refused = go mid new read kept refused where
+  go : (mid new : Option Contents) → IsServiceIn forms mid name setup words → Goes SameFiles mid new → IfSome new (λ files. IsFresh (files log) → ⊥) → IsUnfresh (Named name (Some log)) forms new
+  go mid None read kept refused = tt
+  go None (Some later) read kept refused = absurd kept
+  go (Some files) (Some later) read kept refused = (ap is_ok (service_still forms files later name kept ∙ read), refused)
+unready_log (Named name (Some log)) forms mid new setup words first meanwhile last (errors.Unread unread.Failed) read kept low refused = Rose-within first meanwhile last last low refused (omega arith)
+unready_log (Named name (Some log)) forms mid new setup words first meanwhile last (errors.Unread unread.OutOfMemory) read kept low refused = absurd refused
+unready_log (Named name (Some log)) forms mid new setup words first meanwhile last (errors.Unread unread.SetupMissing) read kept low refused = absurd refused
+unready_log (Named name (Some log)) forms mid new setup words first meanwhile last (errors.Unread (unread.SetupRefused fault)) read kept low refused = absurd refused
+unready_log (Named name (Some log)) forms mid new setup words first meanwhile last (errors.Unread unread.WordsMissing) read kept low refused = absurd refused
+unready_log (Named name (Some log)) forms mid new setup words first meanwhile last (errors.Unread (unread.WordsRefused fault)) read kept low refused = absurd refused
+unready_log (Named name (Some log)) forms mid new setup words first meanwhile last errors.OutOfMemory read kept low refused = tt
+unready_log (Named name (Some log)) forms mid new setup words first meanwhile last errors.ListenFailed read kept low refused = absurd refused
+unready_log (Named name (Some log)) forms mid new setup words first meanwhile last errors.LogLost read kept low refused = absurd refused
+unready_log (Named name (Some log)) forms mid new setup words first meanwhile last errors.AcceptFailed read kept low refused = absurd refused
+unready_log (Named name (Some log)) forms mid new setup words first meanwhile last errors.ReplaceFailed read kept low refused = absurd refused

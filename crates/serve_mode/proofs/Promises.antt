@@ -29,8 +29,9 @@ use Rattle.serve_mode.specs.declared.error.ServeError.{ServeError}
 use Rattle.serve_mode.specs.declared.error.ServeError.TheVariants as errors
 use Rattle.serve_mode.specs.Errors.{IsUnread, error_status, status_of, unread_status}
 use Rattle.serve_mode.specs.Headline.{AccountsMatch, AreAccountsWritten, ListensAt, NoFault, ServeEnded, ServeHasCause, ServePromises, is_run_status, is_unserved_status, serve_statuses, setup_place}
-use Rattle.serve_mode.specs.Services.{IsServiceOf, plain_service}
-use Rattle.serve_mode.specs.Steps.{WritesBack, WritesNamed, run_end}
+use Rattle.fresh_log.specs.Fresh.{IsFresh}
+use Rattle.serve_mode.specs.Services.{IsServedBy, IsServiceOf, IsUnfresh, plain_service}
+use Rattle.serve_mode.specs.Steps.{IsUnready, WritesBack, WritesNamed, run_end}
 use Rattle.serve_mode.specs.Words.{Named, Plain, Source}
 use Rattle.serve_mode.proofs.Once.{service_still}
 
@@ -148,10 +149,11 @@ named_end name setup ledger old new ReplaceRose (Err (errors.Unread error)) w = 
 named_end name setup ledger old new ReplaceRose (Err errors.ListenFailed) w = absurd w
 named_end name setup ledger old new ReplaceRose (Err errors.LogLost) w = absurd w
 named_end name setup ledger old new ReplaceRose (Err errors.AcceptFailed) w = absurd w
+named_end name setup ledger old new ReplaceRose (Err errors.LogNotFresh) w = absurd w
 
 written_end : (source : Source) (setup : Settings) (ledger : LedgerParts) (old new : Option Contents) (ReplaceRose : Type 0) (written : Result (Unit {0}) ServeError) → WritesBack source setup ledger old new ReplaceRose written → IsWritten written
 written_end Plain setup ledger old new ReplaceRose written w = inl w.0
-written_end (Named name) setup ledger old new ReplaceRose written w = named_end name setup ledger old new ReplaceRose written w
+written_end (Named name log) setup ledger old new ReplaceRose written w = named_end name setup ledger old new ReplaceRose written w
 
 -- the same for each way of writing back, of losing and of accepting
 end_tells : (written : Result (Unit {0}) ServeError) (lost failed : Bool) → IsWritten written → EndTells (run_end written lost failed) written lost failed
@@ -170,7 +172,7 @@ end_tells written lost failed (inr (inr not)) = subst (λ w. EndTells (run_end w
 -- that the accounts were not replaced has its cause
 replace_rose : (source : Source) (setup : Settings) (ledger : LedgerParts) (old new : Option Contents) (ReplaceRose : Type 0) (written : Result (Unit {0}) ServeError) → WritesBack source setup ledger old new ReplaceRose written → written ≡ Err errors.ReplaceFailed → ReplaceRose
 replace_rose Plain setup ledger old new ReplaceRose written w is = absurd (let f : ◌≡◌ {A = Result (Unit {0}) ServeError} (Ok tt) (Err errors.ReplaceFailed) = sym w.0 ∙ is in cc)
-replace_rose (Named name) setup ledger old new ReplaceRose written w is = (subst (WritesNamed name setup ledger old new ReplaceRose) is w).2
+replace_rose (Named name log) setup ledger old new ReplaceRose written w is = (subst (WritesNamed name setup ledger old new ReplaceRose) is w).2
 
 -- ---- the accounts
 
@@ -180,7 +182,7 @@ same_then old mid new step through kept goes = Goes-then SameFiles step step thr
 replaced_through : (name bytes : List ℕ) (a b c : Contents) → SameFiles a b → Replaced name bytes b c → Replaced name bytes a c
 replaced_through name bytes a b c kept r = record { file = r.file; others = λ other ne. r.others other ne ∙ kept.same other }
 
-same_through : (a b c : Contents) → SameFiles a b → SameFiles b c → SameFiles a c
+pub same_through : (a b c : Contents) → SameFiles a b → SameFiles b c → SameFiles a c
 same_through a b c p q = record { same = λ name. q.same name ∙ p.same name }
 
 maybe_through : (name bytes : List ℕ) (a b c : Contents) → SameFiles a b → MayBeReplaced name bytes b c → MayBeReplaced name bytes a c
@@ -228,34 +230,30 @@ accounts_named name setup ledger end written lost failed journal old mid new Rep
 
 accounts_match : (source : Source) (setup : Settings) (ledger : LedgerParts) (end written : Result (Unit {0}) ServeError) (lost failed : Bool) (journal : List Event) (old mid new : Option Contents) (ReplaceRose : Type 0) → EndTells end written lost failed → StandsFor ledger (kept_events journal) → Goes SameFiles old mid → WritesBack source setup ledger mid new ReplaceRose written → IsWritten written → AccountsMatch source setup (status_of end) journal old new ReplaceRose
 accounts_match Plain setup ledger end written lost failed journal old mid new ReplaceRose tells stands kept w is = same_then old mid new SameFiles same_through kept w.1
-accounts_match (Named name) setup ledger end written lost failed journal old mid new ReplaceRose tells stands kept w is = accounts_named name setup ledger end written lost failed journal old mid new ReplaceRose tells stands kept w is
+accounts_match (Named name log) setup ledger end written lost failed journal old mid new ReplaceRose tells stands kept w is = accounts_named name setup ledger end written lost failed journal old mid new ReplaceRose tells stands kept w is
 
--- a run that was served doesn't end by what could not be read
-pub served_read : (source : Source) (setup : Settings) (ledger : LedgerParts) (old new : Option Contents) (ReplaceRose : Type 0) (written : Result (Unit {0}) ServeError) (lost failed : Bool) (error : ServiceError) → WritesBack source setup ledger old new ReplaceRose written → run_end written lost failed ≡ Err (errors.Unread error) → ⊥
-served_read source setup ledger old new ReplaceRose written lost failed error w is = at (written_end source setup ledger old new ReplaceRose written w) where
-  go : (written : Result (Unit {0}) ServeError) (lost failed : Bool) → run_end written lost failed ≡ Err (errors.Unread error) → IsWritten written → ⊥
-  go (Ok done) true failed is w = absurd cc
-  go (Ok done) false true is w = absurd cc
-  go (Ok done) false false is w = absurd cc
-  go (Err errors.OutOfMemory) lost failed is w = absurd cc
-  go (Err errors.ReplaceFailed) true failed is w = absurd cc
-  go (Err errors.ReplaceFailed) false true is w = absurd cc
-  go (Err errors.ReplaceFailed) false false is w = absurd cc
-  go (Err (errors.Unread other)) lost failed is (inl e) = absurd cc
-  go (Err (errors.Unread other)) lost failed is (inr (inl e)) = absurd cc
-  go (Err (errors.Unread other)) lost failed is (inr (inr e)) = absurd cc
-  go (Err errors.ListenFailed) lost failed is (inl e) = absurd cc
-  go (Err errors.ListenFailed) lost failed is (inr (inl e)) = absurd cc
-  go (Err errors.ListenFailed) lost failed is (inr (inr e)) = absurd cc
-  go (Err errors.LogLost) lost failed is (inl e) = absurd cc
-  go (Err errors.LogLost) lost failed is (inr (inl e)) = absurd cc
-  go (Err errors.LogLost) lost failed is (inr (inr e)) = absurd cc
-  go (Err errors.AcceptFailed) lost failed is (inl e) = absurd cc
-  go (Err errors.AcceptFailed) lost failed is (inr (inl e)) = absurd cc
-  go (Err errors.AcceptFailed) lost failed is (inr (inr e)) = absurd cc
+-- an end that a run which was served doesn't come to
+abbrev IsUnbegun : Result (Unit {0}) ServeError → Type 0
+IsUnbegun (Err (errors.Unread error)) = Unit {0}
+IsUnbegun (Err errors.LogNotFresh) = Unit {0}
+IsUnbegun _ = ⊥
+
+served_begins : (source : Source) (setup : Settings) (ledger : LedgerParts) (old new : Option Contents) (ReplaceRose : Type 0) (written : Result (Unit {0}) ServeError) (lost failed : Bool) → WritesBack source setup ledger old new ReplaceRose written → IsUnbegun (run_end written lost failed) → ⊥
+served_begins source setup ledger old new ReplaceRose written lost failed w is = at (written_end source setup ledger old new ReplaceRose written w) where
+  whole : (lost failed : Bool) → IsUnbegun (run_end (Ok tt) lost failed) → ⊥
+  whole true failed is = is
+  whole false true is = is
+  whole false false is = is
+
+  unwritten : (lost failed : Bool) → IsUnbegun (run_end (Err errors.ReplaceFailed) lost failed) → ⊥
+  unwritten true failed is = is
+  unwritten false true is = is
+  unwritten false false is = is
 
   at : IsWritten written → ⊥
-  at w = go written lost failed is w
+  at (inl done) = whole lost failed (subst (λ w. IsUnbegun (run_end w lost failed)) done is)
+  at (inr (inl oom)) = subst (λ w. IsUnbegun (run_end w lost failed)) oom is
+  at (inr (inr not)) = unwritten lost failed (subst (λ w. IsUnbegun (run_end w lost failed)) not is)
 
 -- ---- where somebody was served
 
@@ -268,6 +266,7 @@ module _ {P : Type 0} (source : Source) (service : Service) (ledger : LedgerPart
     listed = tells.listed;
     unserved = λ h. absurd (let f : true ≡ false = sym h ∙ tells.served in cc);
     unbegun = λ none. absurd (let f : length posts ≡ 0 = ap length none in omega (arith, f, ran.one_each, some));
+    begun = λ _ none. let f : length posts ≡ 0 = ap length none in omega (arith, f, ran.one_each, some);
     read_fault = λ e. absurd (tells.three e);
     listen_fault = λ e. absurd (tells.six e);
     lost = tells.lost_is;
@@ -315,14 +314,15 @@ module _ {P : Type 0} (source : Source) (service : Service) (ledger : LedgerPart
     listened (post ∷ posts) one_each = listens
 
   -- all of it, under the name of the end that was handed out
-  pub served_ended : (forms : List Key) (end : Result (Unit {0}) ServeError) (listens_old listens_new : Option (List SitePlace)) → end ≡ run_end written (has_lost journal) failed → ((other : Service) → IsServiceOf source forms old new other → other ≡ service) → 1 ≤ service.setup.workers → StandsFor ledger (kept_events journal) → Goes SameFiles old mid → Gains listens_old (setup_place service.setup ∷ []) listens_new
+  pub served_ended : (forms : List Key) (end : Result (Unit {0}) ServeError) (listens_old listens_new : Option (List SitePlace)) → end ≡ run_end written (has_lost journal) failed → IsServedBy source forms old new service → ((other : Service) → IsServiceOf source forms old new other → other ≡ service) → 1 ≤ service.setup.workers → StandsFor ledger (kept_events journal) → Goes SameFiles old mid → Gains listens_old (setup_place service.setup ∷ []) listens_new
       → ServeEnded source forms end journal posts scene faults old new listens_old listens_new held_old held_new ReadRose ReplaceRose ListenRose (Rose log_old log_new)
-  served_ended forms end listens_old listens_new is same some stands kept listens =
+  served_ended forms end listens_old listens_new is by same some stands kept listens =
       let promises = served_promises listens_old listens_new some stands kept listens in
       subst (λ e. ServeEnded source forms e journal posts scene faults old new listens_old listens_new held_old held_new ReadRose ReplaceRose ListenRose (Rose log_old log_new)) (sym is) (record {
         causes = served_causes some;
-        unread = λ error e. absurd (served_read source service.setup ledger mid new ReplaceRose written (has_lost journal) failed error writes e);
-        served = inr (service, promises);
+        unread = λ error e. absurd (served_begins source service.setup ledger mid new ReplaceRose written (has_lost journal) failed writes (subst IsUnbegun (sym e) tt));
+        unfresh = λ e. absurd (served_begins source service.setup ledger mid new ReplaceRose written (has_lost journal) failed writes (subst IsUnbegun (sym e) tt));
+        served = inr (service, by, promises);
         promises = λ other asked. subst (λ s. ServePromises source s (status_of (run_end written (has_lost journal) failed)) journal posts scene faults old new listens_old listens_new held_old held_new ReadRose ReplaceRose ListenRose (Rose log_old log_new)) (sym (same other asked)) promises;
         unlogged = λ none. absurd (unserved none);
         unlistened = λ none. absurd (unserved none);
@@ -372,7 +372,7 @@ module _ {P : Type 0} (source : Source) (service : Service) (status : ℕ) (jour
 
     accounts : (source : Source) → AccountsMatch source service.setup status journal old new ReplaceRose
     accounts Plain = kept
-    accounts (Named name) = record {
+    accounts (Named name log) = record {
       bytes = [];
       spells = λ e. absurd (let f : true ≡ false = sym e ∙ not_run in cc);
       written = λ e. absurd (run e);
@@ -389,6 +389,7 @@ module _ {P : Type 0} (source : Source) (service : Service) (status : ℕ) (jour
     listed = listed;
     unserved = λ _. none;
     unbegun = λ _. events;
+    begun = λ e _. let f : true ≡ false = sym e ∙ not_run in absurd cc;
     read_fault = read;
     listen_fault = listen;
     lost = λ h. absurd (let e : false ≡ true = sym (ap has_lost events) ∙ h in cc);
@@ -406,15 +407,23 @@ pub record TellsUnserved (error : ServeError) (ReadRose ListenRose : Type 0) : T
   pub three : error_status error ≡ 3 → ReadRose
   pub six : error_status error ≡ 6 → ListenRose
 
+-- why nobody was served, by all that is said of it
+pub record TellsWhy (source : Source) (forms : List Key) (old new : Option Contents) (error : ServeError) (ReadRose ListenRose : Type 0) : Type 0 where
+  pub tells : TellsUnserved error ReadRose ListenRose
+  pub nine : (service : Service) → IsServiceOf source forms old new service → ¬ ReadRose → ¬ ListenRose → error_status error ≡ 9
+  pub unread : (other : ServiceError) → error ≡ errors.Unread other → IsUnread source forms new ReadRose other
+  pub unfresh : error ≡ errors.LogNotFresh → IsUnfresh source forms new
+
 pub unserved_ended : {P : Type 0} (source : Source) (forms : List Key) (error : ServeError) (end : Result (Unit {0}) ServeError) (journal : List Event) (posts : List P) (scene : P → Option Scene) (faults : P → Faults) (old new : Option Contents) (listens_old listens_new : Option (List SitePlace)) (held_old held_new : Option (List ℕ)) (ReadRose ReplaceRose ListenRose LogRose : Type 0)
-    → end ≡ Err error → TellsUnserved error ReadRose ListenRose → ((service : Service) → IsServiceOf source forms old new service → ¬ ReadRose → ¬ ListenRose → error_status error ≡ 9) → ((other : ServiceError) → error ≡ errors.Unread other → IsUnread source forms new ReadRose other) → journal ≡ [] → posts ≡ [] → Goes SameFiles old new → Gains listens_old [] listens_new → Gains held_old [] held_new
+    → end ≡ Err error → TellsWhy source forms old new error ReadRose ListenRose → journal ≡ [] → posts ≡ [] → Goes SameFiles old new → Gains listens_old [] listens_new → Gains held_old [] held_new
     → ServeEnded source forms end journal posts scene faults old new listens_old listens_new held_old held_new ReadRose ReplaceRose ListenRose LogRose
-unserved_ended source forms error end journal posts scene faults old new listens_old listens_new held_old held_new ReadRose ReplaceRose ListenRose LogRose is tells nine unread events none kept listens log =
+unserved_ended source forms error end journal posts scene faults old new listens_old listens_new held_old held_new ReadRose ReplaceRose ListenRose LogRose is why events none kept listens log =
     subst (λ e. ServeEnded source forms e journal posts scene faults old new listens_old listens_new held_old held_new ReadRose ReplaceRose ListenRose LogRose) (sym is) (record {
-      causes = unserved_causes source (plain_service forms) (error_status error) journal posts scene faults events none ReadRose ListenRose LogRose ReplaceRose tells.listed tells.not_run tells.three tells.six;
-      unread = λ other e. unread other (let f : ◌≡◌ {A = Result (Unit {0}) ServeError} (Err error) (Err (errors.Unread other)) = e in cc);
+      causes = unserved_causes source (plain_service forms) (error_status error) journal posts scene faults events none ReadRose ListenRose LogRose ReplaceRose why.tells.listed why.tells.not_run why.tells.three why.tells.six;
+      unread = λ other e. why.unread other (let f : ◌≡◌ {A = Result (Unit {0}) ServeError} (Err error) (Err (errors.Unread other)) = e in cc);
+      unfresh = λ e. why.unfresh (let f : ◌≡◌ {A = Result (Unit {0}) ServeError} (Err error) (Err errors.LogNotFresh) = e in cc);
       served = inl none;
-      promises = λ service asked. unserved_promises source service (error_status error) journal posts scene faults events none old new listens_old listens_new held_old held_new ReadRose ReplaceRose ListenRose LogRose tells.not_run kept listens log (λ fault. nine service asked fault.read fault.listen);
+      promises = λ service asked. unserved_promises source service (error_status error) journal posts scene faults events none old new listens_old listens_new held_old held_new ReadRose ReplaceRose ListenRose LogRose why.tells.not_run kept listens log (λ fault. why.nine service asked fault.read fault.listen);
       unlogged = λ _. log;
       unlistened = λ _. listens;
       unchanged = λ _. kept;
@@ -425,17 +434,17 @@ unserved_ended source forms error end journal posts scene faults old new listens
 -- it is 3 only where a reading failed
 pub read_failed : (source : Source) (forms : List Key) (contents : Option Contents) (ReadRose : Type 0) (error : ServiceError) → IsUnread source forms contents ReadRose error → unread_status error ≡ 3 → ReadRose
 read_failed Plain forms contents ReadRose error why three = absurd (let f : 9 ≡ 3 = sym (ap unread_status why) ∙ three in omega (arith, f))
-read_failed (Named name) forms contents ReadRose unread.Failed why three = why
-read_failed (Named name) forms contents ReadRose unread.OutOfMemory why three = absurd (omega (arith, three))
-read_failed (Named name) forms contents ReadRose unread.SetupMissing why three = absurd (omega (arith, three))
-read_failed (Named name) forms contents ReadRose unread.WordsMissing why three = absurd (omega (arith, three))
-read_failed (Named name) forms contents ReadRose (unread.SetupRefused fault) why three = absurd (omega (arith, three))
-read_failed (Named name) forms contents ReadRose (unread.WordsRefused fault) why three = absurd (omega (arith, three))
+read_failed (Named name log) forms contents ReadRose unread.Failed why three = why
+read_failed (Named name log) forms contents ReadRose unread.OutOfMemory why three = absurd (omega (arith, three))
+read_failed (Named name log) forms contents ReadRose unread.SetupMissing why three = absurd (omega (arith, three))
+read_failed (Named name log) forms contents ReadRose unread.WordsMissing why three = absurd (omega (arith, three))
+read_failed (Named name log) forms contents ReadRose (unread.SetupRefused fault) why three = absurd (omega (arith, three))
+read_failed (Named name log) forms contents ReadRose (unread.WordsRefused fault) why three = absurd (omega (arith, three))
 
 -- and where the files spell a service, without a fault of reading, it is 9
 pub unread_nine : (source : Source) (forms : List Key) (old new : Option Contents) (ReadRose : Type 0) (service : Service) (error : ServiceError) → IsUnread source forms new ReadRose error → Goes SameFiles old new → IsServiceOf source forms old new service → ¬ ReadRose → unread_status error ≡ 9
 unread_nine Plain forms old new ReadRose service error why kept is none = ap unread_status why
-unread_nine (Named name) forms old new ReadRose service error why kept is none = go error why where
+unread_nine (Named name log) forms old new ReadRose service error why kept is none = go error why where
   told : (error : ServiceError) → IfSome new (λ files. service_in forms files name ≡ Err error) → ⊥
   told error said = at old new is.told is.still kept said where
     at : (old new : Option Contents) → old ≡ Some is.files → is_some new ≡ true → Goes SameFiles old new → IfSome new (λ files. service_in forms files name ≡ Err error) → ⊥
@@ -481,20 +490,61 @@ unread_tells source forms contents ReadRose ListenRose error why = record { list
   six (unread.SetupRefused fault) e = omega (arith, e)
   six (unread.WordsRefused fault) e = omega (arith, e)
 
--- a run that could not begin
-pub record NotServedTells (error : ServeError) (ReadRose ListenRose : Type 0) : Type 0 where
-  pub tells : TellsUnserved error ReadRose ListenRose
-  pub nine : ¬ ListenRose → error_status error ≡ 9
-  pub read : (other : ServiceError) → error ≢ errors.Unread other
+-- memory was wanted
+pub memory_why : (source : Source) (forms : List Key) (old new : Option Contents) (ReadRose ListenRose : Type 0) → TellsWhy source forms old new errors.OutOfMemory ReadRose ListenRose
+memory_why source forms old new ReadRose ListenRose = record {
+  tells = record { listed = refl; not_run = refl; three = λ e. absurd (omega (arith, e)); six = λ e. absurd (omega (arith, e)) };
+  nine = λ service is read listen. refl;
+  unread = λ other same. absurd cc;
+  unfresh = λ same. absurd cc;
+}
 
-pub not_served_tells : (error : ServeError) (ReadRose ListenRose : Type 0) → (error ≡ errors.OutOfMemory) ⊎ ((error ≡ errors.ListenFailed) × ListenRose) → NotServedTells error ReadRose ListenRose
-not_served_tells error ReadRose ListenRose (inl oom) = subst (λ e. NotServedTells e ReadRose ListenRose) (sym oom) (record { tells = record { listed = refl; not_run = refl; three = λ e. absurd (omega (arith, e)); six = λ e. absurd (omega (arith, e)) }; nine = λ _. refl; read = λ other e. absurd cc })
-not_served_tells error ReadRose ListenRose (inr (failed, rose)) = subst (λ e. NotServedTells e ReadRose ListenRose) (sym failed) (record { tells = record { listed = refl; not_run = refl; three = λ e. absurd (omega (arith, e)); six = λ _. rose }; nine = λ none. absurd (none rose); read = λ other e. absurd cc })
+-- a service that the files spell has a fresh log, so a log that isn't fresh is of none
+unfresh_none : (source : Source) (forms : List Key) (old new : Option Contents) (service : Service) → IsUnfresh source forms new → Goes SameFiles old new → IsServiceOf source forms old new service → ⊥
+unfresh_none Plain forms old new service unfresh kept is = unfresh
+unfresh_none (Named name None) forms old new service unfresh kept is = unfresh
+unfresh_none (Named name (Some log)) forms old new service unfresh kept is = go old new is.told is.still kept unfresh where
+  go : (old new : Option Contents) → old ≡ Some is.files → is_some new ≡ true → Goes SameFiles old new → IsUnfresh (Named name (Some log)) forms new → ⊥
+  go old None told still kept unfresh = absurd cc
+  go None (Some later) told still kept unfresh = kept
+  go (Some files) (Some later) told still kept unfresh =
+      let same : files ≡ is.files = cc in
+      unfresh.1 (subst IsFresh (sym (kept.same log ∙ ap (λ (c : Contents). c log) same)) is.fresh)
+
+-- there was nothing to begin with
+pub unready_why : (source : Source) (forms : List Key) (old new : Option Contents) (ReadRose ListenRose : Type 0) (error : ServeError) → IsUnready source forms new ReadRose error → Goes SameFiles old new → TellsWhy source forms old new error ReadRose ListenRose
+unready_why source forms old new ReadRose ListenRose (errors.Unread error) why kept = record {
+  tells = unread_tells source forms new ReadRose ListenRose error why;
+  nine = λ service is read listen. unread_nine source forms old new ReadRose service error why kept is read;
+  unread = λ other same. subst (IsUnread source forms new ReadRose) (let e : error ≡ other = cc in e) why;
+  unfresh = λ same. absurd cc;
+}
+unready_why source forms old new ReadRose ListenRose errors.LogNotFresh why kept = record {
+  tells = record { listed = refl; not_run = refl; three = λ e. absurd (omega (arith, e)); six = λ e. absurd (omega (arith, e)) };
+  nine = λ service is read listen. absurd (unfresh_none source forms old new service why kept is);
+  unread = λ other same. absurd cc;
+  unfresh = λ _. why;
+}
+unready_why source forms old new ReadRose ListenRose errors.OutOfMemory why kept = memory_why source forms old new ReadRose ListenRose
+unready_why source forms old new ReadRose ListenRose errors.ListenFailed why kept = absurd why
+unready_why source forms old new ReadRose ListenRose errors.LogLost why kept = absurd why
+unready_why source forms old new ReadRose ListenRose errors.AcceptFailed why kept = absurd why
+unready_why source forms old new ReadRose ListenRose errors.ReplaceFailed why kept = absurd why
+
+-- a run that could not begin: memory was wanted, or the site could not listen
+pub not_served_why : (source : Source) (forms : List Key) (old new : Option Contents) (ReadRose ListenRose : Type 0) (error : ServeError) → (error ≡ errors.OutOfMemory) ⊎ ((error ≡ errors.ListenFailed) × ListenRose) → TellsWhy source forms old new error ReadRose ListenRose
+not_served_why source forms old new ReadRose ListenRose error (inl oom) = subst (λ e. TellsWhy source forms old new e ReadRose ListenRose) (sym oom) (memory_why source forms old new ReadRose ListenRose)
+not_served_why source forms old new ReadRose ListenRose error (inr (failed, rose)) = subst (λ e. TellsWhy source forms old new e ReadRose ListenRose) (sym failed) (record {
+  tells = record { listed = refl; not_run = refl; three = λ e. absurd (omega (arith, e)); six = λ _. rose };
+  nine = λ service is read none. absurd (none rose);
+  unread = λ other same. absurd cc;
+  unfresh = λ same. absurd cc;
+})
 
 -- a fault of replacing that was counted behind a moment was counted behind an earlier one
 pub writes_more : (source : Source) (setup : Settings) (ledger : LedgerParts) (old new : Option Contents) (first mid last : ℕ) (written : Result (Unit {0}) ServeError) → first ≤ mid → WritesBack source setup ledger old new (Rose mid last) written → WritesBack source setup ledger old new (Rose first last) written
 writes_more Plain setup ledger old new first mid last written low w = w
-writes_more (Named name) setup ledger old new first mid last written low w = go written w where
+writes_more (Named name log) setup ledger old new first mid last written low w = go written w where
   go : (written : Result (Unit {0}) ServeError) → WritesNamed name setup ledger old new (Rose mid last) written → WritesNamed name setup ledger old new (Rose first last) written
   go (Ok done) w = w
   go (Err errors.OutOfMemory) w = w
@@ -503,6 +553,7 @@ writes_more (Named name) setup ledger old new first mid last written low w = go 
   go (Err errors.ListenFailed) w = absurd w
   go (Err errors.LogLost) w = absurd w
   go (Err errors.AcceptFailed) w = absurd w
+  go (Err errors.LogNotFresh) w = absurd w
 
 -- where the files tell behind a run, they told before its accounts were written
 pub told_before : (source : Source) (setup : Settings) (ledger : LedgerParts) (old new : Option Contents) (ReplaceRose : Type 0) (written : Result (Unit {0}) ServeError) → WritesBack source setup ledger old new ReplaceRose written → is_some new ≡ true → is_some old ≡ true
@@ -511,7 +562,7 @@ told_before source setup ledger (Some old) new ReplaceRose written w some = refl
 told_before source setup ledger None (Some new) ReplaceRose written w some = absurd (go source w) where
   go : (source : Source) → WritesBack source setup ledger None (Some new) ReplaceRose written → ⊥
   go Plain w = w.1
-  go (Named name) w = at written w where
+  go (Named name log) w = at written w where
     at : (written : Result (Unit {0}) ServeError) → WritesNamed name setup ledger None (Some new) ReplaceRose written → ⊥
     at (Ok done) w = w.2
     at (Err errors.OutOfMemory) w = w
@@ -520,3 +571,4 @@ told_before source setup ledger None (Some new) ReplaceRose written w some = abs
     at (Err errors.ListenFailed) w = w
     at (Err errors.LogLost) w = w
     at (Err errors.AcceptFailed) w = w
+    at (Err errors.LogNotFresh) w = w

@@ -26,6 +26,7 @@ error_status errors.ListenFailed = 6
 error_status errors.LogLost = 7
 error_status errors.AcceptFailed = 10
 error_status errors.ReplaceFailed = 8
+error_status errors.LogNotFresh = 13
 
 -- the exit status of a program that ends by what came of the mode
 abbrev pub status_of : Result (Unit {0}) ServeError → ℕ
@@ -35,4 +36,4 @@ status_of (Err error) = error_status error
 -- why nothing was read to serve with: of the plain setup only memory may be wanted
 abbrev pub IsUnread : Source → List Key → Option Contents → Type 0 → ServiceError → Type 0
 IsUnread Plain forms contents ReadFailed error = error ≡ unread.OutOfMemory
-IsUnread (Named name) forms contents ReadFailed error = IsServiceError forms contents name ReadFailed error
+IsUnread (Named name log) forms contents ReadFailed error = IsServiceError forms contents name ReadFailed error

@@ -1,5 +1,5 @@
 -- Believed: what is promised of the mode `serve`, beside what is promised of a run.
-use Rattle.std.specs.Prelude.{◌≡◌, ◌⊎◌, ℕ, Bool, true, false, ◌==◌, List, [], ◌∷◌, length, Option, Result, Ok, Err}
+use Rattle.std.specs.Prelude.{◌≡◌, ◌≢◌, ◌⊎◌, ℕ, Bool, true, false, ◌==◌, List, [], ◌∷◌, length, Option, Result, Ok, Err}
 use Rattle.std.specs.List.{list_any}
 use Rattle.account_file.specs.Entries.{entries_of}
 use Rattle.account_file.specs.Setups.{setup_of}
@@ -19,9 +19,9 @@ use Rattle.service_model.specs.Service.{Service}
 use Rattle.service_reading.specs.declared.error.ServiceError.{ServiceError}
 use Rattle.session_core.specs.Replayed.{HasConsequences}
 use Rattle.serve_mode.specs.declared.error.ServeError.{ServeError}
-use Rattle.serve_mode.specs.declared.error.ServeError.TheVariants.{Unread}
+use Rattle.serve_mode.specs.declared.error.ServeError.TheVariants.{LogNotFresh, Unread}
 use Rattle.serve_mode.specs.Errors.{IsUnread, status_of}
-use Rattle.serve_mode.specs.Services.{IsServiceOf}
+use Rattle.serve_mode.specs.Services.{IsServedBy, IsServiceOf, IsUnfresh}
 use Rattle.serve_mode.specs.Words.{Named, Plain, Source}
 
 -- ---- where it listens
@@ -57,22 +57,23 @@ pub record AreAccountsWritten (name : List ℕ) (setup : Settings) (status : ℕ
 -- what becomes of the files: by the plain setup nothing
 abbrev pub AccountsMatch : Source → Settings → ℕ → List Event → Option Contents → Option Contents → Type 0 → Type 0
 AccountsMatch Plain setup status journal old new ReplaceRose = Goes SameFiles old new
-AccountsMatch (Named name) setup status journal old new ReplaceRose = AreAccountsWritten name setup status journal old new ReplaceRose
+AccountsMatch (Named name log) setup status journal old new ReplaceRose = AreAccountsWritten name setup status journal old new ReplaceRose
 
 -- ---- the statuses and their causes
 
 -- those of `serve`
 abbrev pub serve_statuses : List ℕ
-serve_statuses = 0 ∷ 3 ∷ 4 ∷ 5 ∷ 6 ∷ 7 ∷ 8 ∷ 9 ∷ 10 ∷ []
+serve_statuses = 0 ∷ 3 ∷ 4 ∷ 5 ∷ 6 ∷ 7 ∷ 8 ∷ 9 ∷ 10 ∷ 13 ∷ []
 
 -- with these nobody was served
 abbrev pub is_unserved_status : ℕ → Bool
-is_unserved_status status = list_any (λ s. s == status) (3 ∷ 4 ∷ 5 ∷ 6 ∷ [])
+is_unserved_status status = list_any (λ s. s == status) (3 ∷ 4 ∷ 5 ∷ 6 ∷ 13 ∷ [])
 
 -- what comes only for its cause, and what comes exactly for it; rose says that a count rose in this call
 pub record ServeHasCause {P : Type 0} (status : ℕ) (journal : List Event) (posts : List P) (scene : P → Option Scene) (faults : P → Faults) (ReadRose ListenRose LogRose ReplaceRose : Type 0) : Type 0 where
   pub listed : list_any (λ s. s == status) serve_statuses ≡ true
   pub unserved : is_unserved_status status ≡ true → posts ≡ []
+  pub begun : is_run_status status ≡ true → posts ≢ []
   pub unbegun : posts ≡ [] → journal ≡ []
   pub read_fault : status ≡ 3 → ReadRose
   pub listen_fault : status ≡ 6 → ListenRose
@@ -122,11 +123,12 @@ pub record ServePromises {P : Type 0} (source : Source) (service : Service) (sta
   pub accounts : AccountsMatch source service.setup status journal old new ReplaceRose
   pub complete : IsComplete service status journal posts scene (NoFault ReadRose ReplaceRose ListenRose LogRose faults posts)
 
--- what the mode came to: it ended for a cause; where somebody was served, the promises hold of the service that was served by; where the files tell, they hold of the one that these spell; and where nobody was served, neither the log nor a file changed, and the site didn't listen
+-- what the mode came to: it ended for a cause; where somebody was served, the promises hold of the service that was served by, which is the one that the files spell, where they told and tell still, and they hold of no other; and where nobody was served, neither the log nor a file changed, and the site didn't listen
 pub record ServeEnded {P : Type 0} (source : Source) (forms : List Key) (end : Result (Unit {0}) ServeError) (journal : List Event) (posts : List P) (scene : P → Option Scene) (faults : P → Faults) (old new : Option Contents) (listens_old listens_new : Option (List SitePlace)) (held_old held_new : Option (List ℕ)) (ReadRose ReplaceRose ListenRose LogRose : Type 0) : Type 0 where
   pub causes : ServeHasCause (status_of end) journal posts scene faults ReadRose ListenRose LogRose ReplaceRose
   pub unread : (error : ServiceError) → end ≡ Err (Unread error) → IsUnread source forms new ReadRose error
-  pub served : (posts ≡ []) ⊎ ((service : Service) × ServePromises source service (status_of end) journal posts scene faults old new listens_old listens_new held_old held_new ReadRose ReplaceRose ListenRose LogRose)
+  pub unfresh : end ≡ Err LogNotFresh → IsUnfresh source forms new
+  pub served : (posts ≡ []) ⊎ ((service : Service) × IsServedBy source forms old new service × ServePromises source service (status_of end) journal posts scene faults old new listens_old listens_new held_old held_new ReadRose ReplaceRose ListenRose LogRose)
   pub promises : (service : Service) → IsServiceOf source forms old new service → ServePromises source service (status_of end) journal posts scene faults old new listens_old listens_new held_old held_new ReadRose ReplaceRose ListenRose LogRose
   pub unlogged : posts ≡ [] → Gains held_old [] held_new
   pub unlistened : posts ≡ [] → Gains listens_old [] listens_new

@@ -1,27 +1,50 @@
 -- Believed: what a run serves by.
-use Rattle.std.specs.Prelude.{◌≡◌, ℕ, true, List, Option, Some, is_some, Ok}
+use Rattle.std.specs.Prelude.{◌≡◌, ℕ, true, List, Option, Some, None, IfSome, is_some, is_ok, Ok}
 use Rattle.account_file.specs.Entries.{entries_of}
 use Rattle.info_hooks.specs.declared.key.Key.{Key}
 use Rattle.otp_words.specs.Dictionaries.{plain_words}
 use Rattle.outside.specs.Files.{Contents}
 use Rattle.policy_model.specs.Settings.{plain_settings}
 use Rattle.service_model.specs.Service.{Service}
-use Rattle.service_reading.specs.Found.{service_in}
+use Rattle.service_reading.specs.Found.{IsServiceIn, service_in}
+use Rattle.fresh_log.specs.Fresh.{IsFresh}
 use Rattle.serve_mode.specs.Words.{Named, Plain, Source}
 
 -- the plain setup with the plain word list
 abbrev pub plain_service : List Key → Service
 plain_service forms = record { setup = plain_settings; words = plain_words; forms = forms }
 
--- the file of this name, as the files told before the run and tell still, spells the setup, and the one that it names the word list
-pub record IsNamedService (name : List ℕ) (forms : List Key) (old new : Option Contents) (service : Service) : Type 0 where
+-- the durable log that is named, if one is, is there and has no record
+abbrev pub HasFreshLog : Option (List ℕ) → Contents → Type 0
+HasFreshLog None files = Unit {0}
+HasFreshLog (Some log) files = IsFresh (files log)
+
+-- the file of this name, as the files told before the run and tell still, spells the setup, and the one that it names the word list; the log is fresh
+pub record IsNamedService (name : List ℕ) (log : Option (List ℕ)) (forms : List Key) (old new : Option Contents) (service : Service) : Type 0 where
   pub forms_are : service.forms ≡ forms
   pub files : Contents
   pub told : old ≡ Some files
   pub still : is_some new ≡ true
   pub found : service_in forms files name ≡ Ok (record { entries = entries_of service.setup; words = service.words })
+  pub fresh : HasFreshLog log files
 
 -- what a run serves by, whose setup comes from there and that can say this
 abbrev pub IsServiceOf : Source → List Key → Option Contents → Option Contents → Service → Type 0
 IsServiceOf Plain forms old new service = service ≡ plain_service forms
-IsServiceOf (Named name) forms old new service = IsNamedService name forms old new service
+IsServiceOf (Named name log) forms old new service = IsNamedService name log forms old new service
+
+-- the files, as they told before the run, spell this service, and the log is fresh, where they tell still
+pub record IsReadService (name : List ℕ) (log : Option (List ℕ)) (forms : List Key) (old new : Option Contents) (service : Service) : Type 0 where
+  pub forms_are : service.forms ≡ forms
+  pub read : is_some new ≡ true → IsServiceIn forms old name service.setup service.words
+  pub fresh : is_some new ≡ true → IfSome old (HasFreshLog log)
+
+-- what was served by: the plain service, or one that the files spell where they tell
+abbrev pub IsServedBy : Source → List Key → Option Contents → Option Contents → Service → Type 0
+IsServedBy Plain forms old new service = service ≡ plain_service forms
+IsServedBy (Named name log) forms old new service = IsReadService name log forms old new service
+
+-- the files, where they tell, spell a service, and the log that is named isn't there or has something else than no record
+abbrev pub IsUnfresh : Source → List Key → Option Contents → Type 0
+IsUnfresh (Named name (Some log)) forms contents = IfSome contents (λ files. (is_ok (service_in forms files name) ≡ true) × (IsFresh (files log) → ⊥))
+IsUnfresh _ forms contents = ⊥

@@ -1,5 +1,5 @@
 -- Inner: the steps of serving: what was read, that nobody was served, what was written back, how it ended.
-use Rattle.std.specs.Prelude.{◌≡◌, ◌⊎◌, ℕ, Bool, true, false, List, [], Option, Result, Ok, Err}
+use Rattle.std.specs.Prelude.{◌≡◌, ◌⊎◌, ℕ, Bool, true, false, List, [], Option, Some, None, IfSome, Result, Ok, Err}
 use Rattle.info_hooks.specs.declared.key.Key.{Key}
 use Rattle.monitor_run.specs.Prepared.{LogStays}
 use Rattle.otp_ledger.specs.Accounts.{LedgerParts}
@@ -10,9 +10,13 @@ use Rattle.outside.specs.Files.{Contents, MayBeReplaced, Replaced, SameFiles}
 use Rattle.outside.specs.Told.{Gains, Goes}
 use Rattle.policy_model.specs.Settings.{Settings, plain_settings}
 use Rattle.service_model.specs.Service.{Service}
+use Rattle.service_reading.specs.declared.error.ServiceError.TheVariants as unread
 use Rattle.service_reading.specs.Found.{IsServiceIn}
+use Rattle.fresh_log.specs.Fresh.{IsFresh}
 use Rattle.serve_mode.specs.declared.error.ServeError.{ServeError}
 use Rattle.serve_mode.specs.declared.error.ServeError.TheVariants as errors
+use Rattle.serve_mode.specs.Errors.{IsUnread}
+use Rattle.serve_mode.specs.Services.{IsUnfresh}
 use Rattle.serve_mode.specs.Words.{Named, Plain, Source}
 
 -- the service of a setup, of words and of what can be said
@@ -22,7 +26,26 @@ service_by setup words forms = record { setup = setup; words = words; forms = fo
 -- this setup and these words were read
 abbrev pub IsReadFrom : Source → List Key → Option Contents → Settings → List (List ℕ) → Type 0
 IsReadFrom Plain forms contents setup words = (setup ≡ plain_settings) × (words ≡ plain_words)
-IsReadFrom (Named name) forms contents setup words = IsServiceIn forms contents name setup words
+IsReadFrom (Named name log) forms contents setup words = IsServiceIn forms contents name setup words
+
+-- the durable log that a source names
+abbrev pub log_of : Source → Option (List ℕ)
+log_of Plain = None
+log_of (Named name log) = log
+
+-- why a log is refused: it isn't fresh, its reading failed, or memory was wanted for its name
+abbrev pub IsLogRefused : Option (List ℕ) → Option Contents → Type 0 → ServeError → Type 0
+IsLogRefused (Some log) contents ReadFailed errors.LogNotFresh = IfSome contents (λ files. IsFresh (files log) → ⊥)
+IsLogRefused (Some log) contents ReadFailed (errors.Unread unread.Failed) = ReadFailed
+IsLogRefused (Some log) contents ReadFailed errors.OutOfMemory = Unit {0}
+IsLogRefused _ contents ReadFailed _ = ⊥
+
+-- why there is nothing to begin with: nothing was read to serve with, the log isn't fresh, or memory was wanted
+abbrev pub IsUnready : Source → List Key → Option Contents → Type 0 → ServeError → Type 0
+IsUnready source forms contents ReadFailed (errors.Unread error) = IsUnread source forms contents ReadFailed error
+IsUnready source forms contents ReadFailed errors.LogNotFresh = IsUnfresh source forms contents
+IsUnready source forms contents ReadFailed errors.OutOfMemory = Unit {0}
+IsUnready source forms contents ReadFailed _ = ⊥
 
 -- memory was wanted, or the site could not listen; the log stays, and the site listened nowhere
 pub record IsNotServed (error : ServeError) (listens_old listens_new : Option (List SitePlace)) (held_old held_new : Option (List ℕ)) (log_old log_new : ℕ) (ListenRose : Type 0) : Type 0 where
@@ -39,7 +62,7 @@ WritesNamed name setup ledger old new ReplaceRose (Err error) = ⊥
 
 abbrev pub WritesBack : Source → Settings → LedgerParts → Option Contents → Option Contents → Type 0 → Result (Unit {0}) ServeError → Type 0
 WritesBack Plain setup ledger old new ReplaceRose written = (written ≡ Ok tt) × Goes SameFiles old new
-WritesBack (Named name) setup ledger old new ReplaceRose written = WritesNamed name setup ledger old new ReplaceRose written
+WritesBack (Named name log) setup ledger old new ReplaceRose written = WritesNamed name setup ledger old new ReplaceRose written
 
 -- how a run ends: the first of these, that the accounts found no memory, that a decision was lost, that an accept failed, and that the accounts were not written
 abbrev pub run_end : Result (Unit {0}) ServeError → Bool → Bool → Result (Unit {0}) ServeError

@@ -55,6 +55,6 @@ pub(crate) fn write_back<F: Files>(
 {
     match command {
         ServeCommand::Plain => Ok(()),
-        ServeCommand::Named(name) => write_named(alloc, name, setup, core, files),
+        ServeCommand::Named { setup: name, .. } => write_named(alloc, name, setup, core, files),
     }
 }

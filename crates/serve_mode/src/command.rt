@@ -9,19 +9,28 @@ ghost use Rattle.serve_mode.specs.Words.{serve_command};
 pub enum ServeCommand<'a> {
     /// The plain setup, with the plain word list.
     Plain,
-    /// The setup in the file of this name.
-    Named(&'a str),
+    /// The setup in a file.
+    Named {
+        /// The name of the setup's file.
+        setup: &'a str,
+        /// The name of the file of a durable log, which has to have no record.
+        log: Option<&'a str>,
+    },
 }
 
 /// Reads the words of a command line: the mode's word, and those behind it. `None` exactly where they
-/// are neither `serve` nor `serve SETUP`.
+/// are none of `serve`, `serve SETUP` and `serve SETUP LOG`.
 pub fn read_serve_command<'a>(mode: &str, further: &[&'a str]) -> Option<ServeCommand<'a>>
     ensures { option_map source_of result
         ≡ serve_command (mode.now ∷ map (λ word. word.now) further.now) }
 {
     match further {
         [] if mode == "serve" => Some(ServeCommand::Plain),
-        [name] if mode == "serve" => Some(ServeCommand::Named(name)),
+        [setup] if mode == "serve" => Some(ServeCommand::Named { setup, log: None }),
+        [setup, log] if mode == "serve" => Some(ServeCommand::Named {
+            setup,
+            log: Some(log),
+        }),
         _ => None,
     }
 }

@@ -1,6 +1,7 @@
 //! Why nobody was served, or the run ended other than well.
 
 ghost use Rattle.std.specs.Prelude.{◌≡◌};
+ghost use Rattle.serve_mode.specs.declared.error.ServeError.TheVariants.{Unread};
 ghost use Rattle.serve_mode.specs.Errors.{error_status, status_of, unread_status};
 
 use service_reading::ServiceError;
@@ -12,6 +13,8 @@ pub enum ServeError {
     Unread(ServiceError),
     /// No memory was found, before the run or for printing the accounts at its end.
     OutOfMemory,
+    /// The durable log that was named isn't there, or has something else than no record.
+    LogNotFresh,
     /// The site could not listen.
     ListenFailed,
     /// The log could not be written.
@@ -23,7 +26,7 @@ pub enum ServeError {
 }
 
 impl ServeError {
-    /// The exit status of a program that ends by the error: 3 to 10.
+    /// The exit status of a program that ends by the error: 3 to 10, or 13.
     pub fn status(self) -> u8
         ensures { result ≡ error_status self }
     {
@@ -34,7 +37,16 @@ impl ServeError {
             ServeError::LogLost => 7,
             ServeError::AcceptFailed => 10,
             ServeError::ReplaceFailed => 8,
+            ServeError::LogNotFresh => 13,
         }
+    }
+}
+
+impl From<ServiceError> for ServeError {
+    ghost from_gives = { λ unread error. error ≡ Unread unread };
+
+    fn from(error: ServiceError) -> Self {
+        ServeError::Unread(error)
     }
 }
 

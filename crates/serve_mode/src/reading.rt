@@ -1,18 +1,22 @@
 //! What a run serves by, read.
 
-ghost use Rattle.std.specs.Prelude.{◌≡◌, ◌≤◌, [], Err, IfOk, None};
+ghost use Rattle.std.specs.Prelude.{◌≡◌, ◌≤◌, [], Err, IfOk, IfSome, None, OnOk};
 ghost use Rattle.outside.specs.Files.{SameFiles};
 ghost use Rattle.outside.specs.Told.{Goes, Rose};
 ghost use Rattle.service_reading.specs.declared.error.ServiceError.{ServiceError};
 ghost use Rattle.serve_mode.specs.Commands.{source_of};
 ghost use Rattle.serve_mode.specs.Errors.{IsUnread};
-ghost use Rattle.serve_mode.specs.Steps.{IsReadFrom};
+ghost use Rattle.serve_mode.specs.declared.error.ServeError.{ServeError};
+ghost use Rattle.serve_mode.specs.Services.{HasFreshLog};
+ghost use Rattle.serve_mode.specs.Steps.{IsLogRefused, IsReadFrom, IsUnready, log_of};
 ghost use Rattle.serve_mode.specs.Words.{Plain};
 
 use crate::command::ServeCommand;
+use crate::error::ServeError;
 use crate::house::House;
+use fresh_log::is_fresh;
 use otp_words::Dictionary;
-use outside::Files;
+use outside::{Failed, Files, Word};
 use policy_model::Setup;
 use service_reading::{Information, ServiceError, ServiceParts, read_service};
 use std::alloc::{AllocError, Global};
@@ -27,12 +31,65 @@ fn plain_parts(alloc: Global) -> Result<ServiceParts, AllocError>
     })
 }
 
+/// Reads what a run serves by, and sees that the durable log that is named, if one is, has no record.
+///
+/// # Errors
+///
+/// There is nothing to serve with, or the log isn't fresh; memory may be wanted.
+pub(crate) fn make_ready<'a, F: Files, I: Information>(
+    alloc: Global,
+    command: &ServeCommand<'_>,
+    files: &mut F,
+    information: &'a I,
+) -> Result<House<'a, I>, ServeError>
+    ensures read { IfOk result (λ house. IsReadFrom (source_of command.now) (I.forms information.now) (F.contents files.new) house.setup house.dictionary) }
+    ensures fresh { IfOk result (λ house. IfSome (F.contents files.new) (HasFreshLog (log_of (source_of command.now)))) }
+    ensures information { IfOk result (λ house. house.information.now ≡ information.now) }
+    ensures error { (error : ServeError) → result ≡ Err error → IsUnready (source_of command.now) (I.forms information.now) (F.contents files.new)
+        (Rose (F.read_faults files.old) (F.read_faults files.new)) error }
+    ensures plain { source_of command.now ≡ Plain → files.new ≡ files.old }
+    ensures kept { Goes SameFiles (F.contents files.old) (F.contents files.new) }
+    ensures read_faults { F.read_faults files.old ≤ F.read_faults files.new }
+    ensures replace_faults { F.replace_faults files.old ≤ F.replace_faults files.new }
+{
+    let house = read_house(alloc, command, files, information)?;
+    check_log(alloc, command, files)?;
+    Ok(house)
+}
+
+/// Sees that the durable log that is named, if one is, is there and has no record.
+fn check_log<F: Files>(
+    alloc: Global,
+    command: &ServeCommand<'_>,
+    files: &mut F,
+) -> Result<(), ServeError>
+    ensures fresh { OnOk result (IfSome (F.contents files.new) (HasFreshLog (log_of (source_of command.now)))) }
+    ensures error { (error : ServeError) → result ≡ Err error → IsLogRefused (log_of (source_of command.now)) (F.contents files.new)
+        (Rose (F.read_faults files.old) (F.read_faults files.new)) error }
+    ensures plain { source_of command.now ≡ Plain → files.new ≡ files.old }
+    ensures kept { Goes SameFiles (F.contents files.old) (F.contents files.new) }
+    ensures read_faults { F.read_faults files.old ≤ F.read_faults files.new }
+    ensures replace_faults { F.replace_faults files.old ≤ F.replace_faults files.new }
+{
+    let ServeCommand::Named { log: Some(log), .. } = command else {
+        return Ok(());
+    };
+    let Ok(name) = Word::of(alloc, log.as_bytes()) else {
+        return Err(ServeError::OutOfMemory);
+    };
+    match is_fresh(files, &name) {
+        Ok(true) => Ok(()),
+        Ok(false) => Err(ServeError::LogNotFresh),
+        Err(Failed) => Err(ServeError::Unread(ServiceError::Failed)),
+    }
+}
+
 /// Reads what a run serves by.
 ///
 /// # Errors
 ///
 /// As of [`read_service`]; for the plain setup there isn't the memory.
-pub(crate) fn read_house<'a, F: Files, I: Information>(
+fn read_house<'a, F: Files, I: Information>(
     alloc: Global,
     command: &ServeCommand<'_>,
     files: &mut F,
@@ -52,7 +109,7 @@ pub(crate) fn read_house<'a, F: Files, I: Information>(
             Ok(parts) => parts,
             Err(AllocError) => return Err(ServiceError::OutOfMemory),
         },
-        ServeCommand::Named(name) => read_service(alloc, files, name, information)?,
+        ServeCommand::Named { setup, .. } => read_service(alloc, files, setup, information)?,
     };
     let ServiceParts { setup, dictionary } = parts;
     Ok(House {

@@ -11,7 +11,7 @@ ghost use Rattle.serve_mode.specs.Words.{Plain};
 use crate::accounts::write_back;
 use crate::command::ServeCommand;
 use crate::error::ServeError;
-use crate::reading::read_house;
+use crate::reading::make_ready;
 use crate::serving::serve;
 use monitor_run::Ran;
 use outside::{Files, Sink, Site};
@@ -60,11 +60,15 @@ fn run_end(written: Result<(), ServeError>, lost: bool, failed: bool) -> Result<
     }
 }
 
-/// Runs the mode: reads the setup and its word list, takes all memory of the run, listens, serves all
+/// Runs the mode: reads the setup and its word list, sees that the durable log that is named, if one is,
+/// has no record, takes all memory of the run, listens, serves all
 /// connections of all workers, and writes the accounts back to the setup's file, also where the run
 /// ended by a fault.
 ///
-/// The end is the first of these errors: of the setup, of the word list, of memory, of the listening,
+/// The log that is handed in is what is written. Whoever names a durable log hands in the one over that
+/// file.
+///
+/// The end is the first of these errors: of the setup, of the word list, of the durable log, of memory, of the listening,
 /// of the memory for the accounts, of the log, of an accept, of the replacing.
 pub fn run_serve<F: Files, S: Site, K: Sink, I: Information + Sync, R: Threads + Wait + Sync>(
     rt: &R,
@@ -81,7 +85,7 @@ pub fn run_serve<F: Files, S: Site, K: Sink, I: Information + Sync, R: Threads +
     ensures log { result.posts.items ≡ [] → LogStays (K.held log) (K.held result.log) (K.faults log) (K.faults result.log) }
     ensures plain { source_of command.now ≡ Plain → files.new ≡ files.old }
 {
-    match read_house(alloc, command, files, information) {
+    match make_ready(alloc, command, files, information) {
         Ok(house) => match serve(rt, alloc, &house, site, log) {
             Ok(ran) => {
                 let Ran {
@@ -101,6 +105,6 @@ pub fn run_serve<F: Files, S: Site, K: Sink, I: Information + Sync, R: Threads +
             }
             Err((error, log)) => unserved(alloc, error, log),
         },
-        Err(error) => unserved(alloc, ServeError::Unread(error), log),
+        Err(error) => unserved(alloc, error, log),
     }
 }

@@ -9,5 +9,5 @@ mod setups;
 
 pub use frames::{frame, header};
 pub use outcome::{chain_in, is_at, sent, setup_in, told};
-pub use playing::{Came, Play, Session, come, come_with, notes, serve};
+pub use playing::{Came, Play, Session, come, come_with, notes, posts_of, serve};
 pub use setups::{ONE, setup_with, word_list};

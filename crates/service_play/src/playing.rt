@@ -86,7 +86,11 @@ fn post(alloc: Global, play: &Play<'_>) -> Result<MemPost, Fault>
 }
 
 /// So many posts of a play's connections.
-fn posts_of(alloc: Global, play: &Play<'_>, workers: u32) -> Result<Vec<MemPost>, Fault>
+///
+/// # Errors
+///
+/// There isn't the memory.
+pub fn posts_of(alloc: Global, play: &Play<'_>, workers: u32) -> Result<Vec<MemPost>, Fault>
     requires { 1 ≤ play.now.piece }
     ensures { IfOk result (λ posts. All (IsFresh scene_of faults_of) posts.items) }
 {
@@ -132,7 +136,10 @@ pub fn serve<P: Post, R: Threads + Wait + Sync>(
     let mut site = MemSite::new(alloc, posts)?;
     let command = match play.name {
         "" => ServeCommand::Plain,
-        name => ServeCommand::Named(name),
+        name => ServeCommand::Named {
+            setup: name,
+            log: None,
+        },
     };
     let Served {
         end,

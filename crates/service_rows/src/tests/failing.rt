@@ -1,7 +1,8 @@
 //! The whole login with one call that fails.
 
 use super::beside::{FINISH, WRITE};
-use super::logins::{CLIENT, LOG, Login, holds, log_in};
+use super::logins::{LOG, holds};
+use crate::login::{CLIENT, Login, log_in};
 use account_file::read_setup;
 use decision_log::line;
 use outside::{Accepted, Act, CallKind, Fail, MemPost};

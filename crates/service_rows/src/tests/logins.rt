@@ -1,26 +1,14 @@
-//! Whole logins by the shipped children. The children and the monitor take turns: the service runs
-//! once more with what the children say to all replies so far, until they say no more.
+//! Whole logins by the shipped children.
 
 ghost use Rattle.std.specs.Prelude.{◌≤◌};
 
-use crate::{said_before, said_by_user};
+use crate::login::{Login, log_in};
 use outside::MemPost;
-use request_catalogue::Name;
-use service_play::{
-    Came, ONE, Play, Session, chain_in, come, notes, sent, setup_in, setup_with, told, word_list,
-};
+use service_play::{ONE, chain_in, notes, setup_in, told};
 use std::alloc::Global;
 use std::sync::Wait;
 use std::test::Fail as Fault;
 use std::thread::Threads;
-
-/// What the client sends.
-pub(super) const CLIENT: &[u8] = b"user bob
-resp bb9e 6ae1 979d 8ff4
-get notes
-put notes new
-quit
-";
 
 /// What the client is sent.
 const TOLD: &[u8] = b"OTP login
@@ -54,76 +42,6 @@ pub(super) const LOG: &str = "1 w0 s1 open permit
 20 w0 s1 finish permit
 21 w0 s1 end finished permit
 ";
-
-/// The most requests and replies of a login.
-const TURNS: u32 = 500;
-
-/// What both children of a connection send.
-#[derive(Drop)]
-pub(super) struct Said {
-    pub(super) pre: Vec<u8>,
-    pub(super) user: Vec<u8>,
-}
-
-/// A whole login: the setup's file and the word list's, what its children said to the end, and what
-/// came of it.
-#[derive(Drop)]
-pub(super) struct Login {
-    pub(super) setup: Vec<u8>,
-    pub(super) list: Vec<u8>,
-    pub(super) said: Said,
-    pub(super) came: Came<MemPost>,
-}
-
-/// What the children say to all that they were sent.
-fn said_to(alloc: Global, posts: &[MemPost]) -> Result<Said, Fault> {
-    let bob = Name::of(b"bob").ok_or("a name")?;
-    Ok(Said {
-        pre: said_before(alloc, 1, sent(posts, 0))?,
-        user: said_by_user(alloc, 1, 1_001, bob, sent(posts, 1))?,
-    })
-}
-
-/// Runs the service by a setup that begins with these lines until the children say no more.
-pub(super) fn log_in<R: Threads + Wait + Sync>(
-    rt: &R,
-    alloc: Global,
-    lines: &str,
-    piece: usize,
-) -> Result<Login, Fault>
-    requires { 1 ≤ piece }
-{
-    let setup = setup_with(alloc, lines)?;
-    let list = word_list(alloc, 2_048)?;
-    let mut said = said_to(alloc, &[])?;
-    for _ in 0..TURNS {
-        let session = Session {
-            client: CLIENT,
-            pre: &said.pre,
-            user: &said.user,
-        };
-        let play = Play {
-            name: "setup",
-            setup: &setup,
-            list: &list,
-            sessions: &[session],
-            piece,
-            fails: &[],
-        };
-        let came = come(rt, alloc, &play, 1)?;
-        let next = said_to(alloc, &came.posts)?;
-        if next.pre.len() == said.pre.len() && next.user.len() == said.user.len() {
-            return Ok(Login {
-                setup,
-                list,
-                said,
-                came,
-            });
-        }
-        said = next;
-    }
-    Err(Fault::from("a login without an end"))
-}
 
 /// What stands in bob's file behind a run.
 pub(super) fn holds(posts: &[MemPost], want: &[u8]) -> Result<bool, Fault> {

@@ -21,6 +21,9 @@ returns-clause-audit g c = c.run_command.ensures.audit
 pub returns-clause-renew : goal.returns-clause-renew
 returns-clause-renew g c = c.run_command.ensures.renew
 
+pub returns-clause-recover : goal.returns-clause-recover
+returns-clause-recover g c = c.run_command.ensures.recover
+
 pub returns-clause-leaves : goal.returns-clause-leaves
 returns-clause-leaves g c = c.run_command.ensures.leaves
 

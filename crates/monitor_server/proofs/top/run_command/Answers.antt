@@ -4,12 +4,13 @@ use Rattle.outside.proofs.Told.{Goes-same}
 use Rattle.child_mode.specs.Commands as children
 use Rattle.audit_mode.specs.Commands as audits
 use Rattle.otp_extended.specs.Commands as renewals
+use Rattle.recover_mode.specs.Commands as recoveries
 use Rattle.otp_mode.specs.Command.{command_parts}
 use Rattle.serve_mode.specs.Commands.{source_of}
 use Rattle.monitor_server.specs.Commands.{IsReading}
 use Rattle.monitor_server.proofs.Apart.{drill_within}
 use Rattle.monitor_server.proofs.Told.{uncommanded, unremembered}
-use Rattle.monitor_server.proofs.Whole.{whole-audited, whole-checked, whole-child, whole-drilled, whole-nothing, whole-password, whole-renewed, whole-served}
+use Rattle.monitor_server.proofs.Whole.{whole-audited, whole-checked, whole-child, whole-drilled, whole-nothing, whole-password, whole-recovered, whole-renewed, whole-served}
 use Rattle.monitor_server.proofs.top.run_command.Goals as goal
 
 pub returns-in-Ok-Serve : goal.returns-in-Ok-Serve
@@ -36,6 +37,10 @@ pub returns-in-Ok-Renew : goal.returns-in-Ok-Renew
 returns-in-Ok-Renew g c =
     whole-renewed (renewals.command_parts c.in-Ok-Renew.command) (subst (λ command. IsReading c.args.words.now (Ok command)) c.in-Ok-Renew.field-0-is c.in-Ok-Renew.ensures) c.renew_account.ensures.renew c.renew_account.ensures.unused c.renew_account.ensures.at_files refl
 
+pub returns-in-Ok-Recover : goal.returns-in-Ok-Recover
+returns-in-Ok-Recover g c =
+    whole-recovered (recoveries.command_parts c.in-Ok-Recover.command) (subst (λ command. IsReading c.args.words.now (Ok command)) c.in-Ok-Recover.field-0-is c.in-Ok-Recover.ensures) c.recover_accounts.ensures.recover c.recover_accounts.ensures.unused c.recover_accounts.ensures.silent c.recover_accounts.ensures.at_files refl
+
 -- the number is that of the words, so it is in its range
 pub play_drill-requires-clause-low : goal.play_drill-requires-clause-low
 play_drill-requires-clause-low g c κs within = (drill_within c.args.words.now c.in-Ok-Drill.number (subst (λ command. IsReading c.args.words.now (Ok command)) c.in-Ok-Drill.field-0-is c.in-Ok-Drill.ensures)).0
@@ -50,10 +55,10 @@ returns-in-Ok-Drill g c =
 pub returns-in-Err-NoCommand : goal.returns-in-Err-NoCommand
 returns-in-Err-NoCommand g c =
     let none = subst (λ unread. IsReading c.args.words.now (Err unread)) c.in-Err-NoCommand.field-0-is c.in-Err-NoCommand.ensures in
-    whole-nothing (uncommanded _ _ none c.unused.ensures.status) (inr none) c.unused.ensures.detail c.unused.ensures.unused (ap g.K.Sink.held c.unused.ensures.unused.log) refl refl refl (Goes-same SameFiles (λ files. record { same = λ name. refl }) (g.F.Files.contents c.args.files.now)) refl
+    whole-nothing (uncommanded _ _ none c.unused.ensures.status) (inr none) c.unused.ensures.detail c.unused.ensures.unused (ap g.K.Sink.held c.unused.ensures.unused.log) refl refl refl (Goes-same SameFiles (λ files. record { same = λ name. refl }) (g.F.Files.contents c.args.files.now)) refl refl
 
 pub returns-in-Err-OutOfMemory : goal.returns-in-Err-OutOfMemory
 returns-in-Err-OutOfMemory g c =
     let memory = c.unused-in-Err-OutOfMemory.ensures in
     let spoken = subst (λ unread. IsReading c.args.words.now (Err unread)) c.in-Err-OutOfMemory.field-0-is c.in-Err-OutOfMemory.ensures in
-    whole-nothing (unremembered _ _ spoken memory.status) (inl memory.status) memory.detail memory.unused (ap g.K.Sink.held memory.unused.log) refl refl refl (Goes-same SameFiles (λ files. record { same = λ name. refl }) (g.F.Files.contents c.args.files.now)) refl
+    whole-nothing (unremembered _ _ spoken memory.status) (inl memory.status) memory.detail memory.unused (ap g.K.Sink.held memory.unused.log) refl refl refl (Goes-same SameFiles (λ files. record { same = λ name. refl }) (g.F.Files.contents c.args.files.now)) refl refl

@@ -4,13 +4,11 @@ use Rattle.outside.specs.Told.{Gains, Rose}
 use Rattle.outside.proofs.Told.{Gains-none}
 use Rattle.policy_model.specs.Journal.{has_lost}
 use Rattle.service_model.specs.Service.{Service}
-use Rattle.serve_mode.specs.declared.error.ServeError.TheVariants.{Unread}
 use Rattle.serve_mode.specs.Commands.{source_of}
-use Rattle.serve_mode.specs.Errors.{IsUnread}
 use Rattle.serve_mode.specs.Services.{IsServiceOf}
 use Rattle.serve_mode.specs.Steps.{run_end, service_by}
-use Rattle.serve_mode.proofs.Once.{read_is}
-use Rattle.serve_mode.proofs.Promises.{not_served_tells, served_ended, told_before, unread_nine, unread_tells, unserved_ended, writes_more}
+use Rattle.serve_mode.proofs.Once.{read_by, read_is}
+use Rattle.serve_mode.proofs.Promises.{not_served_why, served_ended, told_before, unready_why, unserved_ended, writes_more}
 use Rattle.serve_mode.proofs.run.run_serve.Goals as goal
 
 -- somebody was served
@@ -20,7 +18,7 @@ returns-in-Ok-serve-clause-ended g c =
     let forms = g.I.Information.forms c.args.information.now in
     let house = c.in-Ok.house in
     let old = g.F.Files.contents c.args.files.now in
-    let mid = g.F.Files.contents c.read_house.new.files in
+    let mid = g.F.Files.contents c.make_ready.new.files in
     let new = g.F.Files.contents c.write_back-written.new.files in
     let ran = c.in-Ok-serve.ran in
     let journal = ran.journal.items in
@@ -28,14 +26,16 @@ returns-in-Ok-serve-clause-ended g c =
     let service = service_by house.setup house.dictionary forms in
     let first = g.F.Files.replace_faults c.args.files.now in
     let last = g.F.Files.replace_faults c.write_back-written.new.files in
-    let writes = writes_more source house.setup ran.core.ledger mid new first (g.F.Files.replace_faults c.read_house.new.files) last written c.read_house.ensures.replace_faults c.write_back-written.ensures.written in
+    let writes = writes_more source house.setup ran.core.ledger mid new first (g.F.Files.replace_faults c.make_ready.new.files) last written c.make_ready.ensures.replace_faults c.write_back-written.ensures.written in
     let ended = c.run_end.ensures ∙ ap (λ b. run_end written b ran.accept_failed) (c.has_lost.ensures ∙ ap has_lost c.deref.ensures.value) in
     let ReadRose = Rose (g.F.Files.read_faults c.args.files.now) (g.F.Files.read_faults c.write_back-written.new.files) in
     let ListenRose = Rose (g.S.Site.listen_faults c.args.site.now) (g.S.Site.listen_faults c.serve.new.site) in
     let promises = subst (λ i. RunPromises (service_by house.setup house.dictionary (g.I.Information.forms i)) ran.accept_failed journal ran.posts.items g.S.Post.Post.scene g.S.Post.Post.faults (g.K.Sink.held c.args.log) (g.K.Sink.held ran.log) (g.K.Sink.faults c.args.log) (g.K.Sink.faults ran.log)) c.in-Ok.ensures.information c.in-Ok-serve.ensures.promises in
-    let same : (other : Service) → IsServiceOf source forms old new other → other ≡ service = λ other. read_is source forms old mid new house.setup house.dictionary other c.in-Ok.ensures.read c.read_house.ensures.kept (told_before source house.setup ran.core.ledger mid new (Rose first last) written writes) in
+    let telling = told_before source house.setup ran.core.ledger mid new (Rose first last) written writes in
+    let same : (other : Service) → IsServiceOf source forms old new other → other ≡ service = λ other. read_is source forms old mid new house.setup house.dictionary other c.in-Ok.ensures.read c.make_ready.ensures.kept telling in
+    let by = read_by source forms old mid new house.setup house.dictionary c.in-Ok.ensures.read c.in-Ok.ensures.fresh c.make_ready.ensures.kept telling in
     served_ended source service ran.core.ledger written ran.accept_failed journal ran.posts.items g.S.Post.Post.scene g.S.Post.Post.faults old mid new (g.K.Sink.held c.args.log) (g.K.Sink.held ran.log) (g.K.Sink.faults c.args.log) (g.K.Sink.faults ran.log) ReadRose (Rose first last) ListenRose promises writes
-    forms _ (g.S.Site.listens c.args.site.now) (g.S.Site.listens c.serve.new.site) ended same c.in-Ok-serve.ensures.some c.in-Ok-serve.ensures.ledger c.read_house.ensures.kept c.in-Ok-serve.ensures.listens
+    forms _ (g.S.Site.listens c.args.site.now) (g.S.Site.listens c.serve.new.site) ended by same c.in-Ok-serve.ensures.some c.in-Ok-serve.ensures.ledger c.make_ready.ensures.kept c.in-Ok-serve.ensures.listens
 
 -- memory was wanted, or the site could not listen
 pub returns-in-Ok-clause-ended : goal.returns-in-Ok-clause-ended
@@ -43,17 +43,16 @@ returns-in-Ok-clause-ended g c =
     let source = source_of c.args.command.now in
     let forms = g.I.Information.forms c.args.information.now in
     let old = g.F.Files.contents c.args.files.now in
-    let mid = g.F.Files.contents c.read_house.new.files in
-    let ReadRose = Rose (g.F.Files.read_faults c.args.files.now) (g.F.Files.read_faults c.read_house.new.files) in
-    let ReplaceRose = Rose (g.F.Files.replace_faults c.args.files.now) (g.F.Files.replace_faults c.read_house.new.files) in
+    let mid = g.F.Files.contents c.make_ready.new.files in
+    let ReadRose = Rose (g.F.Files.read_faults c.args.files.now) (g.F.Files.read_faults c.make_ready.new.files) in
+    let ReplaceRose = Rose (g.F.Files.replace_faults c.args.files.now) (g.F.Files.replace_faults c.make_ready.new.files) in
     let ListenRose = Rose (g.S.Site.listen_faults c.args.site.now) (g.S.Site.listen_faults c.serve.new.site) in
     let LogRose = Rose (g.K.Sink.faults c.args.log) (g.K.Sink.faults c.unserved.result.log) in
     let unserved = c.unserved.ensures in
     let none = c.in-Err-serve.ensures.error in
     let error = c.in-Err-serve.error in
-    let not = not_served_tells error ReadRose ListenRose none.why in
     unserved_ended source forms error c.unserved.result.end c.unserved.result.journal.items c.unserved.result.posts.items g.S.Post.Post.scene g.S.Post.Post.faults old mid (g.S.Site.listens c.args.site.now) (g.S.Site.listens c.serve.new.site) (g.K.Sink.held c.args.log) (g.K.Sink.held c.unserved.result.log) ReadRose ReplaceRose ListenRose LogRose
-    unserved.end not.tells (λ service asked read listen. not.nine listen) (λ other is. absurd (not.read other is)) unserved.journal unserved.posts c.read_house.ensures.kept none.listens (subst (λ l. Gains (g.K.Sink.held c.args.log) [] (g.K.Sink.held l)) (sym unserved.log) none.log.held)
+    unserved.end (not_served_why source forms old mid ReadRose ListenRose error none.why) unserved.journal unserved.posts c.make_ready.ensures.kept none.listens (subst (λ l. Gains (g.K.Sink.held c.args.log) [] (g.K.Sink.held l)) (sym unserved.log) none.log.held)
 
 -- nothing was read to serve with
 pub returns-clause-ended : goal.returns-clause-ended
@@ -61,13 +60,12 @@ returns-clause-ended g c =
     let source = source_of c.args.command.now in
     let forms = g.I.Information.forms c.args.information.now in
     let old = g.F.Files.contents c.args.files.now in
-    let mid = g.F.Files.contents c.read_house.new.files in
-    let ReadRose = Rose (g.F.Files.read_faults c.args.files.now) (g.F.Files.read_faults c.read_house.new.files) in
-    let ReplaceRose = Rose (g.F.Files.replace_faults c.args.files.now) (g.F.Files.replace_faults c.read_house.new.files) in
+    let mid = g.F.Files.contents c.make_ready.new.files in
+    let ReadRose = Rose (g.F.Files.read_faults c.args.files.now) (g.F.Files.read_faults c.make_ready.new.files) in
+    let ReplaceRose = Rose (g.F.Files.replace_faults c.args.files.now) (g.F.Files.replace_faults c.make_ready.new.files) in
     let ListenRose = Rose (g.S.Site.listen_faults c.args.site.now) (g.S.Site.listen_faults c.args.site.now) in
     let LogRose = Rose (g.K.Sink.faults c.args.log) (g.K.Sink.faults c.unserved-in-Err.result.log) in
     let unserved = c.unserved-in-Err.ensures in
     let error = c.in-Err.error in
-    let why = c.read_house.ensures.error error c.in-Err.is in
-    unserved_ended source forms (Unread error) c.unserved-in-Err.result.end c.unserved-in-Err.result.journal.items c.unserved-in-Err.result.posts.items g.S.Post.Post.scene g.S.Post.Post.faults old mid (g.S.Site.listens c.args.site.now) (g.S.Site.listens c.args.site.now) (g.K.Sink.held c.args.log) (g.K.Sink.held c.unserved-in-Err.result.log) ReadRose ReplaceRose ListenRose LogRose
-    unserved.end (unread_tells source forms mid ReadRose ListenRose error why) (λ service asked read listen. unread_nine source forms old mid ReadRose service error why c.read_house.ensures.kept asked read) (λ other is. subst (IsUnread source forms mid ReadRose) (let e : error ≡ other = cc in e) why) unserved.journal unserved.posts c.read_house.ensures.kept (Gains-none (g.S.Site.listens c.args.site.now)) (subst (λ l. Gains (g.K.Sink.held c.args.log) [] (g.K.Sink.held l)) (sym unserved.log) (Gains-none (g.K.Sink.held c.args.log)))
+    unserved_ended source forms error c.unserved-in-Err.result.end c.unserved-in-Err.result.journal.items c.unserved-in-Err.result.posts.items g.S.Post.Post.scene g.S.Post.Post.faults old mid (g.S.Site.listens c.args.site.now) (g.S.Site.listens c.args.site.now) (g.K.Sink.held c.args.log) (g.K.Sink.held c.unserved-in-Err.result.log) ReadRose ReplaceRose ListenRose LogRose
+    unserved.end (unready_why source forms old mid ReadRose ListenRose error (c.make_ready.ensures.error error c.in-Err.is) c.make_ready.ensures.kept) unserved.journal unserved.posts c.make_ready.ensures.kept (Gains-none (g.S.Site.listens c.args.site.now)) (subst (λ l. Gains (g.K.Sink.held c.args.log) [] (g.K.Sink.held l)) (sym unserved.log) (Gains-none (g.K.Sink.held c.args.log)))

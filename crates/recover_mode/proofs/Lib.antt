@@ -1,0 +1,6 @@
+mod Once
+mod ReadLemmas
+mod LogLemmas
+mod WriteLemmas
+mod RunLemmas
+mod ReturnLemmas

@@ -1,0 +1,31 @@
+use Rattle.std.proofs.Common.{◌≡◌, Err, sym, subst, ◌∙◌, refl}
+use Rattle.std.proofs.lemmas.Result.{err_from_is_err_and}
+use Rattle.recover_mode.specs.Errors.{error_of_log}
+use Rattle.recover_mode.specs.Recovering.{IsLogError}
+use Rattle.recover_mode.proofs.LogLemmas.{IsLogError-of}
+use Rattle.recover_mode.proofs.texts.texts_of.Goals as goal
+
+pub returns-in_err-recovered-clause-error : goal.returns-in_err-recovered-clause-error
+returns-in_err-recovered-clause-error c = λ error is.
+    let p = err_from_is_err_and c.from_residual.result c.from_residual.ensures.1 in
+    let handed = c.in_err-recovered.field-0.0 in
+    let same : error_of_log handed ≡ error = sym p.2 ∙ (let e : Err p.0 ≡ Err error = sym p.1 ∙ is in cc) in
+    let basis = c.args.basis.now in
+    subst (IsLogError basis.setup basis.image.items) same (IsLogError-of basis.setup basis.image.items handed c.in_err-recovered.ensures)
+
+pub write_accounts-requires : goal.write_accounts-requires
+write_accounts-requires c =
+    let some = c.in_ok-recovered.ensures.log in
+    (c.in_ok-recovered.ensures.exact some.records some.has).ledger.made
+
+pub returns-clause-texts : goal.returns-clause-texts
+returns-clause-texts c = record {
+  recovered = c.in_ok-recovered.recovered;
+  answered = c.in_ok-recovered.ensures;
+  setup_file = c.in_ok-of.ensures ∙ c.as_bytes.ensures.value;
+  log_file = c.in_ok-of-2.ensures ∙ c.as_bytes-2.ensures.value;
+  spelled = c.in_ok-write_accounts.ensures.current;
+  lines = refl;
+  accepted = refl;
+  line = c.in_ok-recovery_line.ensures;
+}

@@ -1,0 +1,55 @@
+-- Believed: what the mode `recover` came to, and why.
+use Rattle.std.specs.Prelude.{◌≡◌, ◌≢◌, ℕ, List, Option, Result, Ok, Err}
+use Rattle.outside.specs.Files.{Contents, SameFiles}
+use Rattle.outside.specs.Link.{Link}
+use Rattle.outside.specs.Told.{Goes}
+use Rattle.policy_model.specs.Settings.{Settings}
+use Rattle.recover_mode.specs.declared.error.RecoveryError.{RecoveryError}
+use Rattle.recover_mode.specs.declared.error.RecoveryError.TheVariants as errors
+use Rattle.recover_mode.specs.declared.line.Recovery.{Recovery}
+use Rattle.recover_mode.specs.declared.texts.Texts.{Texts}
+use Rattle.recover_mode.specs.Bases.{HasBasis, IsFileError}
+use Rattle.recover_mode.specs.Recovering.{AreTexts, IsPut, IsRefused}
+use Rattle.recover_mode.specs.Words.{RecoverParts}
+
+-- no setup was read, or no image
+pub record IsUnread (parts : RecoverParts) (old new : Option Contents) (ReadFailed : Type 0) (error : RecoveryError) : Type 0 where
+  pub why : IsFileError new parts.setup ReadFailed error
+  pub files : Goes SameFiles old new
+
+-- the files hold a setup, and a log that is refused by this number
+pub record IsUnrecovered (parts : RecoverParts) (number : ℕ) (old new : Option Contents) : Type 0 where
+  pub setup : Settings
+  pub image : List ℕ
+  pub stood : Goes (λ files _. HasBasis parts setup image files) old new
+  pub refused : IsRefused setup image number
+  pub files : Goes SameFiles old new
+
+-- the files, as they stood before, hold a setup and a log that bring back a ledger, and this came of its writing and sending
+pub record IsRecovered (parts : RecoverParts) (old new : Option Contents) (before after : Option Link) (ReplaceFailed EndsFailed : Type 0) (result : Result Recovery RecoveryError) : Type 0 where
+  pub setup : Settings
+  pub image : List ℕ
+  pub stood : Goes (λ files _. HasBasis parts setup image files) old new
+  pub texts : Texts
+  pub made : AreTexts parts setup image texts
+  pub put : IsPut texts old new before after ReplaceFailed EndsFailed result
+
+-- what came of the mode, by what the files and the ends told before and after, and whether a reading or a replacing of a file and a
+-- call on the ends failed; where nothing is recovered or memory was wanted, nothing is written, sent or received
+abbrev pub IsOutcome : RecoverParts → Option Contents → Option Contents → Option Link → Option Link → Type 0 → Type 0 → Type 0 → Result Recovery RecoveryError → Type 0
+IsOutcome parts old new before after ReadFailed ReplaceFailed EndsFailed (Ok recovery) =
+    IsRecovered parts old new before after ReplaceFailed EndsFailed (Ok recovery)
+IsOutcome parts old new before after ReadFailed ReplaceFailed EndsFailed (Err errors.ReplaceFailed) =
+    IsRecovered parts old new before after ReplaceFailed EndsFailed (Err errors.ReplaceFailed)
+IsOutcome parts old new before after ReadFailed ReplaceFailed EndsFailed (Err errors.SendFailed) =
+    IsRecovered parts old new before after ReplaceFailed EndsFailed (Err errors.SendFailed)
+IsOutcome parts old new before after ReadFailed ReplaceFailed EndsFailed (Err (errors.LogRefused number)) =
+    IsUnrecovered parts number old new × (after ≡ before)
+IsOutcome parts old new before after ReadFailed ReplaceFailed EndsFailed (Err errors.OutOfMemory) =
+    Goes SameFiles old new × (after ≡ before)
+IsOutcome parts old new before after ReadFailed ReplaceFailed EndsFailed (Err error) =
+    IsUnread parts old new ReadFailed error × (after ≡ before)
+
+-- each file but the setup's and the log's is as it was
+pub record Spares (parts : RecoverParts) (before after : Contents) : Type 0 where
+  pub others : (other : List ℕ) → other ≢ parts.setup → other ≢ parts.log → after other ≡ before other

@@ -1,0 +1,64 @@
+//! What a recovery rests on.
+
+ghost use Rattle.std.specs.Prelude.{◌≡◌, ◌≤◌, Err, IfOk, IfSome};
+ghost use Rattle.outside.specs.Files.{SameFiles};
+ghost use Rattle.outside.specs.Told.{Goes, Rose};
+ghost use Rattle.recover_mode.specs.declared.error.RecoveryError.{RecoveryError};
+ghost use Rattle.recover_mode.specs.Bases.{HasBasis, IsFileError, image_in};
+ghost use Rattle.recover_mode.specs.Commands.{command_parts};
+
+use crate::command::RecoverCommand;
+use crate::error::RecoveryError;
+use file_front::{FrontError, read_front};
+use fresh_log::fresh_image;
+use outside::Files;
+use policy_model::Setup;
+use setup_reading::read_setup_file;
+use std::alloc::Global;
+
+/// The bytes of a log's image at most: those of 1,048,576 records of 256 bytes, with `OTJ1` and the
+/// gates and lengths.
+const IMAGE_MAX: usize = 271_581_189;
+
+/// What a recovery rests on: a setup, and the image of a log.
+#[derive(Drop)]
+pub(crate) struct Basis {
+    pub setup: Setup,
+    pub image: Vec<u8>,
+}
+
+/// Reads the setup of a file, and then the image of a log.
+pub(crate) fn read_basis<F: Files>(
+    alloc: Global,
+    command: &RecoverCommand<'_>,
+    files: &mut F,
+) -> Result<Basis, RecoveryError>
+    ensures basis { IfOk result (λ basis. IfSome (F.contents files.new)
+        (HasBasis (command_parts command.now) basis.setup basis.image.items)) }
+    ensures error { (error : RecoveryError) → result ≡ Err error → IsFileError (F.contents files.new)
+        command.now.setup.now (Rose (F.read_faults files.old) (F.read_faults files.new)) error }
+    ensures kept { Goes SameFiles (F.contents files.old) (F.contents files.new) }
+    ensures read_faults { F.read_faults files.old ≤ F.read_faults files.new }
+    ensures replace_faults { F.replace_faults files.old ≤ F.replace_faults files.new }
+{
+    let setup = read_setup_file(alloc, files, command.setup)?;
+    let image = read_image(alloc, files, command.log)?;
+    Ok(Basis { setup, image })
+}
+
+/// The image of a log: that of no records where there is no file of its name, else the first
+/// 271,581,189 bytes of the file.
+fn read_image<F: Files>(alloc: Global, files: &mut F, name: &str) -> Result<Vec<u8>, FrontError>
+    ensures image { IfOk result (λ image. IfSome (F.contents files.new) (λ there.
+        image.items ≡ image_in (there name.now))) }
+    ensures failed { result ≡ Err FrontError.Failed → Rose (F.read_faults files.old)
+        (F.read_faults files.new) }
+    ensures kept { Goes SameFiles (F.contents files.old) (F.contents files.new) }
+    ensures read_faults { F.read_faults files.old ≤ F.read_faults files.new }
+    ensures replace_faults { F.replace_faults files.old ≤ F.replace_faults files.new }
+{
+    match read_front(alloc, files, name, IMAGE_MAX)? {
+        Some(image) => Ok(image),
+        None => Ok(Vec::from_slice(alloc, fresh_image())?),
+    }
+}

@@ -1,0 +1,100 @@
+//! The mode.
+
+ghost use Rattle.std.specs.Prelude.{◌≡◌, ◌≤◌, OnErr, OnOk, false, true};
+ghost use Rattle.outside.specs.Files.{SameFiles};
+ghost use Rattle.outside.specs.Told.{Goes, Rose};
+ghost use Rattle.recover_mode.specs.Commands.{command_parts};
+ghost use Rattle.recover_mode.specs.Errors.{ends_before_line, may_be_written, status_of};
+ghost use Rattle.recover_mode.specs.Outcome.{IsOutcome, Spares};
+ghost use Rattle.recover_mode.specs.Recovering.{AreWritten, IsPut, MayBeWritten};
+ghost use Rattle.recover_mode.specs.Returning.{BringsBack};
+
+use crate::basis::read_basis;
+use crate::command::RecoverCommand;
+use crate::error::RecoveryError;
+use crate::line::Recovery;
+use crate::texts::{Texts, texts_of};
+use fresh_log::fresh_image;
+use outside::{Failed, Files, Stream};
+use std::alloc::Global;
+
+/// The exit status of a program that ends by what came of the mode: 0 where the log was recovered, else
+/// 3, 4, 5, 8, 9, 11 or 13.
+pub fn status(outcome: Result<Recovery, RecoveryError>) -> u8
+    ensures { result ≡ status_of outcome }
+{
+    match outcome {
+        Ok(_) => 0,
+        Err(error) => error.status(),
+    }
+}
+
+/// Runs the mode: reads the setup and then the log, of which the first 271,581,189 bytes count and which
+/// has no records where its file is missing. It verifies the replies that the log accepts, replaces the
+/// setup's file by one that spells the setup with what they make of the accounts, then the log's by the
+/// image of no records, and sends one line that says how many lines and accepted replies the log had.
+/// Comments and spacing of the setup's file are not kept. Where it is stopped between the two files, the
+/// next call does the same again, since the setup has all replies then.
+///
+/// # Errors
+///
+/// The first error, in this order: of the setup, of the log's file, of its records, of memory, of the
+/// two replacings, of the sending; memory may also be wanted at a file. A file is replaced only where
+/// none of them came before.
+pub fn run_recover<F: Files, E: Stream>(
+    alloc: Global,
+    command: &RecoverCommand<'_>,
+    files: &mut F,
+    ends: &mut E,
+) -> Result<Recovery, RecoveryError>
+    ensures outcome { IsOutcome (command_parts command.now) (F.contents files.old) (F.contents files.new)
+        (E.link ends.old) (E.link ends.new) (Rose (F.read_faults files.old) (F.read_faults files.new))
+        (Rose (F.replace_faults files.old) (F.replace_faults files.new))
+        (Rose (E.faults ends.old) (E.faults ends.new)) result }
+    ensures back { Goes (BringsBack (command_parts command.now) result) (F.contents files.old) (F.contents files.new) }
+    ensures untold { ends_before_line result ≡ true → ends.new ≡ ends.old }
+    ensures spares { Goes (Spares (command_parts command.now)) (F.contents files.old) (F.contents files.new) }
+    ensures unwritten { may_be_written result ≡ false → Goes SameFiles (F.contents files.old) (F.contents files.new) }
+    ensures read_faults { F.read_faults files.old ≤ F.read_faults files.new }
+    ensures replace_faults { F.replace_faults files.old ≤ F.replace_faults files.new }
+    ensures faults { E.faults ends.old ≤ E.faults ends.new }
+{
+    let basis = read_basis(alloc, command, files)?;
+    let texts = texts_of(alloc, command, &basis)?;
+    put(&texts, files, ends)
+}
+
+/// Writes the setup and then the log, and then tells it.
+fn put<F: Files, E: Stream>(
+    texts: &Texts,
+    files: &mut F,
+    ends: &mut E,
+) -> Result<Recovery, RecoveryError>
+    ensures put { IsPut texts.now (F.contents files.old) (F.contents files.new) (E.link ends.old) (E.link ends.new)
+        (Rose (F.replace_faults files.old) (F.replace_faults files.new))
+        (Rose (E.faults ends.old) (E.faults ends.new)) result }
+    ensures untold { ends_before_line result ≡ true → ends.new ≡ ends.old }
+    ensures read_faults { F.read_faults files.old ≤ F.read_faults files.new }
+    ensures replace_faults { F.replace_faults files.old ≤ F.replace_faults files.new }
+    ensures faults { E.faults ends.old ≤ E.faults ends.new }
+{
+    if write(texts, files).is_err() {
+        return Err(RecoveryError::ReplaceFailed);
+    }
+    if ends.send(texts.line.as_bytes()).is_err() {
+        return Err(RecoveryError::SendFailed);
+    }
+    Ok(texts.recovery)
+}
+
+/// Writes the setup, and then the log. `Failed`: one of the replacings failed.
+fn write<F: Files>(texts: &Texts, files: &mut F) -> Result<(), Failed>
+    ensures ok { OnOk result (Goes (AreWritten texts.now) (F.contents files.old) (F.contents files.new)) }
+    ensures err { OnErr result (Goes (MayBeWritten texts.now) (F.contents files.old) (F.contents files.new)) }
+    ensures failed { OnErr result (Rose (F.replace_faults files.old) (F.replace_faults files.new)) }
+    ensures read_faults { F.read_faults files.old ≤ F.read_faults files.new }
+    ensures replace_faults { F.replace_faults files.old ≤ F.replace_faults files.new }
+{
+    files.replace(&texts.setup, texts.bytes.as_slice())?;
+    files.replace(&texts.log, fresh_image())
+}

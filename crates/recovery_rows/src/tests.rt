@@ -1,0 +1,356 @@
+//! A whole login with a durable log on a disk that is stopped after each of its calls, recovered from
+//! what may be left then.
+
+ghost use Rattle.std.specs.Prelude.{◌≡◌, All, IfOk};
+ghost use Rattle.outside.specs.MemPost.{faults_of, scene_of};
+ghost use Rattle.outside.specs.Scene.{IsFresh};
+
+use durable_log::MemDisk;
+use fresh_log::fresh_image;
+use info_hooks::Hooks;
+use line_log::LineLog;
+use outside::{Bytes, CallKind, Fail, MemFiles, MemPost, MemSite, MemStream, Word};
+use recover_mode::{RecoverCommand, Recovery, RecoveryError, run_recover};
+use serve_mode::{ServeCommand, ServeError, Served, run_serve};
+use service_play::{ONE, Play, Session, chain_in, come, posts_of, setup_in};
+use service_reading::ServiceError;
+use service_rows::{CLIENT, Login, log_in};
+use std::alloc::{AllocError, Global};
+use std::sync::Wait;
+use std::test::Fail as Fault;
+use std::thread::Threads;
+
+/// Bob's sequence and password before the login, and behind the reply that it accepts (RFC 2289,
+/// `This is a test.`, seed `test`, SHA-1, numbers 1 and 0).
+const BEFORE: (u16, u64) = (1, 0x63D9_3663_9734_385B);
+
+const BEHIND: (u16, u64) = (0, 0xBB9E_6AE1_979D_8FF4);
+
+/// The line of the login's log that accepts the reply.
+const REPLY: u32 = 7;
+
+/// How many lines the login's log has.
+const LINES: u32 = 21;
+
+/// What a byte that isn't safe may be.
+const FILLS: [u8; 3] = [0x00, 0x01, 0xff];
+
+const SERVE: ServeCommand<'static> = ServeCommand::Named {
+    setup: "setup",
+    log: Some("log"),
+};
+
+const RECOVER: RecoverCommand<'static> = RecoverCommand {
+    setup: "setup",
+    log: "log",
+};
+
+/// The files of a login: its setup and word list, and a log with these bytes, if there is one.
+fn files_of(
+    alloc: Global,
+    login: &Login,
+    log: Option<&[u8]>,
+    fails: &[Fail],
+) -> Result<MemFiles, AllocError> {
+    let setup = (Word::of(alloc, b"setup")?, Bytes::of(alloc, &login.setup)?);
+    let list = (Word::of(alloc, b"list")?, Bytes::of(alloc, &login.list)?);
+    let mut pairs = vec![in alloc; setup, list]?;
+    if let Some(bytes) = log {
+        pairs.push((Word::of(alloc, b"log")?, Bytes::of(alloc, bytes)?))?;
+    }
+    MemFiles::new(alloc, &pairs, fails)
+}
+
+/// What a login is played with.
+fn play<'a>(setup: &'a [u8], login: &'a Login, sessions: &'a [Session<'a>]) -> Play<'a>
+    ensures { result.piece ≡ 4096 }
+{
+    Play {
+        name: "setup",
+        setup,
+        list: &login.list,
+        sessions,
+        piece: 4_096,
+        fails: &[],
+    }
+}
+
+/// What the other sides of a login send.
+fn session_of(login: &Login) -> Session<'_> {
+    Session {
+        client: CLIENT,
+        pre: &login.said.pre,
+        user: &login.said.user,
+    }
+}
+
+/// The post of a login's one worker.
+fn posts(alloc: Global, login: &Login) -> Result<Vec<MemPost>, Fault>
+    ensures { IfOk result (λ posts. All (IsFresh scene_of faults_of) posts.items) }
+{
+    posts_of(alloc, &play(&login.setup, login, &[session_of(login)]), 1)
+}
+
+/// How a run with a durable log ended, of how many posts, and the disk of its log.
+#[derive(Drop)]
+struct Logged {
+    end: Result<(), ServeError>,
+    posts: usize,
+    disk: MemDisk,
+}
+
+/// Serves a login with a durable log on a fresh disk, by these files.
+fn serve_logged<R: Threads + Wait + Sync>(
+    rt: &R,
+    alloc: Global,
+    login: &Login,
+    files: &mut MemFiles,
+) -> Result<Logged, Fault> {
+    let hooks = Hooks::new(Vec::new(alloc)).ok().ok_or("hooks")?;
+    let log = LineLog::new(MemDisk::new(alloc, fresh_image(), &[])?);
+    let mut site = MemSite::new(alloc, posts(alloc, login)?)?;
+    let Served {
+        end,
+        journal: _,
+        log,
+        posts,
+    } = run_serve(rt, alloc, &SERVE, files, &mut site, log, &hooks);
+    Ok(Logged {
+        end,
+        posts: posts.len(),
+        disk: log.disk(),
+    })
+}
+
+/// What recovery came to, and the setup that it left.
+#[derive(Drop)]
+struct Came {
+    outcome: Result<Recovery, RecoveryError>,
+    told: Vec<u8>,
+    setup: Vec<u8>,
+    files: MemFiles,
+}
+
+/// Recovers a login's setup from a log with these bytes.
+fn recover_from(
+    alloc: Global,
+    login: &Login,
+    log: Option<&[u8]>,
+    fails: &[Fail],
+) -> Result<Came, Fault> {
+    recover_in(alloc, files_of(alloc, login, log, fails)?)
+}
+
+/// Recovers what these files hold.
+fn recover_in(alloc: Global, mut files: MemFiles) -> Result<Came, Fault> {
+    let mut ends = MemStream::new(alloc, b"", &[100], &[])?;
+    let outcome = run_recover(alloc, &RECOVER, &mut files, &mut ends);
+    let setup = setup_in(alloc, &mut files)?;
+    Ok(Came {
+        outcome,
+        told: Vec::from_slice(alloc, ends.sent())?,
+        setup,
+        files,
+    })
+}
+
+/// How many lines an image has after so many calls, of which each line takes four: what was written, a
+/// sync, the gate, a sync.
+fn lines_after(call: u32, fill: u8) -> u32 {
+    let is_opened = call % 4 == 3 && fill == 0x01;
+    call / 4 + u32::from(is_opened)
+}
+
+/// Whether recovery from what may be left after so many calls comes to the lines that were answered.
+fn is_recovered(
+    alloc: Global,
+    login: &Login,
+    disk: &MemDisk,
+    call: u32,
+    fill: u8,
+) -> Result<bool, Fault> {
+    if !disk.tells() || call > disk.calls() {
+        return Err(Fault::from("a disk that tells"));
+    }
+    let image = disk.image(alloc, call, fill)?;
+    let came = recover_from(alloc, login, Some(&image), &[])?;
+    let lines = lines_after(call, fill);
+    let is_accepted = lines >= REPLY;
+    let accepted = u32::from(is_accepted);
+    let chain = if is_accepted { BEHIND } else { BEFORE };
+    Ok(came.outcome == Ok(Recovery { lines, accepted }) && chain_in(alloc, &came.setup)? == chain)
+}
+
+/// Whether recovery does so after each call of a login's disk, and before the first.
+fn are_recovered(alloc: Global, login: &Login, disk: &MemDisk) -> Result<bool, Fault> {
+    for call in 0..=4 * LINES {
+        for fill in FILLS {
+            if !is_recovered(alloc, login, disk, call, fill)? {
+                return Ok(false);
+            }
+        }
+    }
+    Ok(true)
+}
+
+#[test]
+fn a_login_that_stops_after_each_call(rt: HostRuntime) -> Result<(), Fault> {
+    let alloc = rt.alloc();
+    let login = log_in(&rt, alloc, ONE, 4_096)?;
+    let mut files = files_of(alloc, &login, Some(fresh_image()), &[])?;
+    let Logged { end, disk, .. } = serve_logged(&rt, alloc, &login, &mut files)?;
+    assert!(&rt; end == Ok(()) && disk.calls() == 4 * LINES);
+    assert!(&rt; are_recovered(alloc, &login, &disk)?);
+    Ok(())
+}
+
+/// The log of a login that was stopped behind its accepted reply.
+fn stopped_log<R: Threads + Wait + Sync>(
+    rt: &R,
+    alloc: Global,
+    login: &Login,
+) -> Result<Vec<u8>, Fault> {
+    let mut files = files_of(alloc, login, Some(fresh_image()), &[])?;
+    let Logged { disk, .. } = serve_logged(rt, alloc, login, &mut files)?;
+    if !disk.tells() || disk.calls() < 4 * REPLY {
+        return Err(Fault::from("a disk that tells"));
+    }
+    Ok(disk.image(alloc, 4 * REPLY, 0xff)?)
+}
+
+/// Whether this is what recovery told, and the setup's accounts are those behind the reply.
+fn tells(alloc: Global, came: &Came, line: &[u8]) -> Result<bool, Fault> {
+    Ok(came.told.as_slice() == line && chain_in(alloc, &came.setup)? == BEHIND)
+}
+
+/// Whether a log that was recovered is a fresh one, which changes nothing.
+fn is_fresh_then(alloc: Global, first: Came) -> Result<bool, Fault> {
+    let anew = recover_in(alloc, first.files)?;
+    Ok(tells(alloc, &anew, b"recovered lines 0 accepted 0\n")? && anew.setup == first.setup)
+}
+
+/// The login with the setup that a recovery left.
+fn behind(alloc: Global, login: Login, came: &Came) -> Result<Login, Fault> {
+    Ok(Login {
+        setup: Vec::from_slice(alloc, &came.setup)?,
+        ..login
+    })
+}
+
+/// Whether the same log, with the setup that its recovery left, is recovered to the same: so it is where
+/// a recovery was stopped between its two files.
+fn is_there_already(alloc: Global, between: &Login, log: &[u8]) -> Result<bool, Fault> {
+    let second = recover_from(alloc, between, Some(log), &[])?;
+    Ok(tells(alloc, &second, WHOLE)? && second.setup == between.setup)
+}
+
+/// What is told of a log that was stopped behind its accepted reply.
+const WHOLE: &[u8] = b"recovered lines 7 accepted 1\n";
+
+#[test]
+fn a_stopped_login_is_recovered_and_the_log_is_fresh(rt: HostRuntime) -> Result<(), Fault> {
+    let alloc = rt.alloc();
+    let login = log_in(&rt, alloc, ONE, 4_096)?;
+    let log = stopped_log(&rt, alloc, &login)?;
+    let first = recover_from(alloc, &login, Some(&log), &[])?;
+    assert!(&rt; tells(alloc, &first, WHOLE)?);
+    assert!(&rt; is_fresh_then(alloc, first)?);
+    Ok(())
+}
+
+#[test]
+fn a_stopped_recovery_is_done_again(rt: HostRuntime) -> Result<(), Fault> {
+    let alloc = rt.alloc();
+    let login = log_in(&rt, alloc, ONE, 4_096)?;
+    let log = stopped_log(&rt, alloc, &login)?;
+    let first = recover_from(alloc, &login, Some(&log), &[])?;
+    let between = behind(alloc, login, &first)?;
+    assert!(&rt; is_there_already(alloc, &between, &log)?);
+    Ok(())
+}
+
+/// Whether a client who says what a login's did is let in by this setup.
+fn lets_in<R: Threads + Wait + Sync>(
+    rt: &R,
+    alloc: Global,
+    login: &Login,
+    setup: &[u8],
+) -> Result<bool, Fault> {
+    let came = come(rt, alloc, &play(setup, login, &[session_of(login)]), 1)?;
+    Ok(came.journal.iter().any(|event| event.accepts()))
+}
+
+#[test]
+fn no_password_is_taken_again_behind_a_stop(rt: HostRuntime) -> Result<(), Fault> {
+    let alloc = rt.alloc();
+    let login = log_in(&rt, alloc, ONE, 4_096)?;
+    let log = stopped_log(&rt, alloc, &login)?;
+    let recovered = recover_from(alloc, &login, Some(&log), &[])?;
+    assert!(&rt; lets_in(&rt, alloc, &login, &login.setup)?);
+    assert!(&rt; !lets_in(&rt, alloc, &login, &recovered.setup)?);
+    Ok(())
+}
+
+/// What stands in the log's file, the reading that fails, if one does, and why nobody is served.
+#[derive(Clone, Copy)]
+struct Case {
+    log: Option<&'static [u8]>,
+    number: u32,
+    error: ServeError,
+}
+
+/// A log that isn't there.
+const MISSING: Case = Case {
+    log: None,
+    number: 0,
+    error: ServeError::LogNotFresh,
+};
+
+const UNFRESH: [Case; 5] = [
+    MISSING,
+    Case {
+        log: Some(b""),
+        ..MISSING
+    },
+    Case {
+        log: Some(b"OTJ1\x00\x00"),
+        ..MISSING
+    },
+    Case {
+        log: Some(b"OTJ2\x00"),
+        ..MISSING
+    },
+    // Behind two readings of the setup and four of the word list.
+    Case {
+        log: Some(b"OTJ1\x00"),
+        number: 7,
+        error: ServeError::Unread(ServiceError::Failed),
+    },
+];
+
+/// Whether nobody is served by a log of that kind, for that reason, and no call is made to its disk.
+fn is_unserved<R: Threads + Wait + Sync>(
+    rt: &R,
+    alloc: Global,
+    login: &Login,
+    case: &Case,
+) -> Result<bool, Fault> {
+    let fail = Fail {
+        call: CallKind::Read,
+        number: case.number,
+        sent: 0,
+    };
+    let mut files = files_of(alloc, login, case.log, &[fail])?;
+    let logged = serve_logged(rt, alloc, login, &mut files)?;
+    Ok(logged.end == Err(case.error) && logged.posts == 0 && logged.disk.calls() == 0)
+}
+
+#[test]
+fn nobody_is_served_over_a_log_that_is_not_fresh(rt: HostRuntime) -> Result<(), Fault> {
+    let alloc = rt.alloc();
+    let login = log_in(&rt, alloc, ONE, 4_096)?;
+    for case in &UNFRESH {
+        assert!(&rt; is_unserved(&rt, alloc, &login, case)?);
+    }
+    Ok(())
+}

@@ -1,0 +1,31 @@
+use Rattle.std.proofs.Common.{◌≡◌, Err, refl, sym, ◌∙◌, subst}
+use Rattle.std.proofs.lemmas.Result.{err_from_is_err_and}
+use Rattle.outside.specs.Files.{SameFiles}
+use Rattle.outside.specs.Told.{Goes, Rose}
+use Rattle.outside.proofs.Told.{Goes-then}
+use Rattle.serve_mode.specs.declared.error.ServeError.{ServeError}
+use Rattle.serve_mode.specs.Commands.{source_of}
+use Rattle.serve_mode.specs.Steps.{IsUnready}
+use Rattle.serve_mode.proofs.Once.{read_still, unready_log}
+use Rattle.serve_mode.proofs.Promises.{same_through}
+use Rattle.serve_mode.proofs.reading.make_ready.Goals as goal
+
+-- the log is refused
+pub returns-in_err-check_log-clause-error : goal.returns-in_err-check_log-clause-error
+returns-in_err-check_log-clause-error g c = λ error is.
+    let contents = g.F.Files.contents in
+    let refused = c.in_err-check_log.field-0.0 in
+    let handed = err_from_is_err_and c.from_residual-in_err-check_log.result c.from_residual-in_err-check_log.ensures.1 in
+    let same : refused ≡ error = (let e : handed.0 ≡ error = (let f : Err handed.0 ≡ Err error = sym handed.1 ∙ is in cc) in sym handed.2 ∙ e) in
+    subst (IsUnready (source_of c.args.command.now) (g.I.Information.forms c.args.information.now) (contents c.check_log.new.files) (Rose (g.F.Files.read_faults c.args.files.now) (g.F.Files.read_faults c.check_log.new.files))) same
+    (unready_log (source_of c.args.command.now) (g.I.Information.forms c.args.information.now) (contents c.read_house.new.files) (contents c.check_log.new.files) c.in_ok-house.house.setup c.in_ok-house.house.dictionary (g.F.Files.read_faults c.args.files.now) (g.F.Files.read_faults c.read_house.new.files) (g.F.Files.read_faults c.check_log.new.files) refused c.in_ok-house.ensures.read c.check_log.ensures.kept c.read_house.ensures.read_faults (c.in_err-check_log.ensures.error refused refl))
+
+pub returns-in_err-check_log-clause-kept : goal.returns-in_err-check_log-clause-kept
+returns-in_err-check_log-clause-kept g c = Goes-then SameFiles SameFiles SameFiles same_through (g.F.Files.contents c.args.files.now) (g.F.Files.contents c.read_house.new.files) (g.F.Files.contents c.check_log.new.files) c.read_house.ensures.kept c.check_log.ensures.kept
+
+-- the log is fresh
+pub returns-clause-read : goal.returns-clause-read
+returns-clause-read g c = read_still (source_of c.args.command.now) (g.I.Information.forms c.args.information.now) (g.F.Files.contents c.read_house.new.files) (g.F.Files.contents c.check_log.new.files) c.in_ok-house.house.setup c.in_ok-house.house.dictionary c.in_ok-house.ensures.read c.check_log.ensures.kept
+
+pub returns-clause-kept : goal.returns-clause-kept
+returns-clause-kept g c = Goes-then SameFiles SameFiles SameFiles same_through (g.F.Files.contents c.args.files.now) (g.F.Files.contents c.read_house.new.files) (g.F.Files.contents c.check_log.new.files) c.read_house.ensures.kept c.check_log.ensures.kept
