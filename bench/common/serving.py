@@ -111,6 +111,19 @@ def wait_for(is_there, what, limit=LIMIT):
     return found
 
 
+def others(pid):
+    """The processes of a session of processes besides its leader."""
+    found = []
+    for number in filter(str.isdigit, os.listdir("/proc")):
+        try:
+            words = read(f"/proc/{number}/stat").rsplit(b")", 1)[1].split()
+        except OSError:
+            continue
+        if int(words[3]) == pid and int(number) != pid:
+            found.append(int(number))
+    return found
+
+
 def ending(status):
     """How a program ended."""
     return f"signal {signal.Signals(-status).name}" if status < 0 else f"status {status}"
