@@ -359,8 +359,10 @@ fly
 help
 --help
 serve -x
-serve a b
+serve a b c
 Serve
+recover a
+recover a b c
 check
 check -x
 check a b
