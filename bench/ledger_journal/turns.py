@@ -27,7 +27,7 @@ def logged_in(count):
     """Sessions of a challenge and an accepted reply each, by all accounts in turn."""
     chains = []
     for account in range(ACCOUNTS):
-        chain = [account.to_bytes(8, "big")]
+        chain = [(account + 1).to_bytes(8, "big")]
         while len(chain) < PASSWORDS:
             chain.append(fold("md5", chain[-1]))
         chains.append(chain)
