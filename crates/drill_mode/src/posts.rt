@@ -11,17 +11,18 @@ use outside::{Accepted, Act};
 use quiet_outside::{Pieces, PostRoom, QuietPost};
 use std::alloc::{AllocError, Global};
 
-/// How many acts a session of a drill has at most.
-const ACTS: usize = 12;
+/// How many acts a worker has at most in the drill of 1: eight sessions, and a last accept.
+const ACTS: usize = 96;
 
-/// How many children it has at most.
-const CHILDREN: usize = 2;
+/// How many children it has: two of each session that logs in, and one of any other.
+const CHILDREN: usize = 10;
 
-/// How many buffers its acts and its file take at most.
-const BUFFERS: usize = 4;
+/// How many buffers it fills: a session that logs in takes two for the name and the bytes of what it
+/// writes, one for the write as it is told, and one for the read.
+const BUFFERS: usize = 8;
 
 /// The size of a buffer, in bytes: more than any child of a drill says or is told.
-const BUFFER_LEN: usize = 512;
+const BUFFER_LEN: usize = 192;
 
 /// The moment at which a drill takes place, in milliseconds.
 const MOMENT: u64 = 1_000;
@@ -51,12 +52,12 @@ fn drill_post(alloc: Global, n: u32, worker: u32) -> Result<QuietPost, AllocErro
     requires below { worker < 4 }
     ensures { IfOk result (IsNewPost n worker) }
 {
-    let sessions = 8 * n as usize;
+    let times = n as usize;
     let room = PostRoom {
-        acts: ACTS * sessions,
-        talks: CHILDREN * sessions,
+        acts: ACTS * times,
+        talks: CHILDREN * times,
         pieces: Pieces {
-            count: BUFFERS * sessions,
+            count: BUFFERS * times,
             size: BUFFER_LEN,
         },
     };
