@@ -5,12 +5,13 @@ ghost use Rattle.std.specs.Prelude.{◌≡◌, All, IfOk};
 ghost use Rattle.outside.specs.MemPost.{faults_of, scene_of};
 ghost use Rattle.outside.specs.Scene.{IsFresh};
 
+use super::{Came, recover_files};
 use durable_log::MemDisk;
 use fresh_log::fresh_image;
 use info_hooks::Hooks;
 use line_log::LineLog;
-use outside::{Bytes, CallKind, Fail, MemFiles, MemPost, MemSite, MemStream, Word};
-use recover_mode::{RecoverCommand, Recovery, RecoveryError, run_recover};
+use outside::{Bytes, CallKind, Fail, MemFiles, MemPost, MemSite, Word};
+use recover_mode::Recovery;
 use serve_mode::{ServeCommand, ServeError, Served, run_serve};
 use service_play::{ONE, Play, Session, chain_in, come, posts_of, setup_in};
 use service_reading::ServiceError;
@@ -38,11 +39,6 @@ const FILLS: [u8; 3] = [0x00, 0x01, 0xff];
 const SERVE: ServeCommand<'static> = ServeCommand::Named {
     setup: "setup",
     log: Some("log"),
-};
-
-const RECOVER: RecoverCommand<'static> = RecoverCommand {
-    setup: "setup",
-    log: "log",
 };
 
 /// The files of a login: its setup and word list, and a log with these bytes, if there is one.
@@ -124,34 +120,21 @@ fn serve_logged<R: Threads + Wait + Sync>(
 
 /// What recovery came to, and the setup that it left.
 #[derive(Drop)]
-struct Came {
-    outcome: Result<Recovery, RecoveryError>,
-    told: Vec<u8>,
+struct Left {
+    came: Came,
     setup: Vec<u8>,
-    files: MemFiles,
-}
-
-/// Recovers a login's setup from a log with these bytes.
-fn recover_from(
-    alloc: Global,
-    login: &Login,
-    log: Option<&[u8]>,
-    fails: &[Fail],
-) -> Result<Came, Fault> {
-    recover_in(alloc, files_of(alloc, login, log, fails)?)
 }
 
 /// Recovers what these files hold.
-fn recover_in(alloc: Global, mut files: MemFiles) -> Result<Came, Fault> {
-    let mut ends = MemStream::new(alloc, b"", &[100], &[])?;
-    let outcome = run_recover(alloc, &RECOVER, &mut files, &mut ends);
-    let setup = setup_in(alloc, &mut files)?;
-    Ok(Came {
-        outcome,
-        told: Vec::from_slice(alloc, ends.sent())?,
-        setup,
-        files,
-    })
+fn recover_in(alloc: Global, files: MemFiles) -> Result<Left, Fault> {
+    let mut came = recover_files(alloc, files)?;
+    let setup = setup_in(alloc, &mut came.files)?;
+    Ok(Left { came, setup })
+}
+
+/// Recovers a login's setup from a log with these bytes.
+fn recover_from(alloc: Global, login: &Login, log: &[u8]) -> Result<Left, Fault> {
+    recover_in(alloc, files_of(alloc, login, Some(log), &[])?)
 }
 
 /// How many lines an image has after so many calls, of which each line takes four: what was written, a
@@ -173,12 +156,13 @@ fn is_recovered(
         return Err(Fault::from("a disk that tells"));
     }
     let image = disk.image(alloc, call, fill)?;
-    let came = recover_from(alloc, login, Some(&image), &[])?;
+    let left = recover_from(alloc, login, &image)?;
     let lines = lines_after(call, fill);
     let is_accepted = lines >= REPLY;
     let accepted = u32::from(is_accepted);
     let chain = if is_accepted { BEHIND } else { BEFORE };
-    Ok(came.outcome == Ok(Recovery { lines, accepted }) && chain_in(alloc, &came.setup)? == chain)
+    let is_told = left.came.outcome == Ok(Recovery { lines, accepted });
+    Ok(is_told && chain_in(alloc, &left.setup)? == chain)
 }
 
 /// Whether recovery does so after each call of a login's disk, and before the first.
@@ -219,20 +203,21 @@ fn stopped_log<R: Threads + Wait + Sync>(
 }
 
 /// Whether this is what recovery told, and the setup's accounts are those behind the reply.
-fn tells(alloc: Global, came: &Came, line: &[u8]) -> Result<bool, Fault> {
-    Ok(came.told.as_slice() == line && chain_in(alloc, &came.setup)? == BEHIND)
+fn tells(alloc: Global, left: &Left, line: &[u8]) -> Result<bool, Fault> {
+    Ok(left.came.told.as_slice() == line && chain_in(alloc, &left.setup)? == BEHIND)
 }
 
 /// Whether a log that was recovered is a fresh one, which changes nothing.
-fn is_fresh_then(alloc: Global, first: Came) -> Result<bool, Fault> {
-    let anew = recover_in(alloc, first.files)?;
-    Ok(tells(alloc, &anew, b"recovered lines 0 accepted 0\n")? && anew.setup == first.setup)
+fn is_fresh_then(alloc: Global, first: Left) -> Result<bool, Fault> {
+    let Left { came, setup } = first;
+    let anew = recover_in(alloc, came.files)?;
+    Ok(tells(alloc, &anew, b"recovered lines 0 accepted 0\n")? && anew.setup == setup)
 }
 
 /// The login with the setup that a recovery left.
-fn behind(alloc: Global, login: Login, came: &Came) -> Result<Login, Fault> {
+fn behind(alloc: Global, login: Login, left: &Left) -> Result<Login, Fault> {
     Ok(Login {
-        setup: Vec::from_slice(alloc, &came.setup)?,
+        setup: Vec::from_slice(alloc, &left.setup)?,
         ..login
     })
 }
@@ -240,7 +225,7 @@ fn behind(alloc: Global, login: Login, came: &Came) -> Result<Login, Fault> {
 /// Whether the same log, with the setup that its recovery left, is recovered to the same: so it is where
 /// a recovery was stopped between its two files.
 fn is_there_already(alloc: Global, between: &Login, log: &[u8]) -> Result<bool, Fault> {
-    let second = recover_from(alloc, between, Some(log), &[])?;
+    let second = recover_from(alloc, between, log)?;
     Ok(tells(alloc, &second, WHOLE)? && second.setup == between.setup)
 }
 
@@ -252,7 +237,7 @@ fn a_stopped_login_is_recovered_and_the_log_is_fresh(rt: HostRuntime) -> Result<
     let alloc = rt.alloc();
     let login = log_in(&rt, alloc, ONE, 4_096)?;
     let log = stopped_log(&rt, alloc, &login)?;
-    let first = recover_from(alloc, &login, Some(&log), &[])?;
+    let first = recover_from(alloc, &login, &log)?;
     assert!(&rt; tells(alloc, &first, WHOLE)?);
     assert!(&rt; is_fresh_then(alloc, first)?);
     Ok(())
@@ -263,7 +248,7 @@ fn a_stopped_recovery_is_done_again(rt: HostRuntime) -> Result<(), Fault> {
     let alloc = rt.alloc();
     let login = log_in(&rt, alloc, ONE, 4_096)?;
     let log = stopped_log(&rt, alloc, &login)?;
-    let first = recover_from(alloc, &login, Some(&log), &[])?;
+    let first = recover_from(alloc, &login, &log)?;
     let between = behind(alloc, login, &first)?;
     assert!(&rt; is_there_already(alloc, &between, &log)?);
     Ok(())
@@ -285,7 +270,7 @@ fn no_password_is_taken_again_behind_a_stop(rt: HostRuntime) -> Result<(), Fault
     let alloc = rt.alloc();
     let login = log_in(&rt, alloc, ONE, 4_096)?;
     let log = stopped_log(&rt, alloc, &login)?;
-    let recovered = recover_from(alloc, &login, Some(&log), &[])?;
+    let recovered = recover_from(alloc, &login, &log)?;
     assert!(&rt; lets_in(&rt, alloc, &login, &login.setup)?);
     assert!(&rt; !lets_in(&rt, alloc, &login, &recovered.setup)?);
     Ok(())
