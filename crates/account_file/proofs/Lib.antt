@@ -1,3 +1,4 @@
 pub mod KeyLemmas
 pub mod EachLemmas
 pub mod InfoLemmas
+pub mod Once

@@ -16,7 +16,8 @@ use Rattle.otp_ledger.specs.declared.ledger.Current.{Current}
 use Rattle.otp_ledger.specs.Standing.{state_by}
 use Rattle.account_file.specs.Entries.{entries_of}
 use Rattle.account_file.specs.Setups.{setup_of}
-use Rattle.account_writer.specs.CurrentSetup.{IsSetupAfter, account_after, current_account, current_accounts, current_setup}
+use Rattle.policy_model.specs.Logins.{account_after}
+use Rattle.account_writer.specs.CurrentSetup.{IsSetupAfter, current_account, current_accounts, current_setup}
 use Rattle.account_writer.specs.Tables.{is_writable, with_current}
 use Rattle.account_writer.proofs.ListLemmas.{distinct-map}
 

@@ -3,7 +3,7 @@ use Rattle.std.specs.Prelude.{ℕ, ◌≡◌, List, map, Ok}
 use Rattle.std.specs.List.{zip}
 use Rattle.policy_model.specs.declared.account.Account.{Account}
 use Rattle.policy_model.specs.declared.event.Event.{Event}
-use Rattle.policy_model.specs.Logins.{current_password, current_sequence}
+use Rattle.policy_model.specs.Logins.{account_after}
 use Rattle.policy_model.specs.Settings.{Settings}
 use Rattle.otp_ledger.specs.Accounts.{AccountState, LedgerParts, current_of}
 use Rattle.otp_ledger.specs.Standing.{StandsFor}
@@ -21,10 +21,6 @@ current_accounts accounts states = map (λ p. current_account p.0 p.1) (zip acco
 -- a setup with each account's sequence and password as they are known, and all else as it was
 abbrev pub current_setup : Settings → List AccountState → Settings
 current_setup setup states = record setup { accounts = current_accounts setup.accounts states }
-
--- an account with the sequence and the password that a journal says of it
-abbrev pub account_after : List Event → Account → Account
-account_after journal a = record a { sequence = current_sequence journal a; password = current_password journal a }
 
 -- the setup after a journal: each account's sequence and password as the journal says, and all else as it was
 abbrev pub setup_after : Settings → List Event → Settings

@@ -6,14 +6,16 @@ ghost use Rattle.policy_model.specs.declared.account.Account.{Account};
 ghost use Rattle.policy_model.specs.declared.event.Decision.TheVariants.{Permit};
 ghost use Rattle.policy_model.specs.Journal.{open_session_of};
 ghost use Rattle.policy_model.specs.Logins.{account_of, current_sequence, is_decoy, user_named, verified_user};
-ghost use Rattle.policy_model.specs.Verdict.{account_named, account_verdict, is_holder, is_next_password, reply_verdict, sequence_of, user_verdict};
+ghost use Rattle.policy_model.specs.Verdict.{account_named, account_verdict, is_next_password, reply_verdict, sequence_of, user_verdict};
 ghost use Rattle.audit_check.specs.History.{IsKept, challenge_by, is_next_by, silent_by, standing_by};
 ghost use Rattle.audit_check.specs.Legal.{is_password_of};
 
 use crate::history::{History, Hold};
-use crate::sessions::{is_decoy, login_of, recent, user_named, verified_user};
+use crate::sessions::{is_decoy, login_of, recent, user_named};
 use otp_hash::step;
-use policy_model::{Account, Decision, Event, Setup, is_other, is_within, open_session};
+use policy_model::{
+    Account, Decision, Event, Setup, is_holder, is_other, is_within, open_session, verified_user,
+};
 use request_catalogue::{Name, rules};
 
 /// How many passwords an account's chain still has.
@@ -90,30 +92,14 @@ pub(crate) fn judge_challenge(
     }
 }
 
-/// Whether the session holds.
-fn is_holder(session: u32, holder: Option<u32>) -> bool
-    ensures { result ≡ is_holder session holder }
-{
-    match holder {
-        None => false,
-        Some(holder) => holder == session,
-    }
-}
-
 /// A REPLY without readings of a session for a user, by the user's hold.
 fn silent_by(session: u32, hold: Hold) -> Decision
     ensures { result ≡ silent_by session hold }
 {
     if is_holder(session, hold.holder) {
-        Decision::Deny {
-            rule: rules::NO_READING,
-            detail: 0,
-        }
+        Decision::deny(rules::NO_READING, 0)
     } else {
-        Decision::Deny {
-            rule: rules::HOLD_LOST,
-            detail: hold.taker,
-        }
+        Decision::deny(rules::HOLD_LOST, hold.taker)
     }
 }
 

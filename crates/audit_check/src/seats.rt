@@ -1,7 +1,6 @@
 //! What a worker's open session has come to, which alone decides most of its asks.
 
 ghost use Rattle.std.specs.Prelude.{◌≡◌, ◌<◌, ◌^◌, ◌-◌};
-ghost use Rattle.policy_model.specs.declared.event.Decision.TheVariants.{Deny};
 ghost use Rattle.session_laws.specs.Judged.{closing_decision, opening_decision};
 ghost use Rattle.audit_check.specs.Seats.{frame_verdict, is_common, seat_after, seat_verdict};
 
@@ -44,13 +43,6 @@ pub(crate) fn seat_after(seat: Seat, event: &Event) -> Seat
     }
 }
 
-/// A denial by a rule.
-fn deny(rule: u8, detail: u32) -> Decision
-    ensures { result ≡ Deny rule detail }
-{
-    Decision::Deny { rule, detail }
-}
-
 /// Whether an ask is permitted in every session that isn't over and has asks left: a READ or WRITE of
 /// the client's connection, a NOTE or a FINISH.
 pub(crate) fn is_common(ask: &Ask) -> bool
@@ -71,9 +63,9 @@ fn judge_frame(requests: u32, seat: Seat, ask: &Ask) -> Option<Decision>
     ensures { result ≡ frame_verdict requests seat ask.now }
 {
     if seat.session == 0 || seat.over {
-        Some(deny(rules::NOT_IN_PHASE, ask.number()))
+        Some(Decision::deny(rules::NOT_IN_PHASE, ask.number()))
     } else if seat.asks == requests {
-        Some(deny(rules::ASKS_SPENT, requests))
+        Some(Decision::deny(rules::ASKS_SPENT, requests))
     } else if is_common(ask) {
         Some(Decision::Permit { value: 0 })
     } else {
@@ -90,7 +82,7 @@ fn judge_opening(opened: u32, seat: Seat) -> Decision
             value: u64::from(opened) + 1,
         }
     } else {
-        deny(rules::NOT_IN_PHASE, 0)
+        Decision::deny(rules::NOT_IN_PHASE, 0)
     }
 }
 
@@ -99,7 +91,7 @@ fn judge_end(seat: Seat) -> Decision
     ensures { result ≡ closing_decision seat.session }
 {
     if seat.session == 0 {
-        deny(rules::NOT_IN_PHASE, 0)
+        Decision::deny(rules::NOT_IN_PHASE, 0)
     } else {
         Decision::Permit { value: 0 }
     }

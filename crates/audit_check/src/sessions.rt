@@ -1,9 +1,9 @@
 //! What a worker's open session did, by the worker's events since it was opened.
 
 ghost use Rattle.std.specs.Prelude.{◌≡◌, ◌≢◌, ◌<◌, ◌&&◌, ◌==◌, Some, length, if◌then◌else◌};
-ghost use Rattle.policy_model.specs.Asks.{accepts, takes};
+ghost use Rattle.policy_model.specs.Asks.{takes};
 ghost use Rattle.policy_model.specs.Journal.{is_own, last_event, open_session_of};
-ghost use Rattle.policy_model.specs.Logins.{challenged_user, is_decoy, user_named, verified_user};
+ghost use Rattle.policy_model.specs.Logins.{is_decoy, user_named};
 ghost use Rattle.policy_model.specs.Settings.{Settings};
 ghost use Rattle.audit_check.specs.Following.{IsRecent};
 ghost use Rattle.audit_check.specs.History.{IsKept};
@@ -70,34 +70,4 @@ pub(crate) fn login_of(history: &History, worker: u32) -> Option<Event>
 {
     let recent = recent(history, worker);
     last_taking(recent, open_session(recent, worker))
-}
-
-/// The user of the session's last permitted CHALLENGE.
-#[tactic(auto, unfolding(policy_model::specs::Logins::challenged_user))]
-fn challenged_user(events: &[Event], session: u32) -> Option<Name>
-    ensures { result ≡ challenged_user events.now session }
-{
-    user_named(&last_taking(events, session))
-}
-
-/// The verified user after one more event.
-fn verified_after(user: Option<Name>, before: &[Event], event: &Event, session: u32) -> Option<Name>
-    ensures { result ≡ (if is_own session accepts event.now then challenged_user before.now session else user) }
-{
-    if event.session == session && event.accepts() {
-        challenged_user(before, session)
-    } else {
-        user
-    }
-}
-
-/// The user that the session is logged in as.
-pub(crate) fn verified_user(events: &[Event], session: u32) -> Option<Name>
-    ensures { result ≡ verified_user events.now session }
-{
-    let mut user = None;
-    for (i, event) in events.iter().enumerate() {
-        user = verified_after(user, &events[..i], event, session);
-    }
-    user
 }

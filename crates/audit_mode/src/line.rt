@@ -22,10 +22,7 @@ pub(crate) fn answer_line(alloc: Global, answer: Audit) -> Result<String, AllocE
 fn yes_line(alloc: Global, events: u32) -> Result<String, AllocError>
     ensures { IfOk result (λ line. string_bytes line ≡ codes "yes " ++ decimal events ++ codes "\n") }
 {
-    let mut line = String::from_str(alloc, "yes ")?;
-    line.push_str(digits_of(alloc, events)?.as_str())?;
-    line.push_str("\n")?;
-    Ok(line)
+    format!(in alloc; "yes {events}\n")
 }
 
 /// The line of a log that is not legal.
@@ -34,18 +31,11 @@ fn no_line(alloc: Global, place: u32, why: AuditWhy) -> Result<String, AllocErro
         ≡ codes "no " ++ decimal place ++ codes " " ++ why_word why ++ codes "\n") }
 {
     let mut line = String::from_str(alloc, "no ")?;
-    line.push_str(digits_of(alloc, place)?.as_str())?;
+    line.push_str(place.to_string(alloc)?.as_str())?;
     line.push_str(" ")?;
     line.push_str(why_word(why))?;
     line.push_str("\n")?;
     Ok(line)
-}
-
-/// The decimal digits of a number.
-fn digits_of(alloc: Global, number: u32) -> Result<String, AllocError>
-    ensures { IfOk result (λ text. string_bytes text ≡ decimal number) }
-{
-    number.to_string(alloc)
 }
 
 /// A fault of a log as it is spelled.

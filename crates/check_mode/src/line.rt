@@ -30,9 +30,9 @@ fn right_line(alloc: Global, accounts: usize, workers: u32) -> Result<String, Al
         ++ codes " workers " ++ decimal workers ++ codes "\n") }
 {
     let mut line = String::from_str(alloc, "ok accounts ")?;
-    line.push_str(digits_of(alloc, accounts as u64)?.as_str())?;
+    line.push_str(accounts.to_string(alloc)?.as_str())?;
     line.push_str(" workers ")?;
-    line.push_str(digits_of(alloc, u64::from(workers))?.as_str())?;
+    line.push_str(workers.to_string(alloc)?.as_str())?;
     line.push_str("\n")?;
     Ok(line)
 }
@@ -52,18 +52,11 @@ fn refused_words_line(alloc: Global, fault: DictFault) -> Result<String, AllocEr
     ensures { IfOk result (λ line. string_bytes line ≡ line_of (WordsRefused fault)) }
 {
     let mut line = String::from_str(alloc, "refused words ")?;
-    line.push_str(digits_of(alloc, u64::from(fault.line))?.as_str())?;
+    line.push_str(fault.line.to_string(alloc)?.as_str())?;
     line.push_str(" ")?;
     line.push_str(list_rule_word(fault.rule))?;
     line.push_str("\n")?;
     Ok(line)
-}
-
-/// The decimal digits of a number.
-fn digits_of(alloc: Global, number: u64) -> Result<String, AllocError>
-    ensures { IfOk result (λ text. string_bytes text ≡ decimal number) }
-{
-    number.to_string(alloc)
 }
 
 /// A word list's rule as it is spelled.

@@ -1,4 +1,4 @@
--- Inner: the image of a durable log, and the records that it holds.
+-- Believed: the image of a durable log, and the records that it holds.
 use Rattle.std.specs.Prelude.{◌≡◌, ◌≢◌, ℕ, ◌<◌, ◌^◌, List, [], ◌∷◌, ◌++◌, All, codes, length}
 use Rattle.std.specs.Int.{w16, to_le_bytes}
 

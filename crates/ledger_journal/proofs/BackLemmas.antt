@@ -12,7 +12,7 @@ use Rattle.request_catalogue.specs.TextBytes.{name_bytes}
 use Rattle.policy_model.specs.declared.account.Account.{Account}
 use Rattle.policy_model.specs.declared.event.Event.{Event}
 use Rattle.policy_model.specs.Asks.{accepts, decoys_from, value_of}
-use Rattle.policy_model.specs.Logins.{current_password, replies_of}
+use Rattle.policy_model.specs.Logins.{account_after, current_password, replies_of}
 use Rattle.policy_model.specs.Settings.{Settings}
 use Rattle.policy_model.proofs.LoginLemmas.{last_or-some}
 use Rattle.decision_log.specs.Values.{AskValue, LineValue}
@@ -24,7 +24,7 @@ use Rattle.ledger_journal.specs.declared.answer.Recovered.{Recovered}
 use Rattle.ledger_journal.specs.declared.answer.RecoverError.{RecoverError}
 use Rattle.ledger_journal.specs.declared.answer.RecoverError.TheVariants as errors
 use Rattle.ledger_journal.specs.declared.login.Login.{Login}
-use Rattle.ledger_journal.specs.Journals.{IsBackAt, IsRecoveredAs, IsThereAlready, IsWhole, account_after, chain_after, chain_known, records_of}
+use Rattle.ledger_journal.specs.Journals.{IsBackAt, IsRecoveredAs, IsThereAlready, IsWhole, chain_after, chain_known, records_of}
 use Rattle.ledger_journal.specs.Lines.{lines_of}
 use Rattle.ledger_journal.specs.Logins.{Verifies, account_named, account_taken, has_stored, is_number, is_of, is_passed, is_stored, last_taking, left_of, login_by, login_in, logins_after, logins_of, passwords_of}
 use Rattle.ledger_journal.specs.Reads.{IsReadError}

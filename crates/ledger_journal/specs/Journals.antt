@@ -1,4 +1,4 @@
--- Inner: the journals of a run, the records that their lines make, and what recovery from them comes to.
+-- Believed: the journals of a run, the records that their lines make, and what recovery from them comes to.
 use Rattle.std.specs.Prelude.{ℕ, ◌≡◌, ◌≤◌, ◌<◌, ◌+◌, ◌^◌, false, List, [], ◌∷◌, count_by, length, map, Result, Ok, Err}
 use Rattle.std.specs.List.{AllByRecursion, list_any}
 use Rattle.policy_model.specs.declared.account.Account.{Account}
@@ -6,7 +6,7 @@ use Rattle.policy_model.specs.declared.event.Event.{Event}
 use Rattle.policy_model.specs.Asks.{accepts}
 use Rattle.policy_model.specs.Journal.{has_lost}
 use Rattle.policy_model.specs.Legal.{IsLegal}
-use Rattle.policy_model.specs.Logins.{current_password, current_sequence}
+use Rattle.policy_model.specs.Logins.{account_after, current_password, current_sequence}
 use Rattle.policy_model.specs.Runs.{IsProperEvent}
 use Rattle.policy_model.specs.Settings.{IsInRange, Settings}
 use Rattle.decision_log.specs.Log.{line_of}
@@ -48,10 +48,6 @@ pub record IsBackAt (setup : Settings) (journal : List Event) (r : Recovered) : 
   pub accepted : r.accepted ≡ count_by accepts journal
   pub made : r.ledger.setup ≡ setup
   pub chains : map chain_known r.ledger.accounts ≡ map (chain_after journal) setup.accounts
-
--- an account with the sequence and the current password that a journal says
-abbrev pub account_after : List Event → Account → Account
-account_after journal account = record account { sequence = current_sequence journal account; password = current_password journal account }
 
 -- the setup has what the journal says, and the ledger is the setup's own
 pub record IsThereAlready (setup : Settings) (journal : List Event) (r : Recovered) : Type 0 where

@@ -1,4 +1,4 @@
--- Inner: the lines that the records of a log are.
+-- Believed: the lines that the records of a log are.
 use Rattle.std.specs.Prelude.{ℕ, ◌+◌, ◌==◌, List, [], ◌∷◌, ◌++◌, Option, Some, None}
 use Rattle.std.specs.Bool.{then_some}
 use Rattle.std.specs.Option.{option_to_list}

@@ -1,4 +1,4 @@
--- Inner: the accepted replies of a log, which of them the setup has already, and which verify.
+-- Believed: the accepted replies of a log, which of them the setup has already, and which verify.
 use Rattle.std.specs.Prelude.{ℕ, ◌≡◌, ◌<◌, ◌-◌, ◌&&◌, ◌==◌, Bool, true, false, List, [], ◌∷◌, ◌++◌, filter, length, map, nat_lt, position, slice_get, Option, Some, None, if◌then◌else◌}
 use Rattle.std.specs.List.{last_or, list_any}
 use Rattle.std.specs.Option.{option_to_list}

@@ -4,7 +4,8 @@ ghost use Rattle.std.specs.Prelude.{◌≡◌, ◌&&◌, List, ℕ, map, not};
 ghost use Rattle.policy_model.specs.declared.event.Event.{Event};
 ghost use Rattle.policy_model.specs.Settings.{Settings};
 ghost use Rattle.durable_log.specs.Records.{HasRecords};
-ghost use Rattle.ledger_journal.specs.Journals.{IsBackAt, IsRecoveredAs, IsThereAlready, IsWhole, account_after, records_of};
+ghost use Rattle.policy_model.specs.Logins.{account_after};
+ghost use Rattle.ledger_journal.specs.Journals.{IsBackAt, IsRecoveredAs, IsThereAlready, IsWhole, records_of};
 ghost use Rattle.ledger_journal.specs.Reads.{HasBeenRead, IsRead, first_of};
 ghost use Rattle.ledger_journal.specs.Recovering.{IsAnswerOf, IsLogOr, is_none_left};
 

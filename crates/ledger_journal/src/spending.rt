@@ -1,34 +1,16 @@
 //! Replies verified and spent.
 
-ghost use Rattle.std.specs.Prelude.{◌≡◌, ◌≤◌, ◌<◌, ◌+◌, ◌&&◌, ◌∷◌, [], IfErr, IfOk, Some, length, nat_lt};
+ghost use Rattle.std.specs.Prelude.{◌≡◌, ◌≤◌, ◌<◌, ◌+◌, ◌&&◌, ◌∷◌, [], Some, length, nat_lt};
 ghost use Rattle.std.specs.List.{AllByRecursion};
-ghost use Rattle.otp_ledger.specs.Accounts.{state_at, was_accepted};
+ghost use Rattle.otp_ledger.specs.Accounts.{state_at};
 ghost use Rattle.otp_ledger.specs.Decisions.{is_next};
-ghost use Rattle.otp_ledger.specs.Kept.{IsGap, IsHere, IsRising};
 ghost use Rattle.ledger_journal.specs.Reads.{IsWithin};
 ghost use Rattle.ledger_journal.specs.Recovering.{HasAccepted};
 ghost use Rattle.ledger_journal.specs.Spending.{AreSpent, IsOfSetup, IsSpending};
 
 use crate::login::Login;
 use otp_hash::step;
-use otp_ledger::{Kept, Ledger};
-
-/// Where an entry is among the accepted passwords, or where it would go.
-fn search(kept: &[Kept], entry: &Kept) -> Result<usize, usize>
-    requires { IsRising kept.now }
-    ensures found { IfOk result (IsHere kept.now entry.now) }
-    ensures absent { IfErr result (IsGap kept.now entry.now) }
-{
-    kept.binary_search(entry)
-}
-
-/// Whether a password of the account was accepted before.
-fn was_accepted(ledger: &Ledger, account: u32, password: u64) -> bool
-    requires { account < length ledger.now.accounts }
-    ensures { result ≡ was_accepted (state_at ledger.now account) password }
-{
-    search(ledger.kept(), &Kept { account, password }).is_ok()
-}
+use otp_ledger::Ledger;
 
 /// Whether the account has a sequence above 0 and the password is its next one.
 fn verifies(ledger: &Ledger, account: u32, password: u64) -> bool
@@ -40,7 +22,7 @@ fn verifies(ledger: &Ledger, account: u32, password: u64) -> bool
     let current = ledger.current(account);
     current.sequence > 0
         && step(algo, password) == current.password
-        && !was_accepted(ledger, account, password)
+        && !ledger.was_accepted(account, password)
 }
 
 /// Spends a reply where it verifies, and says whether it does.

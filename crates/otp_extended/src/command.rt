@@ -51,14 +51,7 @@ pub fn renewed_line(alloc: Global, user: &Name, sequence: u16) -> Result<Vec<u8>
     let mut line = Vec::from_slice(alloc, b"renewed ")?;
     line.extend_from_slice(user.as_slice())?;
     line.extend_from_slice(b" ")?;
-    line.extend_from_slice(digits_of(alloc, sequence)?.as_bytes())?;
+    line.extend_from_slice(sequence.to_string(alloc)?.as_bytes())?;
     line.extend_from_slice(b"\n")?;
     Ok(line)
-}
-
-/// The decimal digits of a number.
-fn digits_of(alloc: Global, number: u16) -> Result<String, AllocError>
-    ensures { IfOk result (λ text. string_bytes text ≡ decimal number) }
-{
-    number.to_string(alloc)
 }

@@ -3,9 +3,10 @@
 ghost use Rattle.std.specs.Prelude.{◌≡◌, ◌∷◌, [], ◌≤◌, IfSome, List, None, ℕ, length};
 ghost use Rattle.std.specs.List.{prefix_len};
 ghost use Rattle.std.specs.Option.{IsSomeAnd};
-ghost use Rattle.otp_words.specs.Blanks.{is_blank, is_no_blank};
 ghost use Rattle.otp_extended.specs.Parts.{parts_of};
 ghost use Rattle.otp_extended.specs.Inner.{HasPieces, IsCutAtBlanks, is_no_colon};
+
+use otp_words::{gap_len, word_len};
 
 /// A text in two pieces, without what stood between them.
 #[derive(Clone, Copy)]
@@ -45,25 +46,4 @@ pub(crate) fn cut_at_blanks(text: &[u8]) -> Option<Pieces<'_>>
         return None;
     }
     Some(Pieces { front, rest })
-}
-
-/// The number of bytes before the first space or tab.
-fn word_len(text: &[u8]) -> usize
-    ensures { result ≡ prefix_len is_no_blank text.now }
-{
-    text.iter().take_while(|byte| !is_blank(**byte)).count()
-}
-
-/// The number of spaces and tabs at the front.
-fn gap_len(text: &[u8]) -> usize
-    ensures { result ≡ prefix_len is_blank text.now }
-{
-    text.iter().take_while(|byte| is_blank(**byte)).count()
-}
-
-/// Whether a byte is a space or a tab.
-fn is_blank(byte: u8) -> bool
-    ensures { result ≡ is_blank byte }
-{
-    matches!(byte, b' ' | b'\t')
 }

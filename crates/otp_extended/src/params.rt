@@ -13,6 +13,7 @@ ghost use Rattle.otp_extended.specs.Inner.{AreWords, AreWordsOf, HasParams};
 
 use crate::cutting::cut_at_blanks;
 use otp_hash::{Algo, Seed};
+use otp_mode::are_digits;
 
 /// The most digits of a number.
 const DIGITS_MAX: usize = 4;
@@ -95,13 +96,6 @@ fn sequence_of(digits: &[u8]) -> Option<u16>
         return None;
     }
     Some(number)
-}
-
-/// Whether all bytes are ASCII digits.
-fn are_digits(word: &[u8]) -> bool
-    ensures { result ≡ list_all is_ascii_digit word.now }
-{
-    word.iter().all(|byte| byte.is_ascii_digit())
 }
 
 /// The number of at most four decimal digits.

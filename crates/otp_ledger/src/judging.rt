@@ -9,9 +9,9 @@ ghost use Rattle.otp_ledger.specs.Decisions.{PermitsNext, challenge_decision, is
 ghost use Rattle.otp_ledger.specs.Standing.{IsChallengeVerdict, IsReplyVerdict};
 
 use crate::ledger::Ledger;
-use crate::rows::{AccountRow, is_holder};
+use crate::rows::AccountRow;
 use otp_hash::step;
-use policy_model::{Decision, is_other, is_within};
+use policy_model::{Decision, is_holder, is_other, is_within};
 use request_catalogue::{Name, rules};
 
 impl Ledger {

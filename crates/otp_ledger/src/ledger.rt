@@ -154,7 +154,7 @@ impl Ledger {
     }
 
     /// Whether a password of the account was accepted before.
-    pub(crate) fn was_accepted(&self, account: u32, password: u64) -> bool
+    pub fn was_accepted(&self, account: u32, password: u64) -> bool
         requires { account < length self.now.accounts }
         ensures { result ≡ was_accepted (state_at self.now account) password }
     {

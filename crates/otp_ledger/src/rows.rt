@@ -1,11 +1,10 @@
 //! What is kept of an account besides its accepted passwords.
 
 ghost use Rattle.std.specs.Prelude.{◌≡◌, ◌<◌, length};
-ghost use Rattle.policy_model.specs.Verdict.{is_holder};
 ghost use Rattle.otp_ledger.specs.Rows.{new_row, row_at, rows_holding, rows_releasing, rows_spending};
 
 use otp_hash::Algo;
-use policy_model::Account;
+use policy_model::{Account, is_holder};
 
 /// What is kept of an account.
 #[derive(Clone, Copy, Debug, PartialEq, Eq)]
@@ -38,16 +37,6 @@ pub(crate) fn row_of(account: &Account) -> AccountRow
         taker: 0,
         moment: 0,
         holder: None,
-    }
-}
-
-/// Whether the session holds.
-pub(crate) fn is_holder(session: u32, holder: Option<u32>) -> bool
-    ensures { result ≡ is_holder session holder }
-{
-    match holder {
-        None => false,
-        Some(holder) => holder == session,
     }
 }
 

@@ -102,7 +102,7 @@ fn is_number_word(word: &[u8]) -> bool
 }
 
 /// Whether all bytes are ASCII digits.
-fn are_digits(word: &[u8]) -> bool
+pub fn are_digits(word: &[u8]) -> bool
     ensures { result ≡ list_all is_ascii_digit word.now }
 {
     word.iter().all(|byte| byte.is_ascii_digit())

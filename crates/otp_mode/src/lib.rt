@@ -7,7 +7,7 @@ mod phrase;
 mod printing;
 mod run;
 
-pub use command::{OtpCommand, read_otp_command};
+pub use command::{OtpCommand, are_digits, read_otp_command};
 pub use fault::OtpFault;
 pub use phrase::first_line;
 pub use run::run_otp;

@@ -13,6 +13,7 @@ mod reading;
 mod spellings;
 mod words;
 
+pub use blanks::{gap_len, word_len};
 pub use challenge::challenge_text;
 pub use challenge_reading::{Challenge, Unreadable, read_challenge};
 pub use dictionary::Dictionary;

@@ -1,13 +1,11 @@
 //! Passwords in six words of a dictionary.
 
 ghost use Rattle.std.specs.Prelude.{◌≡◌, ℕ, ◌+◌, ◌-◌, ◌*◌, ◌^◌, ◌<◌, ◌≤◌, ◌++◌, List, Some, IfSome, length, take, drop, fold};
-ghost use Rattle.std.specs.List.{prefix_len};
-ghost use Rattle.otp_words.specs.Blanks.{is_no_blank};
 ghost use Rattle.otp_words.specs.Digits.{digits_of, number_of};
 ghost use Rattle.otp_words.specs.Dictionaries.{IsDictionary};
 ghost use Rattle.otp_words.specs.Words.{check_bits, checked, spaced, words_at, words_text, IsWords, IsSixWords};
 
-use crate::blanks::{gap_len, is_blank};
+use crate::blanks::{gap_len, word_len};
 use crate::dictionary::Dictionary;
 use crate::digits::digit;
 
@@ -100,11 +98,4 @@ fn number_behind(dictionary: &Dictionary, text: &[u8], count: u32, front: u128) 
         return None;
     }
     number_behind(dictionary, rest, count - 1, number)
-}
-
-/// The number of bytes before the first space or tab.
-fn word_len(text: &[u8]) -> usize
-    ensures { result ≡ prefix_len is_no_blank text.now }
-{
-    text.iter().take_while(|byte| !is_blank(**byte)).count()
 }

@@ -89,6 +89,10 @@ current_password journal account = unwrap_or (last_or None (accepted_of journal 
 abbrev pub current_sequence : List Event → Account → ℕ
 current_sequence journal account = account.sequence - length (replies_of journal account.name)
 
+-- an account with the sequence and the password that a journal says of it
+abbrev pub account_after : List Event → Account → Account
+account_after journal account = record account { sequence = current_sequence journal account; password = current_password journal account }
+
 -- a password was accepted before
 abbrev pub was_accepted : List Event → Account → ℕ → Bool
 was_accepted journal account password = list_any (nat_eq password) (accepted_of journal account)

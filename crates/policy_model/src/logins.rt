@@ -48,7 +48,7 @@ fn verified_after(user: Option<Name>, before: &[Event], event: &Event, session: 
 }
 
 /// The user that the session is logged in as.
-pub(crate) fn verified_user(journal: &[Event], session: u32) -> Option<Name>
+pub fn verified_user(journal: &[Event], session: u32) -> Option<Name>
     ensures { result ≡ verified_user journal.now session }
 {
     let mut user = None;

@@ -66,7 +66,7 @@ impl Ask {
 
 impl Decision {
     /// A denial by a rule, of those in `request_catalogue::rules`.
-    pub(crate) fn deny(rule: u8, detail: u32) -> Decision
+    pub fn deny(rule: u8, detail: u32) -> Decision
         ensures { result ≡ Deny rule detail }
     {
         Decision::Deny { rule, detail }

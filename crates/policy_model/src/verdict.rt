@@ -167,7 +167,7 @@ fn judge_readings(
 }
 
 /// Whether the session holds.
-fn is_holder(session: u32, holder: Option<u32>) -> bool
+pub fn is_holder(session: u32, holder: Option<u32>) -> bool
     ensures { result ≡ is_holder session holder }
 {
     match holder {
@@ -203,7 +203,7 @@ fn judge_login(
 }
 
 /// Rules 14 and 16 of a REPLY to a decoy.
-fn judge_decoy(words: Option<u64>, hex: Option<u64>) -> Decision
+pub fn judge_decoy(words: Option<u64>, hex: Option<u64>) -> Decision
     ensures { result ≡ decoy_verdict (readings words hex) }
 {
     if words.is_none() && hex.is_none() {
@@ -234,7 +234,7 @@ fn judge_reply(
 }
 
 /// Whether a mode has all that is needed.
-fn allows(mode: u8, needed: u8) -> bool
+pub fn allows(mode: u8, needed: u8) -> bool
     ensures { result ≡ allows mode needed }
 {
     needed & mode == needed

@@ -1,4 +1,3 @@
-mod Once
 mod ReadLemmas
 mod LogLemmas
 mod WriteLemmas

@@ -10,7 +10,8 @@ use Rattle.policy_model.specs.Settings.{Settings}
 use Rattle.otp_ledger.specs.Accounts.{AccountState, new_state}
 use Rattle.account_file.specs.Entries.{entries_of}
 use Rattle.account_file.specs.Setups.{setup_of}
-use Rattle.account_writer.specs.CurrentSetup.{account_after, current_accounts, current_setup, setup_after}
+use Rattle.policy_model.specs.Logins.{account_after}
+use Rattle.account_writer.specs.CurrentSetup.{current_accounts, current_setup, setup_after}
 use Rattle.setup_reading.specs.Read.{setup_in}
 use Rattle.durable_log.specs.Records.{HasRecords}
 use Rattle.ledger_journal.specs.declared.answer.Recovered.{Recovered}
@@ -27,7 +28,7 @@ use Rattle.recover_mode.specs.Outcome.{IsOutcome, Spares}
 use Rattle.recover_mode.specs.Recovering.{AreTexts, AreWritten, IsRefused}
 use Rattle.recover_mode.specs.Returning.{BringsBack, HasRun, HasRunAlready, IsCounted, IsSpelled}
 use Rattle.recover_mode.specs.Words.{RecoverParts}
-use Rattle.recover_mode.proofs.Once.{setup_once}
+use Rattle.account_file.proofs.Once.{setup_once}
 use Rattle.recover_mode.proofs.RunLemmas.{IsOutcome-spares}
 
 -- ---- the accounts

@@ -8,7 +8,8 @@ use Rattle.policy_model.specs.declared.event.Event.{Event}
 use Rattle.policy_model.specs.Settings.{Settings}
 use Rattle.account_file.specs.Entries.{entries_of}
 use Rattle.account_file.specs.Setups.{setup_of}
-use Rattle.account_writer.specs.CurrentSetup.{account_after, current_setup}
+use Rattle.policy_model.specs.Logins.{account_after}
+use Rattle.account_writer.specs.CurrentSetup.{current_setup}
 use Rattle.durable_log.specs.Records.{HasRecords}
 use Rattle.fresh_log.specs.Fresh.{IsFresh}
 use Rattle.ledger_journal.specs.declared.answer.Recovered.{Recovered}

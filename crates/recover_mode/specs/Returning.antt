@@ -6,7 +6,8 @@ use Rattle.policy_model.specs.Asks.{accepts}
 use Rattle.policy_model.specs.Settings.{Settings}
 use Rattle.account_file.specs.Entries.{entries_of}
 use Rattle.account_file.specs.Setups.{setup_of}
-use Rattle.account_writer.specs.CurrentSetup.{account_after, setup_after}
+use Rattle.policy_model.specs.Logins.{account_after}
+use Rattle.account_writer.specs.CurrentSetup.{setup_after}
 use Rattle.setup_reading.specs.Read.{setup_in}
 use Rattle.durable_log.specs.Records.{HasRecords}
 use Rattle.ledger_journal.specs.Journals.{IsWhole, records_of}

@@ -1,7 +1,6 @@
 //! The line that tells what was recovered.
 
 ghost use Rattle.std.specs.Prelude.{◌≡◌, IfOk};
-ghost use Rattle.std.specs.Fmt.{decimal};
 ghost use Rattle.std.specs.String.{string_bytes};
 ghost use Rattle.recover_mode.specs.Lines.{recovery_line};
 
@@ -21,16 +20,9 @@ pub(crate) fn recovery_line(alloc: Global, recovery: Recovery) -> Result<String,
     ensures { IfOk result (λ line. string_bytes line ≡ recovery_line recovery) }
 {
     let mut line = String::from_str(alloc, "recovered lines ")?;
-    line.push_str(digits_of(alloc, recovery.lines)?.as_str())?;
+    line.push_str(recovery.lines.to_string(alloc)?.as_str())?;
     line.push_str(" accepted ")?;
-    line.push_str(digits_of(alloc, recovery.accepted)?.as_str())?;
+    line.push_str(recovery.accepted.to_string(alloc)?.as_str())?;
     line.push_str("\n")?;
     Ok(line)
-}
-
-/// The decimal digits of a number.
-fn digits_of(alloc: Global, number: u32) -> Result<String, AllocError>
-    ensures { IfOk result (λ text. string_bytes text ≡ decimal number) }
-{
-    number.to_string(alloc)
 }

@@ -76,12 +76,39 @@ const FRESH: [u8; 5] = [0x4f, 0x54, 0x4a, 0x31, 0x00];
 const NONE: &[u8] = b"none";
 
 /// A log, the status with the line or the error, and the accounts afterwards.
-const ROWS: [(&str, &str, &str); 5] = [
-    (LOGIN, "0 recovered lines 7 accepted 1", BOB),
-    (TWO, "0 recovered lines 7 accepted 2", BOTH),
-    ("", "0 recovered lines 0 accepted 0", BEFORE),
-    (MISCOUNTED, "13 LogRefused { number: 2 }", BEFORE),
-    (WRONG, "13 LogRefused { number: 3 }", BEFORE),
+#[derive(Clone, Copy)]
+struct Row {
+    log: &'static str,
+    told: &'static str,
+    accounts: &'static str,
+}
+
+const ROWS: [Row; 5] = [
+    Row {
+        log: LOGIN,
+        told: "0 recovered lines 7 accepted 1",
+        accounts: BOB,
+    },
+    Row {
+        log: TWO,
+        told: "0 recovered lines 7 accepted 2",
+        accounts: BOTH,
+    },
+    Row {
+        log: "",
+        told: "0 recovered lines 0 accepted 0",
+        accounts: BEFORE,
+    },
+    Row {
+        log: MISCOUNTED,
+        told: "13 LogRefused { number: 2 }",
+        accounts: BEFORE,
+    },
+    Row {
+        log: WRONG,
+        told: "13 LogRefused { number: 3 }",
+        accounts: BEFORE,
+    },
 ];
 
 /// The image of a log of these lines.
@@ -142,44 +169,57 @@ fn accounts_in(alloc: Global, files: &MemFiles) -> Result<String, Fault> {
     Ok(text)
 }
 
-/// What comes of the mode: the status, and the line or the error with what was sent.
+/// The status, and the line that was sent or the error with what was sent.
+fn told_of(
+    alloc: Global,
+    outcome: Result<Recovery, RecoveryError>,
+    sent: &[u8],
+) -> Result<String, AllocError> {
+    let status = status(outcome);
+    let sent = std::str::from_utf8(sent).unwrap_or("?");
+    match outcome {
+        Ok(_) => format!(in alloc; "{status} {}", sent.trim()),
+        Err(error) => format!(in alloc; "{status} {error:?}{sent}"),
+    }
+}
+
+/// What comes of the mode over these files.
 fn told(alloc: Global, files: &mut MemFiles, log: &str, fails: &[Fail]) -> Result<String, Fault> {
     let command = read_recover_command("recover", &["setup", log]).ok_or("a command")?;
     let mut ends = MemStream::new(alloc, b"unasked", &[7], fails)?;
     let outcome = run_recover(alloc, &command, files, &mut ends);
-    let status = status(outcome);
-    let sent = std::str::from_utf8(ends.sent()).unwrap_or("?");
-    Ok(match outcome {
-        Ok(_) => format!(in alloc; "{status} {}", sent.trim())?,
-        Err(error) => format!(in alloc; "{status} {error:?}{sent}")?,
-    })
+    Ok(told_of(alloc, outcome, ends.sent())?)
 }
 
-/// Whether a log has this outcome and leaves these accounts: the log holds no records behind a recovery,
-/// and both files are as they were behind a refusal.
-fn recovers(alloc: Global, row: (&str, &str, &str)) -> Result<bool, Fault> {
-    let (log, want, accounts) = row;
-    let image = image_of(alloc, log)?;
+/// Whether the log holds no records behind a recovery, and both files are as they were behind a refusal.
+fn stands(alloc: Global, files: &MemFiles, row: &Row, image: &[u8]) -> Result<bool, AllocError> {
+    if row.told.starts_with("0 ") {
+        return holds(alloc, files, "log", &FRESH);
+    }
+    Ok(holds(alloc, files, "log", image)? && holds(alloc, files, "setup", SETUP.as_bytes())?)
+}
+
+/// Whether the files are what a row's log leaves: its accounts, and any other file as it was.
+fn leaves(alloc: Global, files: &MemFiles, row: &Row, image: &[u8]) -> Result<bool, Fault> {
+    Ok(
+        stands(alloc, files, row, image)?
+            && accounts_in(alloc, files)?.as_str() == row.accounts
+            && holds(alloc, files, "other", b"kept")?,
+    )
+}
+
+/// Whether a row's log has its outcome, and leaves what it should.
+fn recovers(alloc: Global, row: &Row) -> Result<bool, Fault> {
+    let image = image_of(alloc, row.log)?;
     let mut files = files_of(alloc, SETUP.as_bytes(), image.as_slice(), &[])?;
     let got = told(alloc, &mut files, "log", &[])?;
-    let stands = if want.starts_with("0 ") {
-        holds(alloc, &files, "log", &FRESH)?
-    } else {
-        holds(alloc, &files, "log", image.as_slice())?
-            && holds(alloc, &files, "setup", SETUP.as_bytes())?
-    };
-    Ok(
-        got.as_str() == want
-            && stands
-            && accounts_in(alloc, &files)?.as_str() == accounts
-            && holds(alloc, &files, "other", b"kept")?,
-    )
+    Ok(got.as_str() == row.told && leaves(alloc, &files, row, image.as_slice())?)
 }
 
 #[test]
 fn logs_and_what_comes_of_them(rt: HostRuntime) -> Result<(), Fault> {
-    for row in ROWS {
-        assert!(rt; recovers(rt.alloc(), row)?, "{}", row.1);
+    for row in &ROWS {
+        assert!(rt; recovers(rt.alloc(), row)?, "{}", row.told);
     }
     Ok(())
 }

@@ -33,7 +33,7 @@ use Rattle.fresh_log.specs.Fresh.{IsFresh}
 use Rattle.serve_mode.specs.Services.{IsServedBy, IsServiceOf, IsUnfresh, plain_service}
 use Rattle.serve_mode.specs.Steps.{IsUnready, WritesBack, WritesNamed, run_end}
 use Rattle.serve_mode.specs.Words.{Named, Plain, Source}
-use Rattle.serve_mode.proofs.Once.{service_still}
+use Rattle.serve_mode.proofs.StillLemmas.{service_still}
 
 -- ---- the end of a run
 

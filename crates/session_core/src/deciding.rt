@@ -3,13 +3,11 @@
 ghost use Rattle.std.specs.Prelude.{◌≡◌, ◌<◌, IfSome, length, nat_eq};
 ghost use Rattle.std.specs.List.{list_any};
 ghost use Rattle.std.specs.Option.{option_copied};
-ghost use Rattle.policy_model.specs.declared.event.Decision.TheVariants.{Deny};
-ghost use Rattle.policy_model.specs.Verdict.{decoy_verdict, readings};
 ghost use Rattle.session_core.specs.Deciding.{account_at, challenge_by, idle_worker_decision, info_by, kind_by, open_by, open_worker_decision, reply_by, sequence_at, worker_decision};
 ghost use Rattle.session_table.specs.Tables.{row_at};
 
 use otp_ledger::Ledger;
-use policy_model::{Ask, Decision, Setup};
+use policy_model::{Ask, Decision, Setup, judge_decoy};
 use request_catalogue::{Label, Name, rules};
 use session_table::{SessionRow, Table};
 
@@ -17,13 +15,6 @@ use session_table::{SessionRow, Table};
 const READ: u8 = 1;
 
 const WRITE: u8 = 2;
-
-/// A denial by a rule.
-fn deny(rule: u8, detail: u32) -> Decision
-    ensures { result ≡ Deny rule detail }
-{
-    Decision::Deny { rule, detail }
-}
 
 /// The number of the account that a session is challenged for, none for a decoy.
 fn account_at(ledger: &Ledger, row: &SessionRow) -> Option<u32>
@@ -40,20 +31,9 @@ fn judge_challenge(ledger: &Ledger, row: &SessionRow, user: &Name, now: u64) -> 
 {
     let tries = ledger.setup().parts().tries;
     if row.tries >= tries {
-        return deny(rules::TRIES_SPENT, tries);
+        return Decision::deny(rules::TRIES_SPENT, tries);
     }
     ledger.judge_challenge(user, row.session, now)
-}
-
-/// Rules 14 and 16 of a REPLY to a decoy.
-fn judge_decoy(words: Option<u64>, hex: Option<u64>) -> Decision
-    ensures { result ≡ decoy_verdict (readings words hex) }
-{
-    if words.is_none() && hex.is_none() {
-        deny(rules::NO_READING, 0)
-    } else {
-        deny(rules::NO_MATCH, 0)
-    }
 }
 
 /// Rules 13 to 16 of a REPLY.
@@ -72,7 +52,7 @@ fn judge_open(ledger: &Ledger, row: &SessionRow, mode: u8, name: &Label) -> Deci
 {
     let accounts = ledger.setup().parts().accounts.as_slice();
     match accounts.get(row.account as usize) {
-        None => deny(rules::NOT_GRANTED, 0),
+        None => Decision::deny(rules::NOT_GRANTED, 0),
         Some(account) => row.handles.judge_open(&account.grants, mode, name),
     }
 }
@@ -100,7 +80,7 @@ fn judge_info(ledger: &Ledger, row: &SessionRow, number: u32) -> Decision
     ensures { result ≡ info_by ledger.now row.now number }
 {
     if !has_information(ledger.setup(), number) {
-        return deny(rules::NO_INFORMATION, number);
+        return Decision::deny(rules::NO_INFORMATION, number);
     }
     Decision::Permit {
         value: sequence_at(ledger, account_at(ledger, row)),
@@ -131,7 +111,7 @@ fn judge_open_worker(ledger: &Ledger, row: &SessionRow, ask: &Ask) -> Decision
     ensures { result ≡ open_worker_decision ledger.now row.now ask.now }
 {
     match ask {
-        Ask::Begin => deny(rules::NOT_IN_PHASE, 0),
+        Ask::Begin => Decision::deny(rules::NOT_IN_PHASE, 0),
         Ask::End { .. } => Decision::Permit { value: 0 },
         _ => match row.refusal(ledger.setup().requests(), ask) {
             Some(refusal) => refusal,
@@ -148,7 +128,7 @@ fn judge_idle_worker(begun: u32, ask: &Ask) -> Decision
         Ask::Begin => Decision::Permit {
             value: u64::from(begun) + 1,
         },
-        _ => deny(rules::NOT_IN_PHASE, ask.number()),
+        _ => Decision::deny(rules::NOT_IN_PHASE, ask.number()),
     }
 }
 

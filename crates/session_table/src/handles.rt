@@ -4,13 +4,13 @@ ghost use Rattle.std.specs.Prelude.{◌≡◌, ◌≤◌, ◌++◌, ◌∷◌, [
 ghost use Rattle.std.specs.List.{find};
 ghost use Rattle.std.specs.Option.{option_copied};
 ghost use Rattle.policy_model.specs.Settings.{same_label};
-ghost use Rattle.policy_model.specs.Verdict.{allows, grant_verdict};
+ghost use Rattle.policy_model.specs.Verdict.{grant_verdict};
 ghost use Rattle.session_table.specs.Files.{FitsFiles, IsNewHandle, close_decision, file_at, files_after, free_of, is_free, look_of, open_decision, use_decision, without};
 ghost use Rattle.session_table.specs.Standing.{grant_number};
 ghost use Rattle.session_table.specs.Judging.{IsCloseVerdict, IsOpenVerdict, IsUseVerdict};
 
 use arrayvec::ArrayVec;
-use policy_model::{Ask, Decision, Event, Grant, Grants};
+use policy_model::{Ask, Decision, Event, Grant, Grants, allows};
 use request_catalogue::{Label, rules};
 use std::marker::Model;
 
@@ -48,13 +48,6 @@ impl Model for Handles {
     ghost view = { λ h. h.live.items };
 
     ghost invariant = { λ h. AreHandles h.live.items };
-}
-
-/// Whether a mode has all that is needed.
-fn allows(mode: u8, needed: u8) -> bool
-    ensures { result ≡ allows mode needed }
-{
-    needed & mode == needed
 }
 
 /// The grant of a file's name.

@@ -1,20 +1,12 @@
 //! The rules that come before those of a request's own kind: 1 to 7.
 
 ghost use Rattle.std.specs.Prelude.{◌≡◌};
-ghost use Rattle.policy_model.specs.declared.event.Decision.TheVariants.{Deny};
 ghost use Rattle.session_laws.specs.Judged.{is_over_phase};
 ghost use Rattle.session_table.specs.Judging.{IsRefusal, kind_refusal, refusal_of};
 
 use crate::rows::SessionRow;
 use policy_model::{Ask, Decision, Phase, row};
 use request_catalogue::{Kind, rules};
-
-/// A denial by a rule, of those in `request_catalogue::rules`.
-fn deny(rule: u8, detail: u32) -> Decision
-    ensures { result ≡ Deny rule detail }
-{
-    Decision::Deny { rule, detail }
-}
 
 /// Whether no ask is permitted any more.
 fn is_over(phase: Phase) -> bool
@@ -31,9 +23,9 @@ impl SessionRow {
     {
         let cell = row(self.phase, kind);
         if !cell.permitted {
-            Some(deny(rules::NOT_IN_PHASE, ask.number()))
+            Some(Decision::deny(rules::NOT_IN_PHASE, ask.number()))
         } else if cell.once && self.bits.had(kind) {
-            Some(deny(rules::ONCE_ONLY, ask.number()))
+            Some(Decision::deny(rules::ONCE_ONLY, ask.number()))
         } else {
             None
         }
@@ -44,13 +36,13 @@ impl SessionRow {
         ensures { result ≡ refusal_of self.now requests ask.now }
     {
         if is_over(self.phase) {
-            return Some(deny(rules::NOT_IN_PHASE, ask.number()));
+            return Some(Decision::deny(rules::NOT_IN_PHASE, ask.number()));
         }
         if self.asked == requests {
-            return Some(deny(rules::ASKS_SPENT, requests));
+            return Some(Decision::deny(rules::ASKS_SPENT, requests));
         }
         if let Ask::Bad { rule, detail } = *ask {
-            return Some(deny(rule, detail));
+            return Some(Decision::deny(rule, detail));
         }
         match ask.kind() {
             None => None,

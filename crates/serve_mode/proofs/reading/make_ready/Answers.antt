@@ -6,7 +6,7 @@ use Rattle.outside.proofs.Told.{Goes-then}
 use Rattle.serve_mode.specs.declared.error.ServeError.{ServeError}
 use Rattle.serve_mode.specs.Commands.{source_of}
 use Rattle.serve_mode.specs.Steps.{IsUnready}
-use Rattle.serve_mode.proofs.Once.{read_still, unready_log}
+use Rattle.serve_mode.proofs.StillLemmas.{read_still, unready_log}
 use Rattle.serve_mode.proofs.Promises.{same_through}
 use Rattle.serve_mode.proofs.reading.make_ready.Goals as goal
 

@@ -1,17 +1,14 @@
--- A file spells one setup: what a file says of two setups is the same only where they are the same.
-use Rattle.std.proofs.Common.{◌≡◌, ℕ, ◌≤◌, arith, true, List, [], ◌∷◌, map, Option, Some, None, Result, Ok, refl, sym, ap, subst, ◌∙◌}
+-- What files say of a service, they say as long as they stay the same.
+use Rattle.std.proofs.Common.{◌≡◌, ℕ, ◌≤◌, arith, true, List, Option, Some, None, Result, Ok, refl, sym, ap, subst, ◌∙◌}
 use Rattle.std.specs.Prelude.{IfSome, is_ok, is_some}
-use Rattle.request_catalogue.proofs.TextLemmas.{same_from_label_bytes, same_from_name_bytes}
-use Rattle.otp_hash.proofs.SeedLemmas.{same_from_seed_bytes}
 use Rattle.info_hooks.specs.declared.key.Key.{Key}
 use Rattle.outside.specs.Files.{Contents, SameFiles}
 use Rattle.outside.specs.Told.{Goes, Rose}
 use Rattle.outside.proofs.Told.{Rose-within}
-use Rattle.policy_model.specs.declared.account.Account.{Account}
-use Rattle.policy_model.specs.declared.account.Grant.{Grant}
 use Rattle.policy_model.specs.Settings.{Settings}
 use Rattle.service_model.specs.Service.{Service}
-use Rattle.account_file.specs.Entries.{AccountEntry, GrantEntry, SetupEntries, account_entry, entries_of, grant_entry}
+use Rattle.account_file.specs.Entries.{entries_of}
+use Rattle.account_file.proofs.Once.{setup_once}
 use Rattle.service_reading.specs.declared.error.ServiceError.{ServiceError}
 use Rattle.service_reading.specs.Found.{FoundService, IsServiceIn, service_in}
 use Rattle.fresh_log.specs.Fresh.{IsFresh}
@@ -21,60 +18,6 @@ use Rattle.serve_mode.specs.declared.error.ServeError.TheVariants as errors
 use Rattle.serve_mode.specs.Services.{HasFreshLog, IsServedBy, IsServiceOf, IsUnfresh}
 use Rattle.serve_mode.specs.Steps.{IsLogRefused, IsReadFrom, IsUnready, log_of, service_by}
 use Rattle.serve_mode.specs.Words.{Named, Plain, Source}
-
-map_once : {A B : Type 0} (f : A → B) → ((a b : A) → f a ≡ f b → a ≡ b) → (xs ys : List A) → map f xs ≡ map f ys → xs ≡ ys
-map_once f once [] [] e = refl
-map_once f once [] (y ∷ ys) e = absurd cc
-map_once f once (x ∷ xs) [] e = absurd cc
-map_once f once (x ∷ xs) (y ∷ ys) e =
-    let first : f x ≡ f y = cc in
-    let rest : map f xs ≡ map f ys = cc in
-    let p = once x y first in
-    let q = map_once f once xs ys rest in
-    λ i. p i ∷ q i
-
-grant_once : (a b : Grant) → grant_entry a ≡ grant_entry b → a ≡ b
-grant_once a b e =
-    let name = same_from_label_bytes a.name b.name (ap (λ (g : GrantEntry). g.name) e) in
-    let mode = ap (λ (g : GrantEntry). g.mode) e in
-    λ i. record { name = name i; mode = mode i }
-
-account_once : (a b : Account) → account_entry a ≡ account_entry b → a ≡ b
-account_once a b e =
-    let name = same_from_name_bytes a.name b.name (ap (λ (x : AccountEntry). x.name) e) in
-    let seed = same_from_seed_bytes a.seed b.seed (ap (λ (x : AccountEntry). x.seed) e) in
-    let grants = map_once grant_entry grant_once a.grants b.grants (ap (λ (x : AccountEntry). x.grants) e) in
-    λ i. record {
-      name = name i;
-      uid = (e i).uid;
-      algo = (e i).algo;
-      seed = seed i;
-      sequence = (e i).sequence;
-      password = (e i).password;
-      enabled = (e i).enabled;
-      grants = grants i;
-    }
-
-pub setup_once : (a b : Settings) → entries_of a ≡ entries_of b → a ≡ b
-setup_once a b e =
-    let salt = same_from_seed_bytes a.salt b.salt (ap (λ (x : SetupEntries). x.salt) e) in
-    let accounts = map_once account_entry account_once a.accounts b.accounts (ap (λ (x : SetupEntries). x.accounts) e) in
-    λ i. record {
-      socket = (e i).texts.socket;
-      launcher = (e i).texts.launcher;
-      vault = (e i).texts.vault;
-      words = (e i).texts.words;
-      banner = (e i).texts.banner;
-      salt = salt i;
-      frames = (e i).frames;
-      workers = (e i).counts.workers;
-      connections = (e i).counts.connections;
-      requests = (e i).counts.requests;
-      tries = (e i).counts.tries;
-      hold = (e i).counts.hold;
-      info = (e i).info;
-      accounts = accounts i;
-    }
 
 -- what files say of a service they say of those that they are still the same as
 pub service_still : (forms : List Key) (files later : Contents) (name : List ℕ) → SameFiles files later → service_in forms later name ≡ service_in forms files name
