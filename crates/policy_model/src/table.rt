@@ -10,16 +10,38 @@ use request_catalogue::Kind;
 pub fn row(phase: Phase, kind: Kind) -> Row
     ensures { result ≡ table_row phase kind }
 {
-    match (phase, kind) {
-        (Phase::Over, _) => Row::NONE,
-        (_, Kind::ReadAt | Kind::WriteAt | Kind::Note | Kind::Finish) => Row::FREE,
-        (Phase::Pre | Phase::Challenged, Kind::Banner) => Row::ONCE,
-        (Phase::Pre, Kind::Challenge) => Row::FREE,
-        (Phase::Challenged, Kind::Reply) => Row::DECIDING,
-        (Phase::Challenged, Kind::Abandon) => Row::FREE,
-        (Phase::Verified, Kind::Export) => Row::ONCE,
-        (Phase::User, Kind::Import) => Row::ONCE,
-        (Phase::User, Kind::OpenFile | Kind::CloseFile | Kind::Info) => Row::FREE,
-        _ => Row::NONE,
+    match kind {
+        Kind::ReadAt | Kind::WriteAt | Kind::Note | Kind::Finish => match phase {
+            Phase::Over => Row::NONE,
+            _ => Row::FREE,
+        },
+        Kind::Banner => match phase {
+            Phase::Pre | Phase::Challenged => Row::ONCE,
+            _ => Row::NONE,
+        },
+        Kind::Challenge => match phase {
+            Phase::Pre => Row::FREE,
+            _ => Row::NONE,
+        },
+        Kind::Reply => match phase {
+            Phase::Challenged => Row::DECIDING,
+            _ => Row::NONE,
+        },
+        Kind::Abandon => match phase {
+            Phase::Challenged => Row::FREE,
+            _ => Row::NONE,
+        },
+        Kind::Export => match phase {
+            Phase::Verified => Row::ONCE,
+            _ => Row::NONE,
+        },
+        Kind::Import => match phase {
+            Phase::User => Row::ONCE,
+            _ => Row::NONE,
+        },
+        Kind::OpenFile | Kind::CloseFile | Kind::Info => match phase {
+            Phase::User => Row::FREE,
+            _ => Row::NONE,
+        },
     }
 }
