@@ -1,10 +1,10 @@
 -- What a search in the rising array finds, and what an insertion makes of it.
-use Rattle.std.proofs.Common.{◌≡◌, ℕ, ◌+◌, ◌-◌, ◌<◌, ◌≤◌, Bool, true, false, ◌||◌, List, ◌∷◌, length, get_or, Result, Ok, Err, IfOk, IfErr, is_ok, refl, sym, ap, subst, ◌∙◌, arith, inl, inr, ◌⊎◌}
+use Rattle.std.proofs.Common.{◌≡◌, ℕ, ◌+◌, ◌-◌, ◌*◌, ◌^◌, ◌<◌, ◌≤◌, Bool, true, false, ◌||◌, List, ◌∷◌, length, get_or, Result, Ok, Err, IfOk, IfErr, is_ok, refl, sym, ap, subst, ◌∙◌, arith, inl, inr, ◌⊎◌}
 use Rattle.std.specs.List.{insert}
 use Rattle.std.specs.List.Sorted.{IsBinarySearchResult, IsNonDecreasingBy, IsSearchInRange}
-use Rattle.std.specs.Ordering.{is_eq, is_lt, ordering_index, ordering_reverse}
+use Rattle.std.specs.Ordering.{is_eq, is_lt, nat_cmp, ordering_index, ordering_reverse, ordering_then}
 use Rattle.std.specs.Cmp.{IsTotalOrder}
-use Rattle.std.specs.declared.cmp.Ordering.TheVariants.{Less, Greater}
+use Rattle.std.specs.declared.cmp.Ordering.TheVariants.{Less, Equal, Greater}
 use Rattle.std.proofs.lemmas.Bool.{cases_lt}
 use Rattle.std.proofs.lemmas.Bool.Decides.{nat_tests}
 use Rattle.std.proofs.lemmas.Cmp.{nat_cmp_total, on_total, then_total}
@@ -15,18 +15,34 @@ use Rattle.std.proofs.lemmas.List.Sorted.{IsPermutation-insert, list_any-IsPermu
 use Rattle.otp_ledger.specs.declared.kept.Kept.{Kept}
 use Rattle.otp_ledger.specs.Kept.{IsGap, IsHere, IsRising, has_entry, is_entry, kept_cmp}
 
-kept_total : IsTotalOrder kept_cmp
+pub kept_total : IsTotalOrder kept_cmp
 kept_total = then_total (on_total (λ k. k.account) nat_cmp_total) (on_total (λ k. k.password) nat_cmp_total)
 
-turned : (a b : Kept) → kept_cmp a b ≡ Less → kept_cmp b a ≡ Greater
+-- ranks are compared as accounts are, and where these are the same as passwords are
+pub ranks_cmp : (a b p q : ℕ) → p < 2 ^ 64 → q < 2 ^ 64 → nat_cmp (a * 2 ^ 64 + p) (b * 2 ^ 64 + q) ≡ ordering_then (nat_cmp a b) (nat_cmp p q)
+ranks_cmp a b p q low high = grind (arith, nat_tests, low, high)
+
+pub turned : (a b : Kept) → kept_cmp a b ≡ Less → kept_cmp b a ≡ Greater
 turned a b h = kept_total.antisymm b a ∙ ap ordering_reverse h
 
 turned_back : (a b : Kept) → kept_cmp a b ≡ Greater → kept_cmp b a ≡ Less
 turned_back a b h = kept_total.antisymm b a ∙ ap ordering_reverse h
 
+-- two entries that compare equal are one
+same_entry : (a b : Kept) → kept_cmp a b ≡ Equal → a ≡ b
+same_entry a b h =
+    let account : a.account ≡ b.account = grind (arith, nat_tests) in
+    let password : a.password ≡ b.password = grind (arith, nat_tests) in
+    λ i. record { account = account i; password = password i }
+
 -- the comparisons with an entry rise along the array, as a binary search asks
 searchable : (kept : List Kept) (entry : Kept) → IsRising kept → IsNonDecreasingBy (λ y. ordering_index (kept_cmp y entry)) kept
 searchable kept entry r = searchable_from_sorted kept_total (λ k. k) kept entry (λ k d low lt. ap is_lt (turned (get_or kept k d) (get_or kept (k + 1) d) (r.rises k (k + 1) d (omega arith) lt)))
+
+-- what a search answers
+pub entry_found : (kept : List Kept) (entry : Kept) (r : Result ℕ ℕ) → IsSearchInRange r (length kept) → IsBinarySearchResult (λ y. kept_cmp y entry) kept r → IfOk r (IsHere kept entry)
+entry_found kept entry (Ok i) bound position = record { in_range = bound; same = λ d. same_entry (get_or kept i d) entry (position d) }
+entry_found kept entry (Err i) bound position = tt
 
 -- where a search doesn't find an entry is the gap for it
 pub gap_found : (kept : List Kept) (entry : Kept) (r : Result ℕ ℕ) → IsRising kept → IsSearchInRange r (length kept) → IsBinarySearchResult (λ y. kept_cmp y entry) kept r → IfErr r (IsGap kept entry)
@@ -36,7 +52,7 @@ gap_found kept entry (Err i) rising bound position =
     record { in_range = bound; below = λ k d lt. parts.0 k d (omega arith) lt; above = λ k d le lt. parts.1 k d le lt }
 
 -- an entry is this one where both compare equal
-entry_is : (k entry : Kept) → is_entry entry.account entry.password k ≡ is_eq (kept_cmp k entry)
+pub entry_is : (k entry : Kept) → is_entry entry.account entry.password k ≡ is_eq (kept_cmp k entry)
 entry_is k entry = grind (arith, nat_tests)
 
 here_is : (kept : List Kept) (entry : Kept) (i : ℕ) → IsHere kept entry i → has_entry entry.account entry.password kept ≡ true

@@ -26,6 +26,14 @@ pub record IsGap (kept : List Kept) (entry : Kept) (i : ℕ) : Type 0 where
   pub below : (k : ℕ) (d : Kept) → k < i → kept_cmp (slice_index_or kept k d) entry ≡ Less
   pub above : (k : ℕ) (d : Kept) → i ≤ k → k < length kept → kept_cmp (slice_index_or kept k d) entry ≡ Greater
 
+-- all entries before a place are below an entry
+pub record IsStart (kept : List Kept) (first : ℕ) (entry : Kept) : Type 0 where
+  pub below : (k : ℕ) (d : Kept) → k < first → kept_cmp (slice_index_or kept k d) entry ≡ Less
+
+-- all entries from a place on are above an entry
+pub record IsStop (kept : List Kept) (end : ℕ) (entry : Kept) : Type 0 where
+  pub above : (k : ℕ) (d : Kept) → end ≤ k → k < length kept → kept_cmp (slice_index_or kept k d) entry ≡ Greater
+
 -- an entry of an account with a password
 abbrev pub is_entry : ℕ → ℕ → Kept → Bool
 is_entry account password k = k.account == account && k.password == password

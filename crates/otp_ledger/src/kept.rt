@@ -1,8 +1,11 @@
 //! The accepted passwords of all accounts, in one rising array.
 
-ghost use Rattle.std.specs.Prelude.{◌≡◌, ◌<◌, ◌≤◌, ◌+◌, IfErr, IfOk, vec_capacity, vec_len};
+ghost use Rattle.std.specs.Prelude.{◌≡◌, ◌<◌, ◌≤◌, ◌+◌, ◌*◌, ◌^◌, IfErr, IfOk, vec_capacity, vec_len};
 ghost use Rattle.std.specs.List.{insert};
-ghost use Rattle.otp_ledger.specs.Kept.{AddsEntry, IsGap, IsHere, IsRising, has_entry};
+ghost use Rattle.std.specs.Ordering.{is_lt};
+ghost use Rattle.otp_ledger.specs.Kept.{AddsEntry, IsGap, IsHere, IsRising, has_entry, kept_cmp};
+
+use std::cmp::Ordering;
 
 /// A password of an account that was accepted.
 #[derive(Clone, Copy, Debug, PartialEq, Eq, PartialOrd, Ord)]
@@ -13,13 +16,39 @@ pub struct Kept {
     pub password: u64,
 }
 
+/// How many passwords there are.
+const PASSWORDS: u128 = 1 << 64;
+
+/// The place of an entry among all that there could be.
+fn rank(entry: &Kept) -> u128
+    ensures value { result ≡ entry.now.account * 2 ^ 64 + entry.now.password }
+    ensures bound { entry.now.password < 2 ^ 64 }
+{
+    u128::from(entry.account) * PASSWORDS + u128::from(entry.password)
+}
+
+/// Entries by account, and then by password. Two numbers are compared without a branch, two fields aren't.
+#[tactic(auto, using(crate::proofs::KeptLemmas::ranks_cmp))]
+fn compare(a: &Kept, b: &Kept) -> Ordering
+    ensures { result ≡ kept_cmp a.now b.now }
+{
+    rank(a).cmp(&rank(b))
+}
+
+/// Whether an entry stands before another.
+pub(crate) fn is_below(a: &Kept, b: &Kept) -> bool
+    ensures { result ≡ is_lt (kept_cmp a.now b.now) }
+{
+    compare(a, b).is_lt()
+}
+
 /// Where an entry is, or where it would go.
 fn search(kept: &[Kept], entry: &Kept) -> Result<usize, usize>
     requires { IsRising kept.now }
     ensures found { IfOk result (IsHere kept.now entry.now) }
     ensures absent { IfErr result (IsGap kept.now entry.now) }
 {
-    kept.binary_search(entry)
+    kept.binary_search_by(|other| compare(other, entry))
 }
 
 /// Whether an entry is there.

@@ -7,8 +7,9 @@ ghost use Rattle.otp_ledger.specs.Kept.{AreEntries, IsRising};
 ghost use Rattle.otp_ledger.specs.Rows.{new_row, state_of};
 ghost use Rattle.otp_ledger.specs.Standing.{IsCurrent, StandsFor, StandsLeft, StandsReplied, StandsTaken};
 
-use crate::kept::{Kept, has_entry, keep};
+use crate::kept::{Kept, keep};
 use crate::names::{Named, names_of, number_of};
+use crate::places::Places;
 use crate::rows::{AccountRow, let_go, renew, row_of, take};
 use policy_model::{Account, Setup};
 use request_catalogue::Name;
@@ -32,6 +33,7 @@ pub struct Ledger {
     names: Vec<Named>,
     rows: Vec<AccountRow>,
     kept: Vec<Kept>,
+    places: Places,
     spent: u32,
     cap: u32,
 }
@@ -94,11 +96,13 @@ impl Ledger {
         let names = names_of(alloc, accounts)?;
         let rows = rows_of(alloc, accounts)?;
         let kept = kept_of(alloc, accounts, cap)?;
+        let places = Places::new(alloc, accounts.len() as u32)?;
         Ok(Ledger {
             setup: setup.copy(alloc)?,
             names,
             rows,
             kept,
+            places,
             spent: 0,
             cap,
         })
@@ -158,7 +162,8 @@ impl Ledger {
         requires { account < length self.now.accounts }
         ensures { result ≡ was_accepted (state_at self.now account) password }
     {
-        has_entry(self.kept.as_slice(), account, password)
+        self.places
+            .has_entry(self.kept.as_slice(), account, password)
     }
 
     /// The account's sequence and the password that was accepted last.
@@ -196,6 +201,7 @@ impl Ledger {
         ensures stands { StandsReplied self.old account password self.new }
     {
         keep(&mut self.kept, Kept { account, password });
+        self.places.shift(account);
         renew(&mut self.rows, account, password);
         self.spent += 1;
     }

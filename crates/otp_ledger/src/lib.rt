@@ -7,6 +7,7 @@ mod judging;
 mod kept;
 mod ledger;
 mod names;
+mod places;
 mod rows;
 
 pub use kept::Kept;
