@@ -166,7 +166,7 @@ fn judge_readings(
     }
 }
 
-/// Whether the session holds.
+/// Whether a session is the one that holds a user, if any does.
 pub fn is_holder(session: u32, holder: Option<u32>) -> bool
     ensures { result ≡ is_holder session holder }
 {
@@ -202,7 +202,8 @@ fn judge_login(
     }
 }
 
-/// Rules 14 and 16 of a REPLY to a decoy.
+/// Rules 14 and 16 of a REPLY to a decoy, by its readings as six words and as hexadecimal digits: it is
+/// denied in any case.
 pub fn judge_decoy(words: Option<u64>, hex: Option<u64>) -> Decision
     ensures { result ≡ decoy_verdict (readings words hex) }
 {
@@ -233,7 +234,7 @@ fn judge_reply(
     }
 }
 
-/// Whether a mode has all that is needed.
+/// Whether the mode of a grant or of an open file has all that is needed: 1 to read, 2 to write, 3 for both.
 pub fn allows(mode: u8, needed: u8) -> bool
     ensures { result ≡ allows mode needed }
 {
