@@ -9,7 +9,7 @@ use Rattle.std.specs.Str.{bytes_eq}
 use Rattle.hex.specs.Hex.{decode_sized}
 use Rattle.toml.specs.Data.{Data, as_str, as_integer, as_bool}
 use Rattle.otp_hash.specs.declared.chain.Algo.{Algo}
-use Rattle.otp_hash.specs.declared.chain.Algo.TheVariants as algos
+use Rattle.otp_hash.specs.Names.{algo_named}
 use Rattle.otp_hash.specs.Seeds.{is_seed_text}
 use Rattle.request_catalogue.specs.declared.width.Width.{Width}
 use Rattle.request_catalogue.specs.declared.width.Width.TheVariants.{Narrow, Wide}
@@ -42,10 +42,6 @@ number_of spot low high value = do
   there ← demand spot rules.Missing value
   number ← demand spot rules.Kind (as_integer there)
   demand spot rules.Range (number_in low high number)
-
--- an algorithm's name
-abbrev pub algo_named : List ℕ → Option Algo
-algo_named bytes = option_or (then_some (bytes_eq bytes (codes "md5")) algos.Md5) (then_some (bytes_eq bytes (codes "sha1")) algos.Sha1)
 
 -- an algorithm
 abbrev pub algo_of : Spot → Option Data → Result Algo SetupFault

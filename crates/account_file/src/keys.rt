@@ -6,12 +6,12 @@ ghost use Rattle.policy_model.specs.Settings.{is_text, is_number};
 ghost use Rattle.toml.specs.Data.{get_member};
 ghost use Rattle.toml.specs.View.{view, table_view};
 ghost use Rattle.account_file.specs.Faults.{Reads};
-ghost use Rattle.account_file.specs.Keys.{string_of, text_of, number_in, number_of, algo_named, algo_of, width_named, width_of, seed_of, password_of, truth_of};
+ghost use Rattle.account_file.specs.Keys.{string_of, text_of, number_in, number_of, algo_of, width_named, width_of, seed_of, password_of, truth_of};
 ghost use Rattle.account_file.specs.Trees.{items_of};
 
 use crate::fault::{SetupFault, SetupRule, Spot};
 use hex::FromHex;
-use otp_hash::{Algo, Seed};
+use otp_hash::{Algo, Seed, algo_named};
 use policy_model::is_text;
 use request_catalogue::Width;
 use toml::{Table, Value};
@@ -151,19 +151,6 @@ fn width_named(name: &[u8]) -> Option<Width>
         Some(Width::Narrow)
     } else if name == b"wide".as_slice() {
         Some(Width::Wide)
-    } else {
-        None
-    }
-}
-
-/// The algorithm of a name.
-fn algo_named(name: &[u8]) -> Option<Algo>
-    ensures { result ≡ algo_named name.now }
-{
-    if name == b"md5".as_slice() {
-        Some(Algo::Md5)
-    } else if name == b"sha1".as_slice() {
-        Some(Algo::Sha1)
     } else {
         None
     }

@@ -31,7 +31,7 @@ use Rattle.account_file.specs.Faults.{demand, ◌>>=◌}
 use Rattle.account_file.specs.Keys.{text_of, number_of, algo_of, width_of, seed_of, password_of, truth_of}
 use Rattle.account_file.specs.Trees.{data_of}
 use Rattle.account_file.specs.Trees as trees
-use Rattle.otp_hash.specs.Names.{algo_word}
+use Rattle.otp_hash.specs.Names.{algo_name}
 use Rattle.account_writer.specs.Tables.{width_word, password_text, number}
 
 pub text_read : (spot : Spot) (low high : ℕ) (bytes : List ℕ) → is_text low high bytes ≡ true → text_of spot low high (Some (string bytes)) ≡ Ok bytes
@@ -40,7 +40,7 @@ text_read spot low high bytes legal = ap (λ (b : Bool). demand spot rules.Text 
 pub number_read : (spot : Spot) (low high n : ℕ) → is_number low high n ≡ true → number_of spot low high (Some (number n)) ≡ Ok n
 number_read spot low high n legal = ap (λ (b : Bool). demand spot rules.Range (then_some b n)) legal
 
-pub algo_read : (spot : Spot) (a : Algo) → algo_of spot (Some (string (algo_word a))) ≡ Ok a
+pub algo_read : (spot : Spot) (a : Algo) → algo_of spot (Some (string (algo_name a))) ≡ Ok a
 algo_read spot algos.Md5 = refl
 algo_read spot algos.Sha1 = refl
 

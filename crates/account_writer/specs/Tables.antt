@@ -4,7 +4,7 @@ use Rattle.std.specs.Cmp.Lexicographic.{slice_cmp}
 use Rattle.std.specs.Int.{w64, to_be_bytes}
 use Rattle.std.specs.Ordering.{nat_cmp, match_ordering}
 use Rattle.hex.specs.Hex.{encode_lower}
-use Rattle.otp_hash.specs.Names.{algo_word}
+use Rattle.otp_hash.specs.Names.{algo_name}
 use Rattle.otp_hash.specs.SeedBytes.{seed_bytes}
 use Rattle.request_catalogue.specs.declared.width.Width.{Width}
 use Rattle.request_catalogue.specs.declared.width.Width.TheVariants.{Narrow, Wide}
@@ -49,7 +49,7 @@ account_members a =
     (put_member (codes "password") (string (password_text a.password))
     (put_member (codes "sequence") (number a.sequence)
     (put_member (codes "seed") (string (seed_bytes a.seed))
-    (put_member (codes "algorithm") (string (algo_word a.algo))
+    (put_member (codes "algorithm") (string (algo_name a.algo))
     (put_member (codes "uid") (number a.uid)
     (put_member (codes "name") (string (name_bytes a.name)) no_members)))))))
 

@@ -5,7 +5,7 @@ ghost use Rattle.otp_hash.specs.SeedBytes.{seed_bytes};
 ghost use Rattle.request_catalogue.specs.TextBytes.{label_bytes, name_bytes};
 ghost use Rattle.toml.specs.Data.{string};
 ghost use Rattle.toml.specs.View.{table_view, view};
-ghost use Rattle.otp_hash.specs.Names.{algo_word};
+ghost use Rattle.otp_hash.specs.Names.{algo_name};
 ghost use Rattle.account_writer.specs.Tables.{password_text, put_member, width_word};
 
 use otp_hash::{Algo, Seed};
@@ -57,14 +57,11 @@ pub(crate) fn seed_value(alloc: Global, seed: &Seed) -> Result<Value, AllocError
     text_value(alloc, seed.as_slice())
 }
 
-/// The word of an algorithm as a value.
+/// The name of an algorithm as a value.
 pub(crate) fn algo_value(alloc: Global, algo: Algo) -> Result<Value, AllocError>
-    ensures { IfOk result (λ v. view v ≡ string (algo_word algo)) }
+    ensures { IfOk result (λ v. view v ≡ string (algo_name algo)) }
 {
-    match algo {
-        Algo::Md5 => Value::string(alloc, "md5"),
-        Algo::Sha1 => Value::string(alloc, "sha1"),
-    }
+    Value::string(alloc, algo.name())
 }
 
 /// The word of a width as a value.

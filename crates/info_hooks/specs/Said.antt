@@ -1,9 +1,8 @@
 -- Believed: what a form says of a card.
-use Rattle.std.specs.Prelude.{ℕ, ◌^◌, ◌<◌, List, codes, take}
+use Rattle.std.specs.Prelude.{ℕ, ◌^◌, ◌<◌, List, take}
 use Rattle.std.specs.Fmt.{decimal}
 use Rattle.std.specs.List.{flat_map}
-use Rattle.otp_hash.specs.declared.chain.Algo.{Algo}
-use Rattle.otp_hash.specs.declared.chain.Algo.TheVariants as algos
+use Rattle.otp_hash.specs.Names.{algo_name}
 use Rattle.request_catalogue.specs.TextBytes.{name_bytes}
 use Rattle.info_hooks.specs.declared.card.Card.{Card}
 use Rattle.info_hooks.specs.declared.form.Form.{Form}
@@ -20,17 +19,12 @@ pub record IsCard (card : Card) : Type 0 where
 abbrev pub form_pieces : Form → List Piece
 form_pieces form = take form.len form.pieces
 
--- the name of an algorithm
-abbrev pub algo_text : Algo → List ℕ
-algo_text algos.Md5 = codes "md5"
-algo_text algos.Sha1 = codes "sha1"
-
 -- the text of a piece
 abbrev pub piece_text : Card → Piece → List ℕ
 piece_text card (pieces.Fixed short) = short_bytes short
 piece_text card pieces.Name = name_bytes card.name
 piece_text card pieces.Uid = decimal card.uid
-piece_text card pieces.Algo = algo_text card.algo
+piece_text card pieces.Algo = algo_name card.algo
 piece_text card pieces.Sequence = decimal card.sequence
 
 -- what a form says of a card: its pieces' texts, one behind the other

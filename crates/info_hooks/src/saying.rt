@@ -1,14 +1,13 @@
 //! What a form says of a card.
 
-ghost use Rattle.std.specs.Prelude.{◌≡◌, ◌≤◌, ◌+◌, length};
+ghost use Rattle.std.specs.Prelude.{◌≡◌, ◌≤◌, ◌+◌};
 ghost use Rattle.arrayvec.specs.ArrayVec.{array_vec_len};
 ghost use Rattle.text_line.specs.Writing.{WritesUpTo};
-ghost use Rattle.info_hooks.specs.Said.{algo_text, piece_text, said};
+ghost use Rattle.info_hooks.specs.Said.{piece_text, said};
 ghost use Rattle.info_hooks.specs.Texts.{info_bytes};
 
 use crate::card::{Card, InfoText};
 use crate::form::{Form, Piece};
-use otp_hash::Algo;
 use text_line::{LINE_MAX, Line, put, put_number};
 
 impl Form {
@@ -35,18 +34,7 @@ fn put_piece(line: &mut Line, piece: &Piece, card: &Card)
         Piece::Fixed(text) => put(line, text.as_slice()),
         Piece::Name => put(line, card.name.as_slice()),
         Piece::Uid => put_number(line, card.uid),
-        Piece::Algo => put(line, algo_text(card.algo)),
+        Piece::Algo => put(line, card.algo.name().as_bytes()),
         Piece::Sequence => put_number(line, u32::from(card.sequence)),
-    }
-}
-
-/// The name of an algorithm.
-fn algo_text(algo: Algo) -> &'static [u8]
-    ensures text { result.now ≡ algo_text algo }
-    ensures len { length result.now ≤ 4 }
-{
-    match algo {
-        Algo::Md5 => b"md5",
-        Algo::Sha1 => b"sha1",
     }
 }

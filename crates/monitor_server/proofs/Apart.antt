@@ -7,8 +7,9 @@ use Rattle.std.specs.Str.{bytes_eq}
 use Rattle.std.proofs.lemmas.Bool.{and_parts, leb-true}
 use Rattle.std.proofs.lemmas.Slice.Eq.{bytes_eq-Decides}
 use Rattle.command_line.specs.Words.{plain_words}
+use Rattle.otp_hash.specs.Names.{algo_named}
 use Rattle.otp_hash.specs.Seeds.{is_seed_text}
-use Rattle.otp_mode.specs.Words.{OtpParts, algo_named, is_number_word, number_of_digits, otp_command, parts_of}
+use Rattle.otp_mode.specs.Words.{OtpParts, is_number_word, number_of_digits, otp_command, parts_of}
 use Rattle.check_mode.specs.Words.{check_command}
 use Rattle.child_mode.specs.Words.{ChildParts, child_command}
 use Rattle.audit_mode.specs.Words.{AuditParts, audit_command}

@@ -13,7 +13,7 @@ use Rattle.otp_words.specs.Challenges.{IsNumber}
 use Rattle.otp_words.specs.Inner.{IsRun}
 use Rattle.otp_words.proofs.RunLemmas.{run_cut, run_exact, stops_at}
 use Rattle.otp_extended.specs.Inner.{AreWords, HasPieces, IsCutAtBlanks}
-use Rattle.otp_hash.specs.Names.{algo_word}
+use Rattle.otp_hash.specs.Names.{algo_name}
 use Rattle.otp_extended.specs.Responses.{AreParams}
 
 is_blank-digit : (c : ℕ) → is_ascii_digit c ≡ true → is_blank c ≡ false
@@ -29,7 +29,7 @@ plain_digits (c ∷ cs) e =
     let parts = and_parts (is_ascii_digit c) (list_all is_ascii_digit cs) e in
     rw (is_blank-digit c parts.0) (plain_digits cs parts.1)
 
-plain_word : (algo : Algo) → list_all is_no_blank (algo_word algo) ≡ true
+plain_word : (algo : Algo) → list_all is_no_blank (algo_name algo) ≡ true
 plain_word algos.Md5 = refl
 plain_word algos.Sha1 = refl
 
@@ -51,7 +51,7 @@ seed_stops name legal =
     ap (prefix_len is_blank) (sym (nil name)) ∙ stops_at is_blank is_ascii_alphanumeric name [] is_blank-alphanumeric letters.0 letters.1
 
 -- parameters are cut at their blanks
-pub first_cut : (text : List ℕ) (algo : Algo) (sequence : ℕ) (seed : List ℕ) (is : AreParams text algo sequence seed) → IsCutAtBlanks text (algo_word algo) (is.digits ++ (is.second_gap ++ is.name))
+pub first_cut : (text : List ℕ) (algo : Algo) (sequence : ℕ) (seed : List ℕ) (is : AreParams text algo sequence seed) → IsCutAtBlanks text (algo_name algo) (is.digits ++ (is.second_gap ++ is.name))
 first_cut text algo sequence seed is = record {
   gap = is.gap;
   spelled = is.spelled;
@@ -76,7 +76,7 @@ params_from text word rest digits name algo sequence seed first second words = r
   digits = digits;
   second_gap = second.gap;
   name = name;
-  spelled = first.spelled ∙ ap (λ (w : List ℕ). w ++ (first.gap ++ rest)) words.named ∙ ap (λ (r : List ℕ). algo_word algo ++ (first.gap ++ r)) second.spelled;
+  spelled = first.spelled ∙ ap (λ (w : List ℕ). w ++ (first.gap ++ rest)) words.named ∙ ap (λ (r : List ℕ). algo_name algo ++ (first.gap ++ r)) second.spelled;
   parted = first.parted;
   number = words.number;
   from_one = words.from_one;
@@ -111,12 +111,12 @@ cut_only text front behind gap rest there after n m long front_is behind_is wide
     (second.0, record { front_is = first.0; rest_is = second.1 })
 
 -- the second cut of parameters, in the pieces that the first one gave
-pub pieces_cut : (text word rest : List ℕ) (algo : Algo) (sequence : ℕ) (seed : List ℕ) (is : AreParams text algo sequence seed) → HasPieces (algo_word algo) (is.digits ++ (is.second_gap ++ is.name)) word rest → IsCutAtBlanks rest is.digits is.name
+pub pieces_cut : (text word rest : List ℕ) (algo : Algo) (sequence : ℕ) (seed : List ℕ) (is : AreParams text algo sequence seed) → HasPieces (algo_name algo) (is.digits ++ (is.second_gap ++ is.name)) word rest → IsCutAtBlanks rest is.digits is.name
 pieces_cut text word rest algo sequence seed is pieces =
     subst (λ (r : List ℕ). IsCutAtBlanks r is.digits is.name) (sym pieces.rest_is) (second_cut text algo sequence seed is)
 
 -- the words of parameters, in the pieces that both cuts gave
-pub same_words : (text word rest digits name : List ℕ) (algo : Algo) (sequence : ℕ) (seed : List ℕ) (is : AreParams text algo sequence seed) → HasPieces (algo_word algo) (is.digits ++ (is.second_gap ++ is.name)) word rest → HasPieces is.digits is.name digits name → AreWords word digits name algo sequence seed
+pub same_words : (text word rest digits name : List ℕ) (algo : Algo) (sequence : ℕ) (seed : List ℕ) (is : AreParams text algo sequence seed) → HasPieces (algo_name algo) (is.digits ++ (is.second_gap ++ is.name)) word rest → HasPieces is.digits is.name digits name → AreWords word digits name algo sequence seed
 same_words text word rest digits name algo sequence seed is first second = record {
   named = first.front_is;
   number = subst (λ (d : List ℕ). IsNumber d sequence) (sym second.front_is) is.number;

@@ -10,7 +10,7 @@ use Rattle.otp_words.specs.Blanks.{IsGap, is_blank, is_no_blank}
 use Rattle.otp_extended.specs.declared.params.Params.{Params}
 use Rattle.outside.specs.Link.{Exchanged, Link}
 use Rattle.otp_extended.specs.Lines.{line_of}
-use Rattle.otp_hash.specs.Names.{algo_word}
+use Rattle.otp_hash.specs.Names.{algo_name}
 
 -- a text is cut at its first run of spaces and tabs
 pub record IsCutAtBlanks (text front rest : List ℕ) : Type 0 where
@@ -37,7 +37,7 @@ is_no_colon c = not (c == 58)
 
 -- the three words of parameters
 pub record AreWords (word digits name : List ℕ) (algo : Algo) (sequence : ℕ) (seed : List ℕ) : Type 0 where
-  pub named : word ≡ algo_word algo
+  pub named : word ≡ algo_name algo
   pub number : IsNumber digits sequence
   pub from_one : 1 ≤ sequence
   pub legal : is_seed_text name ≡ true

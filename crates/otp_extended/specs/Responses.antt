@@ -3,7 +3,7 @@ use Rattle.std.specs.Prelude.{ℕ, ◌≡◌, ◌≤◌, ◌<◌, ◌^◌, true,
 use Rattle.std.specs.Char.{to_ascii_lowercase}
 use Rattle.std.specs.Str.{bytes_eq}
 use Rattle.otp_hash.specs.declared.chain.Algo.{Algo}
-use Rattle.otp_hash.specs.Names.{algo_word}
+use Rattle.otp_hash.specs.Names.{algo_name}
 use Rattle.otp_hash.specs.SeedBytes.{seed_bytes}
 use Rattle.otp_hash.specs.Seeds.{is_seed_text}
 use Rattle.otp_words.specs.Blanks.{IsGap}
@@ -47,7 +47,7 @@ pub record AreParams (text : List ℕ) (algo : Algo) (sequence : ℕ) (seed : Li
   pub digits : List ℕ
   pub second_gap : List ℕ
   pub name : List ℕ
-  pub spelled : text ≡ algo_word algo ++ (gap ++ (digits ++ (second_gap ++ name)))
+  pub spelled : text ≡ algo_name algo ++ (gap ++ (digits ++ (second_gap ++ name)))
   pub parted : IsGap gap
   pub number : IsNumber digits sequence
   pub from_one : 1 ≤ sequence

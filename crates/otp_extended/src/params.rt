@@ -7,12 +7,11 @@ ghost use Rattle.std.specs.Option.{IsSomeAnd};
 ghost use Rattle.otp_hash.specs.declared.chain.Algo.{Algo};
 ghost use Rattle.otp_hash.specs.SeedBytes.{seed_bytes};
 ghost use Rattle.otp_words.specs.Challenges.{IsNumber, decimal_value};
-ghost use Rattle.otp_hash.specs.Names.{algo_word};
 ghost use Rattle.otp_extended.specs.Responses.{AreParams};
 ghost use Rattle.otp_extended.specs.Inner.{AreWords, AreWordsOf, HasParams};
 
 use crate::cutting::cut_at_blanks;
-use otp_hash::{Algo, Seed};
+use otp_hash::{Algo, Seed, algo_named};
 use otp_mode::are_digits;
 
 /// The most digits of a number.
@@ -66,20 +65,6 @@ fn params_of(word: &[u8], digits: &[u8], name: &[u8]) -> Option<Params>
         sequence,
         seed,
     })
-}
-
-/// The algorithm that a word names.
-fn algo_named(word: &[u8]) -> Option<Algo>
-    ensures found { IfSome result (λ algo. word.now ≡ algo_word algo) }
-    ensures only { (algo : Algo) → word.now ≡ algo_word algo → result ≡ Some algo }
-{
-    if word == b"md5".as_slice() {
-        Some(Algo::Md5)
-    } else if word == b"sha1".as_slice() {
-        Some(Algo::Sha1)
-    } else {
-        None
-    }
 }
 
 /// The number of one to four digits, where it is 1 to 9,999.

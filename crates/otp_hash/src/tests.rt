@@ -32,3 +32,15 @@ fn seeds(rt: HostRuntime) -> Result<(), Fail> {
     }
     Ok(())
 }
+
+#[test]
+fn names(rt: HostRuntime) -> Result<(), Fail> {
+    assert_eq!(rt; Algo::Md5.name(), "md5");
+    assert_eq!(rt; Algo::Sha1.name(), "sha1");
+    assert_eq!(rt; algo_named(b"md5"), Some(Algo::Md5));
+    assert_eq!(rt; algo_named(b"sha1"), Some(Algo::Sha1));
+    for name in [b"".as_slice(), b"MD5", b"sha", b"md5 "] {
+        assert!(rt; algo_named(name).is_none());
+    }
+    Ok(())
+}

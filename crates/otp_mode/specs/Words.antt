@@ -4,7 +4,7 @@ use Rattle.std.specs.Char.{is_ascii_digit, to_ascii_lowercase}
 use Rattle.std.specs.List.{list_all}
 use Rattle.std.specs.Str.{bytes_eq}
 use Rattle.otp_hash.specs.declared.chain.Algo.{Algo}
-use Rattle.otp_hash.specs.declared.chain.Algo.TheVariants as algos
+use Rattle.otp_hash.specs.Names.{algo_named}
 use Rattle.otp_hash.specs.Seeds.{is_seed_text}
 
 -- what the words ask for: the password of this number in the chain of this seed, by this algorithm,
@@ -14,13 +14,6 @@ pub record OtpParts : Type 0 where
   pub number : ℕ
   pub seed : List ℕ
   pub list : Option (List ℕ)
-
--- the algorithm that a word names
-unfoldable pub algo_named : List ℕ → Option Algo
-algo_named word =
-    if bytes_eq word (codes "md5") then Some algos.Md5
-    else if bytes_eq word (codes "sha1") then Some algos.Sha1
-    else None
 
 -- a number's word: one to four decimal digits
 unfoldable pub is_number_word : List ℕ → Bool

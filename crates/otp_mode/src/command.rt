@@ -6,9 +6,9 @@ ghost use Rattle.std.specs.Char.{is_ascii_digit};
 ghost use Rattle.std.specs.List.{list_all};
 ghost use Rattle.std.specs.Option.{option_copied};
 ghost use Rattle.otp_mode.specs.Command.{command_parts};
-ghost use Rattle.otp_mode.specs.Words.{algo_named, is_number_word, number_of_digits, otp_command, parts_of};
+ghost use Rattle.otp_mode.specs.Words.{is_number_word, number_of_digits, otp_command, parts_of};
 
-use otp_hash::{Algo, Seed};
+use otp_hash::{Algo, Seed, algo_named};
 
 /// The most digits of a number.
 const NUMBER_MAX: usize = 4;
@@ -56,25 +56,13 @@ fn command_of<'a>(
     }
     let number = read_number(number.as_bytes())?;
     let seed = Seed::of(seed.as_bytes())?;
-    let algo = algo_named(algo)?;
+    let algo = algo_named(algo.as_bytes())?;
     Some(OtpCommand {
         algo,
         number,
         seed,
         list,
     })
-}
-
-/// The algorithm that a word names.
-#[tactic(auto, unfolding(crate::specs::Words::algo_named))]
-fn algo_named(word: &str) -> Option<Algo>
-    ensures { result ≡ algo_named word.now }
-{
-    match word {
-        "md5" => Some(Algo::Md5),
-        "sha1" => Some(Algo::Sha1),
-        _ => None,
-    }
 }
 
 /// The number of one to four decimal digits.

@@ -4,7 +4,7 @@ use Rattle.std.proofs.lemmas.List.{take_at, take_rest, drop-drop}
 use lib.Seq.{drop-append-add}
 use Rattle.otp_hash.specs.declared.chain.Algo.{Algo}
 use Rattle.std.specs.Fmt.{decimal}
-use Rattle.otp_words.specs.Challenges.{algo_text, challenge_of}
+use Rattle.otp_words.specs.Challenges.{challenge_word, challenge_of}
 use Rattle.otp_words.specs.Inner.{four_digits, leading_zeros}
 use Rattle.otp_words.proofs.FourDigits.{short_digits-decimal}
 
@@ -34,17 +34,17 @@ challenge_parts : (a d s : List ℕ) → ((((([] ++ a) ++ 32 ∷ []) ++ d) ++ 32
 challenge_parts a d s = simp append_assoc
 
 -- a challenge that is written part by part
-pub challenge_written : (algo : Algo) (n : ℕ) (seed a s before now : List ℕ) (zeros place : ℕ) (digits : List ℕ) → n ≤ 9999 → a ≡ algo_text algo → zeros ≡ leading_zeros n → digits ≡ four_digits n → s ≡ seed → IsWritten (((((([] ++ a) ++ 32 ∷ []) ++ take (4 - zeros) (drop zeros digits)) ++ 32 ∷ []) ++ s) ++ 10 ∷ []) before now place → (now ≡ challenge_of algo n seed ++ drop place before) × (place ≡ length (challenge_of algo n seed))
+pub challenge_written : (algo : Algo) (n : ℕ) (seed a s before now : List ℕ) (zeros place : ℕ) (digits : List ℕ) → n ≤ 9999 → a ≡ challenge_word algo → zeros ≡ leading_zeros n → digits ≡ four_digits n → s ≡ seed → IsWritten (((((([] ++ a) ++ 32 ∷ []) ++ take (4 - zeros) (drop zeros digits)) ++ 32 ∷ []) ++ s) ++ 10 ∷ []) before now place → (now ≡ challenge_of algo n seed ++ drop place before) × (place ≡ length (challenge_of algo n seed))
 unfolding challenge_of
 challenge_written algo n seed a s before now zeros place digits small ea ez ed es is =
     let d : List ℕ = take (4 - zeros) (drop zeros digits) in
     let text : List ℕ = ((((([] ++ a) ++ 32 ∷ []) ++ d) ++ 32 ∷ []) ++ s) ++ 10 ∷ [] in
     let spelled : d ≡ decimal n = ap (λ (z : ℕ). take (4 - z) (drop z digits)) ez ∙ ap (λ (x : List ℕ). take (4 - leading_zeros n) (drop (leading_zeros n) x)) ed ∙ take_rest (four_digits n) (leading_zeros n) ∙ short_digits-decimal n small in
-    let same : a ++ 32 ∷ d ++ 32 ∷ s ++ 10 ∷ [] ≡ algo_text algo ++ 32 ∷ decimal n ++ 32 ∷ seed ++ 10 ∷ [] =
+    let same : a ++ 32 ∷ d ++ 32 ∷ s ++ 10 ∷ [] ≡ challenge_word algo ++ 32 ∷ decimal n ++ 32 ∷ seed ++ 10 ∷ [] =
     ap (λ (x : List ℕ). x ++ 32 ∷ d ++ 32 ∷ s ++ 10 ∷ []) ea
-    ∙ ap (λ (x : List ℕ). algo_text algo ++ 32 ∷ x ++ 32 ∷ s ++ 10 ∷ []) spelled
-    ∙ ap (λ (x : List ℕ). algo_text algo ++ 32 ∷ decimal n ++ 32 ∷ x ++ 10 ∷ []) es in
+    ∙ ap (λ (x : List ℕ). challenge_word algo ++ 32 ∷ x ++ 32 ∷ s ++ 10 ∷ []) spelled
+    ∙ ap (λ (x : List ℕ). challenge_word algo ++ 32 ∷ decimal n ++ 32 ∷ x ++ 10 ∷ []) es in
     let whole = challenge_parts a d s ∙ same in (
-      is.bytes ∙ ap (λ (t : List ℕ). t ++ drop (length text) before) whole ∙ ap (λ (k : ℕ). algo_text algo ++ 32 ∷ decimal n ++ 32 ∷ seed ++ 10 ∷ [] ++ drop k before) (sym is.end),
+      is.bytes ∙ ap (λ (t : List ℕ). t ++ drop (length text) before) whole ∙ ap (λ (k : ℕ). challenge_word algo ++ 32 ∷ decimal n ++ 32 ∷ seed ++ 10 ∷ [] ++ drop k before) (sym is.end),
       is.end ∙ ap length whole,
     )

@@ -5,18 +5,17 @@ use Rattle.std.specs.Fmt.{decimal}
 use Rattle.std.specs.List.{list_all}
 use Rattle.otp_hash.specs.Seeds.{is_seed_text}
 use Rattle.otp_hash.specs.declared.chain.Algo.{Algo}
-use Rattle.otp_hash.specs.declared.chain.Algo.TheVariants as algos
+use Rattle.otp_hash.specs.Names.{algo_name}
 use Rattle.otp_words.specs.Blanks.{IsGap}
 
--- the first word of a challenge
-abbrev pub algo_text : Algo → List ℕ
-algo_text algos.Md5 = codes "otp-md5"
-algo_text algos.Sha1 = codes "otp-sha1"
+-- the first word of a challenge: `otp-` and the algorithm's name
+abbrev pub challenge_word : Algo → List ℕ
+challenge_word algo = codes "otp-" ++ algo_name algo
 
 -- the challenge of an algorithm, a number and a seed: the algorithm's word, the number in decimal
 -- digits and the seed, with a space between, and a newline
 unfoldable pub challenge_of : Algo → ℕ → List ℕ → List ℕ
-challenge_of algo n seed = algo_text algo ++ 32 ∷ decimal n ++ 32 ∷ seed ++ 10 ∷ []
+challenge_of algo n seed = challenge_word algo ++ 32 ∷ decimal n ++ 32 ∷ seed ++ 10 ∷ []
 
 -- the number of decimal digits, leading zeros allowed
 abbrev pub decimal_value : List ℕ → ℕ
@@ -42,7 +41,7 @@ pub record BeginsWithChallenge (text : List ℕ) (algo : Algo) (n : ℕ) (seed :
   pub name : List ℕ
   pub close : ℕ
   pub unread : List ℕ
-  pub spelled : text ≡ algo_text algo ++ (gap ++ (digits ++ (second_gap ++ (name ++ close ∷ unread))))
+  pub spelled : text ≡ challenge_word algo ++ (gap ++ (digits ++ (second_gap ++ (name ++ close ∷ unread))))
   pub parted : IsGap gap
   pub number : IsNumber digits n
   pub parted_again : IsGap second_gap

@@ -2,7 +2,7 @@
 
 ghost use Rattle.std.specs.Prelude.{◌≡◌, ℕ, ◌+◌, ◌≤◌, List, ◌++◌, length, take, drop};
 ghost use Rattle.otp_hash.specs.SeedBytes.{seed_bytes};
-ghost use Rattle.otp_words.specs.Challenges.{algo_text, challenge_of, BeginsWithChallenge};
+ghost use Rattle.otp_words.specs.Challenges.{challenge_word, challenge_of, BeginsWithChallenge};
 ghost use Rattle.otp_words.specs.Inner.{four_digits, leading_zeros};
 
 use otp_hash::{Algo, Seed};
@@ -18,7 +18,7 @@ pub fn challenge_text(algo: Algo, n: u16, seed: &Seed, out: &mut [u8]) -> usize
     ensures written { out.new ≡ challenge_of algo n (seed_bytes seed.now) ++ drop result out.old }
     ensures read_back { (unread : List ℕ) → BeginsWithChallenge (challenge_of algo n (seed_bytes seed.now) ++ unread) algo n (seed_bytes seed.now) result }
 {
-    let at = put(out, 0, algo_text(algo));
+    let at = put(out, 0, challenge_word(algo));
     let at = put(out, at, b" ");
     let digits = four_digits(n);
     let at = put(out, at, &digits[leading_zeros(n)..]);
@@ -28,8 +28,8 @@ pub fn challenge_text(algo: Algo, n: u16, seed: &Seed, out: &mut [u8]) -> usize
 }
 
 /// The first word of a challenge.
-pub fn algo_text(algo: Algo) -> &'static [u8]
-    ensures text { result.now ≡ algo_text algo }
+pub fn challenge_word(algo: Algo) -> &'static [u8]
+    ensures text { result.now ≡ challenge_word algo }
     ensures len { length result.now ≤ 8 }
 {
     match algo {

@@ -6,12 +6,12 @@ ghost use Rattle.std.specs.Char.{is_ascii_digit, is_ascii_alphanumeric};
 ghost use Rattle.std.specs.List.{list_all, prefix_len};
 ghost use Rattle.otp_hash.specs.declared.chain.Algo.{Algo};
 ghost use Rattle.otp_hash.specs.SeedBytes.{seed_bytes};
-ghost use Rattle.otp_words.specs.Challenges.{algo_text, decimal_value, BeginsWithChallenge};
+ghost use Rattle.otp_words.specs.Challenges.{challenge_word, decimal_value, BeginsWithChallenge};
 ghost use Rattle.otp_words.specs.Readings.{HasParts};
 ghost use Rattle.otp_words.specs.Inner.{AreParts, is_closed};
 
 use crate::blanks::gap_len;
-use crate::challenge::algo_text;
+use crate::challenge::challenge_word;
 use otp_hash::{Algo, Seed};
 
 /// The most digits of a challenge's number.
@@ -52,7 +52,7 @@ pub fn read_challenge(text: &[u8]) -> Result<Challenge, Unreadable>
     ensures only { (algo : Algo) (n : ℕ) (seed : List ℕ) (used : ℕ) → BeginsWithChallenge text.now algo n seed used → IsOkAnd result (HasParts algo n seed used) }
 {
     let algo = front_algo(text).ok_or(Unreadable)?;
-    let parts = parts_of(&text[algo_text(algo).len()..]);
+    let parts = parts_of(&text[challenge_word(algo).len()..]);
     if parts.gap.is_empty() || parts.second_gap.is_empty() {
         return Err(Unreadable);
     }
@@ -79,12 +79,12 @@ fn is_closed(rest: &[u8]) -> bool
 
 /// The algorithm whose word a text begins with.
 fn front_algo(text: &[u8]) -> Option<Algo>
-    ensures found { IfSome result (λ a. text.now ≡ algo_text a ++ drop (length (algo_text a)) text.now) }
-    ensures only { (algo : Algo) (rest : List ℕ) → text.now ≡ algo_text algo ++ rest → result ≡ Some algo }
+    ensures found { IfSome result (λ a. text.now ≡ challenge_word a ++ drop (length (challenge_word a)) text.now) }
+    ensures only { (algo : Algo) (rest : List ℕ) → text.now ≡ challenge_word algo ++ rest → result ≡ Some algo }
 {
-    if text.starts_with(algo_text(Algo::Md5)) {
+    if text.starts_with(challenge_word(Algo::Md5)) {
         Some(Algo::Md5)
-    } else if text.starts_with(algo_text(Algo::Sha1)) {
+    } else if text.starts_with(challenge_word(Algo::Sha1)) {
         Some(Algo::Sha1)
     } else {
         None

@@ -3,8 +3,9 @@
 
 ghost use Rattle.std.specs.Prelude.{◌≡◌, ◌++◌, [], codes};
 ghost use Rattle.std.specs.Fmt.{decimal};
+ghost use Rattle.otp_hash.specs.Names.{algo_name};
 ghost use Rattle.info_hooks.specs.declared.card.Card.{Card};
-ghost use Rattle.info_hooks.specs.Said.{IsCard, algo_text, said};
+ghost use Rattle.info_hooks.specs.Said.{IsCard, said};
 ghost use Rattle.info_hooks.specs.Texts.{info_bytes};
 ghost use Rattle.request_catalogue.specs.TextBytes.{name_bytes};
 
@@ -34,7 +35,7 @@ pub fn say_person(card: &Card) -> InfoText
 #[tactic(auto, unfolding(info_hooks::specs::Said::said))]
 /// The algorithm of a user's passwords, and how many are left.
 pub fn chain_form() -> Form
-    ensures { (card : Card) → said result card ≡ codes "algorithm=" ++ (algo_text card.algo ++ (codes " sequence=" ++ (decimal card.sequence ++ []))) }
+    ensures { (card : Card) → said result card ≡ codes "algorithm=" ++ (algo_name card.algo ++ (codes " sequence=" ++ (decimal card.sequence ++ []))) }
 {
     Form::of(&[
         Piece::Fixed(Short::of(b"algorithm=")),
@@ -47,7 +48,7 @@ pub fn chain_form() -> Form
 /// Says the algorithm of a user's passwords, and how many are left.
 pub fn say_chain(card: &Card) -> InfoText
     requires { IsCard card.now }
-    ensures { info_bytes result ≡ codes "algorithm=" ++ (algo_text card.now.algo ++ (codes " sequence=" ++ (decimal card.now.sequence ++ []))) }
+    ensures { info_bytes result ≡ codes "algorithm=" ++ (algo_name card.now.algo ++ (codes " sequence=" ++ (decimal card.now.sequence ++ []))) }
 {
     chain_form().say(card)
 }

@@ -15,7 +15,7 @@ returns-clause-written c =
     let fourth = put_next _ _ out _ _ _ _ third c.put-at-4.ensures.end c.put-at-4.ensures.out in
     let fifth = put_next _ _ out _ _ _ _ fourth c.put-at-5.ensures.end c.put-at-5.ensures.out in
     let last = put_next _ _ out _ _ _ _ fifth c.put.ensures.end c.put.ensures.out in
-    (challenge_written c.args.algo c.args.n (seed_bytes c.args.seed.now) _ _ out _ _ _ _ c.requires.four_digits c.algo_text.ensures.text c.leading_zeros.ensures.zeros c.four_digits-digits.ensures c.as_slice.ensures.bytes last).0
+    (challenge_written c.args.algo c.args.n (seed_bytes c.args.seed.now) _ _ out _ _ _ _ c.requires.four_digits c.challenge_word.ensures.text c.leading_zeros.ensures.zeros c.four_digits-digits.ensures c.as_slice.ensures.bytes last).0
 
 pub returns-clause-len : goal.returns-clause-len
 returns-clause-len c =
@@ -27,7 +27,7 @@ returns-clause-len c =
     let fourth = put_next _ _ out _ _ _ _ third c.put-at-4.ensures.end c.put-at-4.ensures.out in
     let fifth = put_next _ _ out _ _ _ _ fourth c.put-at-5.ensures.end c.put-at-5.ensures.out in
     let last = put_next _ _ out _ _ _ _ fifth c.put.ensures.end c.put.ensures.out in
-    (challenge_written c.args.algo c.args.n (seed_bytes c.args.seed.now) _ _ out _ _ _ _ c.requires.four_digits c.algo_text.ensures.text c.leading_zeros.ensures.zeros c.four_digits-digits.ensures c.as_slice.ensures.bytes last).1
+    (challenge_written c.args.algo c.args.n (seed_bytes c.args.seed.now) _ _ out _ _ _ _ c.requires.four_digits c.challenge_word.ensures.text c.leading_zeros.ensures.zeros c.four_digits-digits.ensures c.as_slice.ensures.bytes last).1
 
 pub returns-clause-read_back : goal.returns-clause-read_back
 returns-clause-read_back c = λ unread.
