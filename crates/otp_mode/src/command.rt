@@ -5,8 +5,9 @@ ghost use Rattle.std.specs.Bool.{then_some};
 ghost use Rattle.std.specs.Char.{is_ascii_digit};
 ghost use Rattle.std.specs.List.{list_all};
 ghost use Rattle.std.specs.Option.{option_copied};
+ghost use Rattle.otp_words.specs.Challenges.{decimal_value};
 ghost use Rattle.otp_mode.specs.Command.{command_parts};
-ghost use Rattle.otp_mode.specs.Words.{is_number_word, number_of_digits, otp_command, parts_of};
+ghost use Rattle.otp_mode.specs.Words.{is_number_word, otp_command, parts_of};
 
 use otp_hash::{Algo, Seed, algo_named};
 
@@ -68,7 +69,7 @@ fn command_of<'a>(
 /// The number of one to four decimal digits.
 #[tactic(auto, unfolding(crate::specs::Words::is_number_word))]
 fn read_number(word: &[u8]) -> Option<u16>
-    ensures value { result ≡ then_some (is_number_word word.now) (number_of_digits word.now) }
+    ensures value { result ≡ then_some (is_number_word word.now) (decimal_value word.now) }
     ensures within { IfSome result (λ n. n ≤ 9999) }
 {
     if !is_number_word(word) {
