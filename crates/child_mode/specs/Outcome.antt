@@ -9,13 +9,13 @@ use Rattle.child_mode.specs.declared.run.ChildRun.TheVariants as runs
 use Rattle.child_mode.specs.Words.{ChildParts}
 
 -- the run is that of the child over its link, and the link failed where it ended so
-pub record IsRun (parts : ChildParts) (end : ChildEnd) (before after : Option Link) (EndsFailed : Type 0) : Type 0 where
+pub record IsEndedRun (parts : ChildParts) (end : ChildEnd) (before after : Option Link) (EndsFailed : Type 0) : Type 0 where
   pub run : HasRun parts.role parts.session end before after
   pub fault : end ≡ ends.LinkFault → EndsFailed
 
 -- what came of the mode, by what the ends told before and after, and whether a call on them failed: a run of the child, or nothing was sent or taken
 abbrev pub IsOutcome : ChildParts → Option Link → Option Link → Type 0 → ChildRun → Type 0
-IsOutcome parts before after EndsFailed (runs.Ended end) = IsRun parts end before after EndsFailed
+IsOutcome parts before after EndsFailed (runs.Ended end) = IsEndedRun parts end before after EndsFailed
 IsOutcome parts before after EndsFailed runs.OutOfMemory = after ≡ before
 
 -- the exit status of a program that ends by what came of the mode

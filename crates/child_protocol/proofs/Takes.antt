@@ -5,7 +5,7 @@ use Rattle.request_catalogue.specs.Replies.{AnswerValue, Done, Denied, Device}
 use Rattle.child_protocol.specs.Lines.{Front, More, TooLong, Line, HasLines, behind_line, behind_lines, front_of}
 use Rattle.child_protocol.specs.Commands.{PreCommand, Terminal, User, Respond, Cancel, Quit, Other, pre_command}
 use Rattle.state_export.specs.Spelling.{state_bytes}
-use Rattle.child_protocol.specs.Exchanges.{Exchange, is_finish, client_bytes, is_text, texts_of, front_at, underway, is_challenged}
+use Rattle.child_protocol.specs.Exchanges.{Exchange, is_finish, client_bytes, sends_text, texts_of, front_at, underway, is_challenged}
 use Rattle.child_protocol.specs.Pre.{say, read_more, denied_text, pre_state, is_quit, pre_request, pre_first, pre_is_last, pre_next, terminal_in, terminal_at}
 use Rattle.child_protocol.specs.Says.{Pre, joined, with_answer}
 use Rattle.child_protocol.specs.Frames.{IsTurn}
@@ -33,7 +33,7 @@ texts_within : (history : List Exchange) → texts_of history ≤ length history
 texts_within [] = omega arith
 texts_within (e ∷ history) =
     let before : texts_of history ≤ length history = texts_within history in
-    elim (is_text e.request) as (λ b. cond b (suc (texts_of history)) (texts_of history) ≤ suc (length history)) [ true ↦ omega arith | false ↦ omega arith ]
+    elim (sends_text e.request) as (λ b. cond b (suc (texts_of history)) (texts_of history) ≤ suc (length history)) [ true ↦ omega arith | false ↦ omega arith ]
 
 asked_put : (history : List Exchange) (request : RequestValue) (turn : Turn) (old new : List ℕ) → pre_next history ≡ Some request → IsTurn (Some request) turn old new → IsTurn (pre_next history) turn old new
 asked_put history request turn old new e put =

@@ -27,15 +27,15 @@ abbrev pub client_bytes : List Exchange → List ℕ
 client_bytes [] = []
 client_bytes (e ∷ before) = with_bytes e.request e.answer (client_bytes before)
 
--- a text to the client
-abbrev pub is_text : RequestValue → Bool
-is_text (WriteAt zero offset bytes) = true
-is_text _ = false
+-- a request that sends a text to the client
+abbrev pub sends_text : RequestValue → Bool
+sends_text (WriteAt zero offset bytes) = true
+sends_text _ = false
 
 -- how many texts the client was sent: a greeting, and then one for each line
 abbrev pub texts_of : List Exchange → ℕ
 texts_of [] = zero
-texts_of (e ∷ before) = cond (is_text e.request) (suc (texts_of before)) (texts_of before)
+texts_of (e ∷ before) = cond (sends_text e.request) (suc (texts_of before)) (texts_of before)
 
 abbrev pub front_at : ℕ → List ℕ → Front
 front_at zero bytes = More

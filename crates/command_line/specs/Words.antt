@@ -15,8 +15,8 @@ are_plain [] = false
 are_plain (mode ∷ further) = not (list_any begins_with_hyphen (mode ∷ further))
 
 -- the words, where there is one and none begins with a hyphen
-abbrev pub plain_words : List (List ℕ) → Option (List (List ℕ))
-plain_words words = then_some (are_plain words) words
+abbrev pub words_without_hyphen : List (List ℕ) → Option (List (List ℕ))
+words_without_hyphen words = then_some (are_plain words) words
 
 -- the words of a command line, in their order
 abbrev pub words_of_line : CommandLine → List (List ℕ)

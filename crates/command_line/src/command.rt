@@ -4,7 +4,7 @@ ghost use Rattle.std.specs.Prelude.{◌≡◌, IfOk, None, Ok, codes, is_some, o
 ghost use Rattle.std.specs.List.{list_any};
 ghost use Rattle.clap.specs.Words.{app_of, first_value, found_of, kind_of};
 ghost use Rattle.command_line.specs.Command.{word_command, words_found};
-ghost use Rattle.command_line.specs.Words.{are_plain, begins_with_hyphen, plain_words, words_of_line};
+ghost use Rattle.command_line.specs.Words.{are_plain, begins_with_hyphen, words_without_hyphen, words_of_line};
 
 use clap::error::ErrorKind;
 use clap::{Arg, ArgAction, ArgMatches, Command, Error};
@@ -29,8 +29,8 @@ pub fn read_command_line<'a>(
     words: &'a [Word],
 ) -> Result<Option<CommandLine<'a>>, AllocError>
     ensures words { IfOk result (λ line.
-        option_map words_of_line line ≡ plain_words words.now) }
-    ensures refused { plain_words words.now ≡ None → result ≡ Ok None }
+        option_map words_of_line line ≡ words_without_hyphen words.now) }
+    ensures refused { words_without_hyphen words.now ≡ None → result ≡ Ok None }
 {
     if !are_plain(words) {
         return Ok(None);

@@ -6,7 +6,7 @@ use Rattle.std.specs.Char.{to_ascii_lowercase}
 use Rattle.std.specs.Str.{bytes_eq}
 use Rattle.std.proofs.lemmas.Bool.{and_parts, leb-true}
 use Rattle.std.proofs.lemmas.Slice.Eq.{bytes_eq-Decides}
-use Rattle.command_line.specs.Words.{plain_words}
+use Rattle.command_line.specs.Words.{words_without_hyphen}
 use Rattle.otp_hash.specs.Names.{algo_named}
 use Rattle.otp_hash.specs.Seeds.{is_seed_text}
 use Rattle.otp_words.specs.Challenges.{decimal_value}
@@ -30,8 +30,8 @@ none_of None never = refl
 none_of (Some a) never = absurd (never a refl)
 
 -- a command has words
-pub spoken : {A : Type 0} (read : List (List ℕ) → Option A) (words : List (List ℕ)) (a : A) → option_and_then read (plain_words words) ≡ Some a → plain_words words ≢ None
-spoken read words a asked none = none-some (option_and_then read (plain_words words)) a (ap (option_and_then read) none) asked
+pub spoken : {A : Type 0} (read : List (List ℕ) → Option A) (words : List (List ℕ)) (a : A) → option_and_then read (words_without_hyphen words) ≡ Some a → words_without_hyphen words ≢ None
+spoken read words a asked none = none-some (option_and_then read (words_without_hyphen words)) a (ap (option_and_then read) none) asked
 
 -- ---- the mode that the first word names
 
@@ -150,11 +150,11 @@ drill_mode_of (mode ∷ word ∷ more ∷ rest) number asked = none-some (drill_
 -- ---- what is asked of one mode is asked of no other
 
 abbrev mode_in : List (List ℕ) → Option Mode
-mode_in words = option_and_then mode_of (plain_words words)
+mode_in words = option_and_then mode_of (words_without_hyphen words)
 
 -- words that ask a mode for something are of that mode
-asked_mode : {A : Type 0} (read : List (List ℕ) → Option A) (mode : Mode) → ((plain : List (List ℕ)) (a : A) → read plain ≡ Some a → mode_of plain ≡ Some mode) → (words : List (List ℕ)) (a : A) → option_and_then read (plain_words words) ≡ Some a → mode_in words ≡ Some mode
-asked_mode read mode of words a = go (plain_words words) where
+asked_mode : {A : Type 0} (read : List (List ℕ) → Option A) (mode : Mode) → ((plain : List (List ℕ)) (a : A) → read plain ≡ Some a → mode_of plain ≡ Some mode) → (words : List (List ℕ)) (a : A) → option_and_then read (words_without_hyphen words) ≡ Some a → mode_in words ≡ Some mode
+asked_mode read mode of words a = go (words_without_hyphen words) where
   go : (o : Option (List (List ℕ))) → option_and_then read o ≡ Some a → option_and_then mode_of o ≡ Some mode
   go None asked = absurd cc
   go (Some plain) asked = of plain a asked
@@ -171,8 +171,8 @@ same_place Drill e = absurd cc
 same_place Recover e = absurd cc
 
 -- so they ask another mode for nothing
-apart : {A : Type 0} (read : List (List ℕ) → Option A) (mode other : Mode) → ((plain : List (List ℕ)) (a : A) → read plain ≡ Some a → mode_of plain ≡ Some mode) → (words : List (List ℕ)) → mode_in words ≡ Some other → (place mode == place other) ≡ false → option_and_then read (plain_words words) ≡ None
-apart read mode other of words is differ = none_of (option_and_then read (plain_words words)) (λ a asked. clash (let e : Some mode ≡ Some other = sym (asked_mode read mode of words a asked) ∙ is in cc)) where
+apart : {A : Type 0} (read : List (List ℕ) → Option A) (mode other : Mode) → ((plain : List (List ℕ)) (a : A) → read plain ≡ Some a → mode_of plain ≡ Some mode) → (words : List (List ℕ)) → mode_in words ≡ Some other → (place mode == place other) ≡ false → option_and_then read (words_without_hyphen words) ≡ None
+apart read mode other of words is differ = none_of (option_and_then read (words_without_hyphen words)) (λ a asked. clash (let e : Some mode ≡ Some other = sym (asked_mode read mode of words a asked) ∙ is in cc)) where
   clash : mode ≡ other → ⊥
   clash same = let e : (place mode == place mode) ≡ false = ap (λ m. place mode == place m) same ∙ differ in same_place mode e
 
@@ -243,7 +243,7 @@ drill_range (mode ∷ word ∷ []) n asked = number_within (decimal_of word) n (
 drill_range (mode ∷ word ∷ more ∷ rest) n asked = none-some (drill_command (mode ∷ word ∷ more ∷ rest)) n refl asked
 
 pub drill_within : (words : List (List ℕ)) (n : ℕ) → asks_drill words ≡ Some n → (1 ≤ n) × (n ≤ 64)
-drill_within words n = go (plain_words words) where
+drill_within words n = go (words_without_hyphen words) where
   go : (o : Option (List (List ℕ))) → option_and_then drill_command o ≡ Some n → (1 ≤ n) × (n ≤ 64)
   go None asked = absurd cc
   go (Some plain) asked = drill_range plain n asked

@@ -3,7 +3,7 @@ use Rattle.std.proofs.Common.{◌≡◌, ◌≢◌, ℕ, Bool, true, false, ◌&
 use Rattle.std.specs.Prelude.{not, ◌==◌, Vec}
 use Rattle.std.specs.Global.{Global}
 use Rattle.std.specs.List.{list_any}
-use Rattle.command_line.specs.Words.{plain_words}
+use Rattle.command_line.specs.Words.{words_without_hyphen}
 use Rattle.otp_mode.specs.declared.fault.OtpFault.{OtpFault}
 use Rattle.otp_mode.specs.declared.fault.OtpFault.TheVariants as otp_faults
 use Rattle.otp_mode.specs.Faults as passwords
@@ -246,7 +246,7 @@ uncommanded words status no_command is = record {
 }
 
 -- memory was wanted for the words, of which none begins with a hyphen
-pub unremembered : (words : List (List ℕ)) (status : ℕ) → plain_words words ≢ None → status ≡ 9 → StatusHasCause words status
+pub unremembered : (words : List (List ℕ)) (status : ℕ) → words_without_hyphen words ≢ None → status ≡ 9 → StatusHasCause words status
 unremembered words status spoken is = record {
   listed = subst IsStatus (sym is) refl;
   no_words = λ none. absurd (spoken none);
@@ -256,7 +256,7 @@ unremembered words status spoken is = record {
 }
 
 -- the words are those of another mode than `serve`
-pub moded : (words : List (List ℕ)) (status : ℕ) → IsCommand words → plain_words words ≢ None → IsModeStatus status → StatusHasCause words status
+pub moded : (words : List (List ℕ)) (status : ℕ) → IsCommand words → words_without_hyphen words ≢ None → IsModeStatus status → StatusHasCause words status
 moded words status command spoken of = record {
   listed = left (list_any (λ s. s == status) statuses) (not (list_any (λ s. s == status) (2 ∷ 6 ∷ 7 ∷ 10 ∷ []))) of;
   no_words = λ none. absurd (spoken none);
@@ -278,7 +278,7 @@ moded words status command spoken of = record {
   go false b c d h = h
 
 -- the words are those of `serve`
-pub served : (words : List (List ℕ)) (source : Source) (status : ℕ) → asks_serve words ≡ Some source → plain_words words ≢ None → IsStatus status → status ≢ 2 → StatusHasCause words status
+pub served : (words : List (List ℕ)) (source : Source) (status : ℕ) → asks_serve words ≡ Some source → words_without_hyphen words ≢ None → IsStatus status → status ≢ 2 → StatusHasCause words status
 served words source status asked spoken listed other = record {
   listed = listed;
   no_words = λ none. absurd (spoken none);

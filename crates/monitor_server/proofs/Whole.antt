@@ -33,7 +33,7 @@ use Rattle.serve_mode.proofs.Promises.{memory_why, unserved_ended}
 use Rattle.monitor_server.specs.declared.report.Detail.{Detail}
 use Rattle.monitor_server.specs.declared.report.Detail.TheVariants.{Nothing}
 use Rattle.monitor_server.specs.Commands.{IsCommand, asks_audit, asks_check, asks_child, asks_drill, asks_otp, asks_recover, asks_renew, asks_serve}
-use Rattle.monitor_server.specs.Headline.{IsStatus, IsUnserved, IsUnused, StatusHasCause}
+use Rattle.monitor_server.specs.Headline.{IsStatus, IsUnserved, UsesNothing, StatusHasCause}
 use Rattle.monitor_server.specs.Modes.{AuditRan, ChangesFiles, CheckRan, ChildRan, DrillRan, LeavesRest, PasswordRan, RecoverRan, RenewRan, ServeRan, audit_detail, checked_detail, detail_of, recover_detail, renew_detail, serve_detail}
 use Rattle.monitor_server.specs.Whole.{Whole}
 use Rattle.monitor_server.proofs.Apart.{AskOnly, Audit, Check, Child, Drill, Otp, Recover, Renew, Serve, none-some, only_audit, only_check, only_child, only_drill, only_otp, only_recover, only_renew, only_serve, spoken}
@@ -79,7 +79,7 @@ changes-recovered words parts status detail old new before after R P E asked ran
 -- ---- all that is said of each command
 
 -- where nobody was served, and a mode ran
-moded-leaves : {F S E K P : Type 0} {words : List (List ℕ)} {status : ℕ} {detail : Detail} {journal : List Event} {posts : List P} {files_old files_new : F} {site_old site_new : S} {ends_old ends_new : E} {log_old log_new : K} → asks_serve words ≡ None → (asks_otp words ≡ None → asks_check words ≡ None → asks_audit words ≡ None → asks_renew words ≡ None → asks_recover words ≡ None → files_new ≡ files_old) → (asks_otp words ≡ None → asks_check words ≡ None → asks_child words ≡ None → asks_audit words ≡ None → asks_renew words ≡ None → asks_drill words ≡ None → asks_recover words ≡ None → ends_new ≡ ends_old) → site_new ≡ site_old → IsUnused log_old log_new journal posts → ((parts : OtpParts) → asks_otp words ≡ Some parts → parts.list ≡ None → files_new ≡ files_old) → ((status ≡ 3) ⊎ (status ≡ 9) × (asks_renew words ≡ None) → ends_new ≡ ends_old) → (asks_check words ≡ None → (status ≡ 4) ⊎ (status ≡ 5) → ends_new ≡ ends_old) → (status ≢ 4 → status ≢ 5 → status ≢ 13 → status ≢ 14 → status ≢ 15 → detail ≡ Nothing) → LeavesRest words status detail files_old files_new site_old site_new ends_old ends_new log_old log_new journal posts
+moded-leaves : {F S E K P : Type 0} {words : List (List ℕ)} {status : ℕ} {detail : Detail} {journal : List Event} {posts : List P} {files_old files_new : F} {site_old site_new : S} {ends_old ends_new : E} {log_old log_new : K} → asks_serve words ≡ None → (asks_otp words ≡ None → asks_check words ≡ None → asks_audit words ≡ None → asks_renew words ≡ None → asks_recover words ≡ None → files_new ≡ files_old) → (asks_otp words ≡ None → asks_check words ≡ None → asks_child words ≡ None → asks_audit words ≡ None → asks_renew words ≡ None → asks_drill words ≡ None → asks_recover words ≡ None → ends_new ≡ ends_old) → site_new ≡ site_old → UsesNothing log_old log_new journal posts → ((parts : OtpParts) → asks_otp words ≡ Some parts → parts.list ≡ None → files_new ≡ files_old) → ((status ≡ 3) ⊎ (status ≡ 9) × (asks_renew words ≡ None) → ends_new ≡ ends_old) → (asks_check words ≡ None → (status ≡ 4) ⊎ (status ≡ 5) → ends_new ≡ ends_old) → (status ≢ 4 → status ≢ 5 → status ≢ 13 → status ≢ 14 → status ≢ 15 → detail ≡ Nothing) → LeavesRest words status detail files_old files_new site_old site_new ends_old ends_new log_old log_new journal posts
 moded-leaves {words = words} unserved files ends site unused unread silent unprinted plain = record {
   files = λ _. files;
   plain_setup = λ plain. none-some (asks_serve words) Plain unserved plain;
@@ -133,7 +133,7 @@ module _ {F S E K P : Type 0} {words : List (List ℕ)} {forms : List Key} {stat
     once : (a b : Source) → Some a ≡ Some b → a ≡ b
     once a b e = cc
 
-  pub whole-password : (parts : OtpParts) → asks_otp words ≡ Some parts → PasswordRan parts status detail new before after ReadRose EndsRose → IsUnused log_old log_new journal posts → (parts.list ≡ None → files_new ≡ files_old) → ((status ≡ 3) ⊎ (status ≡ 9) → ends_new ≡ ends_old) → ((status ≡ 4) ⊎ (status ≡ 5) → ends_new ≡ ends_old) → site_new ≡ site_old → Goes SameFiles old new
+  pub whole-password : (parts : OtpParts) → asks_otp words ≡ Some parts → PasswordRan parts status detail new before after ReadRose EndsRose → UsesNothing log_old log_new journal posts → (parts.list ≡ None → files_new ≡ files_old) → ((status ≡ 3) ⊎ (status ≡ 9) → ends_new ≡ ends_old) → ((status ≡ 4) ⊎ (status ≡ 5) → ends_new ≡ ends_old) → site_new ≡ site_old → Goes SameFiles old new
       → Whole words forms status detail journal posts scene faults files_old files_new site_old site_new ends_old ends_new log_old log_new old new before after listens_old listens_new held_old held_new ReadRose ReplaceRose ListenRose LogRose EndsRose
   whole-password parts asked ran unused unread silent at_list site goes =
       let status_is = sym ran.status_is in
@@ -157,7 +157,7 @@ module _ {F S E K P : Type 0} {words : List (List ℕ)} {forms : List Key} {stat
         changes = changes-none words status old new goes;
       }
 
-  pub whole-checked : (setup : List ℕ) → asks_check words ≡ Some setup → CheckRan forms setup status detail new before after ReadRose EndsRose → IsUnused log_old log_new journal posts → ((status ≡ 3) ⊎ (status ≡ 9) → ends_new ≡ ends_old) → site_new ≡ site_old → Goes SameFiles old new
+  pub whole-checked : (setup : List ℕ) → asks_check words ≡ Some setup → CheckRan forms setup status detail new before after ReadRose EndsRose → UsesNothing log_old log_new journal posts → ((status ≡ 3) ⊎ (status ≡ 9) → ends_new ≡ ends_old) → site_new ≡ site_old → Goes SameFiles old new
       → Whole words forms status detail journal posts scene faults files_old files_new site_old site_new ends_old ends_new log_old log_new old new before after listens_old listens_new held_old held_new ReadRose ReplaceRose ListenRose LogRose EndsRose
   whole-checked setup asked ran unused silent site goes =
       let status_is = sym ran.status_is in
@@ -181,7 +181,7 @@ module _ {F S E K P : Type 0} {words : List (List ℕ)} {forms : List Key} {stat
         changes = changes-none words status old new goes;
       }
 
-  pub whole-child : (parts : ChildParts) → asks_child words ≡ Some parts → ChildRan parts status before after EndsRose → detail ≡ Nothing → IsUnused log_old log_new journal posts → ((status ≡ 3) ⊎ (status ≡ 9) → ends_new ≡ ends_old) → ((status ≡ 4) ⊎ (status ≡ 5) → ends_new ≡ ends_old) → files_new ≡ files_old → site_new ≡ site_old → Goes SameFiles old new
+  pub whole-child : (parts : ChildParts) → asks_child words ≡ Some parts → ChildRan parts status before after EndsRose → detail ≡ Nothing → UsesNothing log_old log_new journal posts → ((status ≡ 3) ⊎ (status ≡ 9) → ends_new ≡ ends_old) → ((status ≡ 4) ⊎ (status ≡ 5) → ends_new ≡ ends_old) → files_new ≡ files_old → site_new ≡ site_old → Goes SameFiles old new
       → Whole words forms status detail journal posts scene faults files_old files_new site_old site_new ends_old ends_new log_old log_new old new before after listens_old listens_new held_old held_new ReadRose ReplaceRose ListenRose LogRose EndsRose
   whole-child parts asked ran plain unused silent no_file files site goes =
       let status_is = sym ran.status_is in
@@ -205,7 +205,7 @@ module _ {F S E K P : Type 0} {words : List (List ℕ)} {forms : List Key} {stat
         changes = changes-none words status old new goes;
       }
 
-  pub whole-audited : (parts : AuditParts) → asks_audit words ≡ Some parts → AuditRan parts status detail new before after ReadRose EndsRose → IsUnused log_old log_new journal posts → ((status ≡ 3) ⊎ (status ≡ 9) → ends_new ≡ ends_old) → ((status ≡ 4) ⊎ (status ≡ 5) → ends_new ≡ ends_old) → site_new ≡ site_old → Goes SameFiles old new
+  pub whole-audited : (parts : AuditParts) → asks_audit words ≡ Some parts → AuditRan parts status detail new before after ReadRose EndsRose → UsesNothing log_old log_new journal posts → ((status ≡ 3) ⊎ (status ≡ 9) → ends_new ≡ ends_old) → ((status ≡ 4) ⊎ (status ≡ 5) → ends_new ≡ ends_old) → site_new ≡ site_old → Goes SameFiles old new
       → Whole words forms status detail journal posts scene faults files_old files_new site_old site_new ends_old ends_new log_old log_new old new before after listens_old listens_new held_old held_new ReadRose ReplaceRose ListenRose LogRose EndsRose
   whole-audited parts asked ran unused silent at_file site goes =
       let status_is = sym ran.status_is in
@@ -229,7 +229,7 @@ module _ {F S E K P : Type 0} {words : List (List ℕ)} {forms : List Key} {stat
         changes = changes-none words status old new goes;
       }
 
-  pub whole-renewed : (parts : RenewParts) → asks_renew words ≡ Some parts → RenewRan parts status detail old new before after ReadRose ReplaceRose EndsRose → IsUnused log_old log_new journal posts → ((status ≡ 3) ⊎ (status ≡ 4) ⊎ (status ≡ 5) → ends_new ≡ ends_old) → site_new ≡ site_old
+  pub whole-renewed : (parts : RenewParts) → asks_renew words ≡ Some parts → RenewRan parts status detail old new before after ReadRose ReplaceRose EndsRose → UsesNothing log_old log_new journal posts → ((status ≡ 3) ⊎ (status ≡ 4) ⊎ (status ≡ 5) → ends_new ≡ ends_old) → site_new ≡ site_old
       → Whole words forms status detail journal posts scene faults files_old files_new site_old site_new ends_old ends_new log_old log_new old new before after listens_old listens_new held_old held_new ReadRose ReplaceRose ListenRose LogRose EndsRose
   whole-renewed parts asked ran unused at_files site =
       let status_is = sym ran.status_is in
@@ -290,7 +290,7 @@ module _ {F S E K P : Type 0} {words : List (List ℕ)} {forms : List Key} {stat
         changes = changes-none words status old new goes;
       }
 
-  pub whole-recovered : (parts : RecoverParts) → asks_recover words ≡ Some parts → RecoverRan parts status detail old new before after ReadRose ReplaceRose EndsRose → IsUnused log_old log_new journal posts → ((status ≡ 3) ⊎ (status ≡ 9) → ends_new ≡ ends_old) → ((status ≡ 4) ⊎ (status ≡ 5) → ends_new ≡ ends_old) → site_new ≡ site_old
+  pub whole-recovered : (parts : RecoverParts) → asks_recover words ≡ Some parts → RecoverRan parts status detail old new before after ReadRose ReplaceRose EndsRose → UsesNothing log_old log_new journal posts → ((status ≡ 3) ⊎ (status ≡ 9) → ends_new ≡ ends_old) → ((status ≡ 4) ⊎ (status ≡ 5) → ends_new ≡ ends_old) → site_new ≡ site_old
       → Whole words forms status detail journal posts scene faults files_old files_new site_old site_new ends_old ends_new log_old log_new old new before after listens_old listens_new held_old held_new ReadRose ReplaceRose ListenRose LogRose EndsRose
   whole-recovered parts asked ran unused silent at_files site =
       let status_is = sym ran.status_is in
@@ -315,7 +315,7 @@ module _ {F S E K P : Type 0} {words : List (List ℕ)} {forms : List Key} {stat
       }
 
   -- nothing was done
-  pub whole-nothing : StatusHasCause words status → (status ≡ 9) ⊎ (IsCommand words → ⊥) → detail ≡ Nothing → IsUnused log_old log_new journal posts → held_new ≡ held_old → files_new ≡ files_old → site_new ≡ site_old → ends_new ≡ ends_old → Goes SameFiles old new → listens_new ≡ listens_old → after ≡ before
+  pub whole-nothing : StatusHasCause words status → (status ≡ 9) ⊎ (IsCommand words → ⊥) → detail ≡ Nothing → UsesNothing log_old log_new journal posts → held_new ≡ held_old → files_new ≡ files_old → site_new ≡ site_old → ends_new ≡ ends_old → Goes SameFiles old new → listens_new ≡ listens_old → after ≡ before
       → Whole words forms status detail journal posts scene faults files_old files_new site_old site_new ends_old ends_new log_old log_new old new before after listens_old listens_new held_old held_new ReadRose ReplaceRose ListenRose LogRose EndsRose
   whole-nothing known why plain unused held files site ends goes listens told = record {
     causes = known;

@@ -1,6 +1,6 @@
 -- Believed: the words of the commands.
 use Rattle.std.specs.Prelude.{◌≡◌, ◌≢◌, ◌⊎◌, ℕ, List, Option, Some, None, option_and_then, Result, Ok, Err}
-use Rattle.command_line.specs.Words.{plain_words}
+use Rattle.command_line.specs.Words.{words_without_hyphen}
 use Rattle.otp_mode.specs.Command.{command_parts}
 use Rattle.otp_mode.specs.Words.{OtpParts, otp_command}
 use Rattle.check_mode.specs.Words.{check_command}
@@ -22,35 +22,35 @@ use Rattle.monitor_server.specs.declared.command.Unread.TheVariants as unread
 
 -- what the words ask the mode `serve` for, where none begins with a hyphen
 abbrev pub asks_serve : List (List ℕ) → Option Source
-asks_serve words = option_and_then serve_command (plain_words words)
+asks_serve words = option_and_then serve_command (words_without_hyphen words)
 
 -- what the words ask the mode `otp` for, where none begins with a hyphen
 abbrev pub asks_otp : List (List ℕ) → Option OtpParts
-asks_otp words = option_and_then otp_command (plain_words words)
+asks_otp words = option_and_then otp_command (words_without_hyphen words)
 
 -- the name of the setup's file that the words ask the mode `check` for, where none begins with a hyphen
 abbrev pub asks_check : List (List ℕ) → Option (List ℕ)
-asks_check words = option_and_then check_command (plain_words words)
+asks_check words = option_and_then check_command (words_without_hyphen words)
 
 -- the child that the words ask to run, and its session, where none begins with a hyphen
 abbrev pub asks_child : List (List ℕ) → Option ChildParts
-asks_child words = option_and_then child_command (plain_words words)
+asks_child words = option_and_then child_command (words_without_hyphen words)
 
 -- the setup and the log that the words ask the mode `audit` for, where none begins with a hyphen
 abbrev pub asks_audit : List (List ℕ) → Option AuditParts
-asks_audit words = option_and_then audit_command (plain_words words)
+asks_audit words = option_and_then audit_command (words_without_hyphen words)
 
 -- the setup and the user that the words ask the mode `renew` for, where none begins with a hyphen
 abbrev pub asks_renew : List (List ℕ) → Option RenewParts
-asks_renew words = option_and_then renew_command (plain_words words)
+asks_renew words = option_and_then renew_command (words_without_hyphen words)
 
 -- the number whose drill the words ask for, where none begins with a hyphen
 abbrev pub asks_drill : List (List ℕ) → Option ℕ
-asks_drill words = option_and_then drill_command (plain_words words)
+asks_drill words = option_and_then drill_command (words_without_hyphen words)
 
 -- the setup and the durable log that the words ask the mode `recover` for, where none begins with a hyphen
 abbrev pub asks_recover : List (List ℕ) → Option RecoverParts
-asks_recover words = option_and_then recover_command (plain_words words)
+asks_recover words = option_and_then recover_command (words_without_hyphen words)
 
 -- the words of a command: those of the modes `serve`, `otp` and `check`, of the children's, and of `audit`, `renew`, `drill` and `recover`
 abbrev pub IsCommand : List (List ℕ) → Type 0
@@ -79,4 +79,4 @@ IsReading words (Ok (commands.Renew command)) = asks_renew words ≡ Some (renew
 IsReading words (Ok (commands.Drill number)) = asks_drill words ≡ Some number
 IsReading words (Ok (commands.Recover command)) = asks_recover words ≡ Some (recoveries.command_parts command)
 IsReading words (Err unread.NoCommand) = IsCommand words → ⊥
-IsReading words (Err unread.OutOfMemory) = plain_words words ≢ None
+IsReading words (Err unread.OutOfMemory) = words_without_hyphen words ≢ None

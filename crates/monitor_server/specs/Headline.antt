@@ -1,7 +1,7 @@
 -- Believed: what the top call promises of its status, for all words.
 use Rattle.std.specs.Prelude.{◌≡◌, ◌⊎◌, ℕ, Bool, true, false, ◌==◌, List, [], ◌∷◌, None}
 use Rattle.std.specs.List.{list_any}
-use Rattle.command_line.specs.Words.{plain_words}
+use Rattle.command_line.specs.Words.{words_without_hyphen}
 use Rattle.policy_model.specs.declared.event.Event.{Event}
 use Rattle.monitor_server.specs.Commands.{IsCommand, asks_serve}
 
@@ -11,7 +11,7 @@ pub record IsUnserved {P K : Type 0} (before after : K) (posts : List P) : Type 
   pub workers : posts ≡ []
 
 -- nothing was used: no event, no post, and the log is as it was
-pub record IsUnused {P K : Type 0} (before after : K) (journal : List Event) (posts : List P) : Type 0 where
+pub record UsesNothing {P K : Type 0} (before after : K) (journal : List Event) (posts : List P) : Type 0 where
   pub log : after ≡ before
   pub events : journal ≡ []
   pub workers : posts ≡ []
@@ -30,7 +30,7 @@ is_serve_status status = list_any (λ s. s == status) (6 ∷ 7 ∷ 10 ∷ [])
 -- what a status tells of the words
 pub record StatusHasCause (words : List (List ℕ)) (status : ℕ) : Type 0 where
   pub listed : IsStatus status
-  pub no_words : plain_words words ≡ None → status ≡ 2
+  pub no_words : words_without_hyphen words ≡ None → status ≡ 2
   pub no_command : ¬ (IsCommand words) → (status ≡ 2) ⊎ (status ≡ 9)
   pub command : status ≡ 2 → ¬ (IsCommand words)
   pub unserved : asks_serve words ≡ None → is_serve_status status ≡ false

@@ -9,7 +9,7 @@ ghost use Rattle.audit_mode.specs.Commands as audits;
 ghost use Rattle.otp_extended.specs.Commands as renewals;
 ghost use Rattle.recover_mode.specs.Commands as recoveries;
 ghost use Rattle.monitor_server.specs.declared.report.Detail.TheVariants.{Nothing};
-ghost use Rattle.monitor_server.specs.Headline.{IsUnused};
+ghost use Rattle.monitor_server.specs.Headline.{UsesNothing};
 ghost use Rattle.serve_mode.specs.Commands as serves;
 ghost use Rattle.serve_mode.specs.Words.{Plain};
 ghost use Rattle.monitor_server.specs.Modes.{AuditRan, CheckRan, ChildRan, DrillRan, PasswordRan, RecoverRan, RenewRan, ServeRan, audit_detail, fault_detail, finding_detail, recover_detail, renew_detail, serve_detail};
@@ -92,7 +92,7 @@ pub(crate) fn print_password<F: Files, P, K, E: Stream>(
     ends: &mut E,
 ) -> Report<P, K>
     ensures password { PasswordRan (command_parts command.now) result.status result.detail (F.contents files.new) (E.link ends.old) (E.link ends.new) (Rose (F.read_faults files.old) (F.read_faults files.new)) (Rose (E.faults ends.old) (E.faults ends.new)) }
-    ensures unused { IsUnused log result.log result.journal.items result.posts.items }
+    ensures unused { UsesNothing log result.log result.journal.items result.posts.items }
     ensures no_list { (command_parts command.now).list ≡ None → files.new ≡ files.old }
     ensures silent { (result.status ≡ 3) ⊎ (result.status ≡ 9) → ends.new ≡ ends.old }
     ensures at_list { (result.status ≡ 4) ⊎ (result.status ≡ 5) → ends.new ≡ ends.old }
@@ -130,7 +130,7 @@ pub(crate) fn check_setup<F: Files, I: Information, P, K, E: Stream>(
     ends: &mut E,
 ) -> Report<P, K>
     ensures check { CheckRan (I.forms information.now) setup.now result.status result.detail (F.contents files.new) (E.link ends.old) (E.link ends.new) (Rose (F.read_faults files.old) (F.read_faults files.new)) (Rose (E.faults ends.old) (E.faults ends.new)) }
-    ensures unused { IsUnused log result.log result.journal.items result.posts.items }
+    ensures unused { UsesNothing log result.log result.journal.items result.posts.items }
     ensures silent { (result.status ≡ 3) ⊎ (result.status ≡ 9) → ends.new ≡ ends.old }
     ensures files { Goes SameFiles (F.contents files.old) (F.contents files.new) }
 {
@@ -166,7 +166,7 @@ pub(crate) fn run_child<P, K, E: Stream>(
 ) -> Report<P, K>
     ensures child { ChildRan (parts_of command.now) result.status (E.link ends.old) (E.link ends.new) (Rose (E.faults ends.old) (E.faults ends.new)) }
     ensures detail { result.detail ≡ Nothing }
-    ensures unused { IsUnused log result.log result.journal.items result.posts.items }
+    ensures unused { UsesNothing log result.log result.journal.items result.posts.items }
     ensures silent { (result.status ≡ 3) ⊎ (result.status ≡ 9) → ends.new ≡ ends.old }
     ensures no_file { (result.status ≡ 4) ⊎ (result.status ≡ 5) → ends.new ≡ ends.old }
 {
@@ -183,7 +183,7 @@ pub(crate) fn audit_log<F: Files, P, K, E: Stream>(
     ends: &mut E,
 ) -> Report<P, K>
     ensures audit { AuditRan (audits.command_parts command.now) result.status result.detail (F.contents files.new) (E.link ends.old) (E.link ends.new) (Rose (F.read_faults files.old) (F.read_faults files.new)) (Rose (E.faults ends.old) (E.faults ends.new)) }
-    ensures unused { IsUnused log result.log result.journal.items result.posts.items }
+    ensures unused { UsesNothing log result.log result.journal.items result.posts.items }
     ensures silent { (result.status ≡ 3) ⊎ (result.status ≡ 9) → ends.new ≡ ends.old }
     ensures at_file { (result.status ≡ 4) ⊎ (result.status ≡ 5) → ends.new ≡ ends.old }
     ensures files { Goes SameFiles (F.contents files.old) (F.contents files.new) }
@@ -226,7 +226,7 @@ pub(crate) fn renew_account<F: Files, P, K, E: Stream>(
     ends: &mut E,
 ) -> Report<P, K>
     ensures renew { RenewRan (renewals.command_parts command.now) result.status result.detail (F.contents files.old) (F.contents files.new) (E.link ends.old) (E.link ends.new) (Rose (F.read_faults files.old) (F.read_faults files.new)) (Rose (F.replace_faults files.old) (F.replace_faults files.new)) (Rose (E.faults ends.old) (E.faults ends.new)) }
-    ensures unused { IsUnused log result.log result.journal.items result.posts.items }
+    ensures unused { UsesNothing log result.log result.journal.items result.posts.items }
     ensures at_files { (result.status ≡ 3) ⊎ (result.status ≡ 4) ⊎ (result.status ≡ 5) → ends.new ≡ ends.old }
 {
     let outcome = run_renew(alloc, command, files, ends);
@@ -265,7 +265,7 @@ pub(crate) fn recover_accounts<F: Files, P, K, E: Stream>(
     ends: &mut E,
 ) -> Report<P, K>
     ensures recover { RecoverRan (recoveries.command_parts command.now) result.status result.detail (F.contents files.old) (F.contents files.new) (E.link ends.old) (E.link ends.new) (Rose (F.read_faults files.old) (F.read_faults files.new)) (Rose (F.replace_faults files.old) (F.replace_faults files.new)) (Rose (E.faults ends.old) (E.faults ends.new)) }
-    ensures unused { IsUnused log result.log result.journal.items result.posts.items }
+    ensures unused { UsesNothing log result.log result.journal.items result.posts.items }
     ensures silent { (result.status ≡ 3) ⊎ (result.status ≡ 9) → ends.new ≡ ends.old }
     ensures at_files { (result.status ≡ 4) ⊎ (result.status ≡ 5) → ends.new ≡ ends.old }
 {

@@ -1,7 +1,7 @@
 //! What a run came to.
 
 ghost use Rattle.std.specs.Prelude.{◌≡◌};
-ghost use Rattle.monitor_server.specs.Headline.{IsUnused};
+ghost use Rattle.monitor_server.specs.Headline.{UsesNothing};
 
 use account_file::SetupFault;
 use audit_check::AuditWhy;
@@ -71,7 +71,7 @@ pub struct Report<P, K> {
 pub(crate) fn unused<P, K>(alloc: Global, status: u8, detail: Detail, log: K) -> Report<P, K>
     ensures status { result.status ≡ status }
     ensures detail { result.detail ≡ detail }
-    ensures unused { IsUnused log result.log result.journal.items result.posts.items }
+    ensures unused { UsesNothing log result.log result.journal.items result.posts.items }
 {
     Report {
         status,

@@ -10,7 +10,7 @@ use Rattle.otp_hash.specs.declared.chain.Algo.TheVariants as algos
 use Rattle.otp_hash.specs.Seeds.{is_seed_text}
 use Rattle.otp_words.specs.Blanks.{is_blank, is_no_blank}
 use Rattle.otp_words.specs.Challenges.{IsNumber}
-use Rattle.otp_words.specs.Inner.{IsRun}
+use Rattle.otp_words.specs.Inner.{IsLongestFront}
 use Rattle.otp_words.proofs.RunLemmas.{run_cut, run_exact, stops_at}
 use Rattle.otp_extended.specs.Inner.{AreWords, HasPieces, IsCutAtBlanks}
 use Rattle.otp_hash.specs.Names.{algo_name}
@@ -91,8 +91,8 @@ blank_not c e = ap not e
 
 pub cut_found : (text front behind gap rest : List ℕ) (n m : ℕ) → n ≡ prefix_len is_no_blank text → front ≡ take n text → behind ≡ drop n text → m ≡ prefix_len is_blank behind → gap ≡ take m behind → rest ≡ drop m behind → 1 ≤ length gap → IsCutAtBlanks text front rest
 cut_found text front behind gap rest n m long front_is behind_is wide gap_is rest_is some =
-    let a : IsRun is_no_blank text front behind = run_cut is_no_blank text front behind n long front_is behind_is in
-    let b : IsRun is_blank behind gap rest = run_cut is_blank behind gap rest m wide gap_is rest_is in
+    let a : IsLongestFront is_no_blank text front behind = run_cut is_no_blank text front behind n long front_is behind_is in
+    let b : IsLongestFront is_blank behind gap rest = run_cut is_blank behind gap rest m wide gap_is rest_is in
     record {
       gap = gap;
       spelled = a.joined ∙ ap (λ (t : List ℕ). front ++ t) b.joined;
@@ -104,8 +104,8 @@ cut_found text front behind gap rest n m long front_is behind_is wide gap_is res
 -- and nowhere else
 pub cut_only : (text front behind gap rest there after : List ℕ) (n m : ℕ) → n ≡ prefix_len is_no_blank text → front ≡ take n text → behind ≡ drop n text → m ≡ prefix_len is_blank behind → gap ≡ take m behind → rest ≡ drop m behind → (is : IsCutAtBlanks text there after) → (gap ≡ is.gap) × HasPieces there after front rest
 cut_only text front behind gap rest there after n m long front_is behind_is wide gap_is rest_is is =
-    let a : IsRun is_no_blank text front behind = run_cut is_no_blank text front behind n long front_is behind_is in
-    let b : IsRun is_blank behind gap rest = run_cut is_blank behind gap rest m wide gap_is rest_is in
+    let a : IsLongestFront is_no_blank text front behind = run_cut is_no_blank text front behind n long front_is behind_is in
+    let b : IsLongestFront is_blank behind gap rest = run_cut is_blank behind gap rest m wide gap_is rest_is in
     let first = run_exact is_no_blank text front behind there (is.gap ++ after) a is.spelled is.plain (stops_at is_no_blank is_blank is.gap after blank_not is.parted.some is.parted.blank) in
     let second = run_exact is_blank behind gap rest is.gap after b first.1 is.parted.blank is.stops in
     (second.0, record { front_is = first.0; rest_is = second.1 })

@@ -11,7 +11,7 @@ use Rattle.otp_hash.specs.declared.chain.Algo.{Algo}
 use Rattle.otp_hash.specs.Seeds.{is_seed_text}
 use Rattle.otp_words.specs.Blanks.{is_blank}
 use Rattle.otp_words.specs.Challenges.{challenge_word, decimal_value, is_close, IsNumber, BeginsWithChallenge}
-use Rattle.otp_words.specs.Inner.{AreParts, is_closed}
+use Rattle.otp_words.specs.Inner.{ArePieces, is_closed}
 use Rattle.otp_words.proofs.HexLemmas.{then_some-parts}
 use Rattle.otp_words.proofs.RunLemmas.{run_exact, stops_at}
 
@@ -44,7 +44,7 @@ close_stops : (c : ℕ) (unread : List ℕ) → is_close c ≡ true → prefix_l
 close_stops c unread e = rw (is_ascii_alphanumeric-close c e) refl
 
 -- the pieces of a text that begins with a challenge
-pieces_only : (text : List ℕ) (algo : Algo) (n : ℕ) (seed : List ℕ) (used front : ℕ) (gap digits second name rest : List ℕ) (is : BeginsWithChallenge text algo n seed used) → front ≡ length (challenge_word algo) → AreParts (drop front text) gap digits second name rest → (gap ≡ is.gap) × (digits ≡ is.digits) × (second ≡ is.second_gap) × (name ≡ is.name) × (rest ≡ is.close ∷ is.unread)
+pieces_only : (text : List ℕ) (algo : Algo) (n : ℕ) (seed : List ℕ) (used front : ℕ) (gap digits second name rest : List ℕ) (is : BeginsWithChallenge text algo n seed used) → front ≡ length (challenge_word algo) → ArePieces (drop front text) gap digits second name rest → (gap ≡ is.gap) × (digits ≡ is.digits) × (second ≡ is.second_gap) × (name ≡ is.name) × (rest ≡ is.close ∷ is.unread)
 pieces_only text algo n seed used front gap digits second name rest is long parts =
     let tail4 : List ℕ = is.close ∷ is.unread in
     let tail3 : List ℕ = is.name ++ tail4 in
@@ -60,7 +60,7 @@ pieces_only text algo n seed used front gap digits second name rest is long part
     (first.0, second_run.0, third.0, fourth.0, fourth.1)
 
 -- a text of these pieces begins with a challenge
-pub parts_found : (text behind gap digits second name rest unread seed : List ℕ) (algo : Algo) (n close used : ℕ) → text ≡ challenge_word algo ++ behind → AreParts behind gap digits second name rest → 1 ≤ length gap → 1 ≤ length second → IsNumber digits n → is_seed_text name ≡ true → seed ≡ map to_ascii_lowercase name → rest ≡ close ∷ unread → is_close close ≡ true → used + length unread ≡ length text → BeginsWithChallenge text algo n seed used
+pub parts_found : (text behind gap digits second name rest unread seed : List ℕ) (algo : Algo) (n close used : ℕ) → text ≡ challenge_word algo ++ behind → ArePieces behind gap digits second name rest → 1 ≤ length gap → 1 ≤ length second → IsNumber digits n → is_seed_text name ≡ true → seed ≡ map to_ascii_lowercase name → rest ≡ close ∷ unread → is_close close ≡ true → used + length unread ≡ length text → BeginsWithChallenge text algo n seed used
 parts_found text behind gap digits second name rest unread seed algo n close used begins parts some_gap some_second number legal lower ends closed all = record {
   gap = gap;
   digits = digits;
@@ -83,11 +83,11 @@ parts_found text behind gap digits second name rest unread seed algo n close use
 }
 
 -- the pieces of a text that begins with a challenge, cut behind the word that was found
-pub parts_only : (text word gap digits second name rest : List ℕ) (algo there : Algo) (n : ℕ) (seed : List ℕ) (used : ℕ) (found : Option Algo) (is : BeginsWithChallenge text algo n seed used) → ((algo : Algo) (rest : List ℕ) → text ≡ challenge_word algo ++ rest → found ≡ Some algo) → found ≡ Some there → word ≡ challenge_word there → AreParts (take (length text - length word) (drop (length word) text)) gap digits second name rest → (there ≡ algo) × (gap ≡ is.gap) × (digits ≡ is.digits) × (second ≡ is.second_gap) × (name ≡ is.name) × (rest ≡ is.close ∷ is.unread)
+pub parts_only : (text word gap digits second name rest : List ℕ) (algo there : Algo) (n : ℕ) (seed : List ℕ) (used : ℕ) (found : Option Algo) (is : BeginsWithChallenge text algo n seed used) → ((algo : Algo) (rest : List ℕ) → text ≡ challenge_word algo ++ rest → found ≡ Some algo) → found ≡ Some there → word ≡ challenge_word there → ArePieces (take (length text - length word) (drop (length word) text)) gap digits second name rest → (there ≡ algo) × (gap ≡ is.gap) × (digits ≡ is.digits) × (second ≡ is.second_gap) × (name ≡ is.name) × (rest ≡ is.close ∷ is.unread)
 parts_only text word gap digits second name rest algo there n seed used found is only at word_is parts =
     let some : Some there ≡ Some algo = sym at ∙ only algo _ is.spelled in
     let same : there ≡ algo = cc in
-    let cut : AreParts (drop (length word) text) gap digits second name rest = subst (λ (t : List ℕ). AreParts t gap digits second name rest) (take_rest text (length word)) parts in
+    let cut : ArePieces (drop (length word) text) gap digits second name rest = subst (λ (t : List ℕ). ArePieces t gap digits second name rest) (take_rest text (length word)) parts in
     let pieces = pieces_only text algo n seed used (length word) gap digits second name rest is (ap length (word_is ∙ ap challenge_word same)) cut in
     (same, pieces.0, pieces.1, pieces.2, pieces.3, pieces.4)
 

@@ -4,7 +4,7 @@ use Rattle.std.specs.Prelude.{cond}
 use Rattle.std.specs.List.{list_all, prefix_len}
 use Rattle.std.proofs.lemmas.Bool.{and_parts, and_from}
 use Rattle.std.proofs.lemmas.List.{take_at, drop_at, take-append-drop}
-use Rattle.otp_words.specs.Inner.{IsRun}
+use Rattle.otp_words.specs.Inner.{IsLongestFront}
 
 -- a front that passes, before what doesn't
 pub prefix_len-exact : (p : ℕ → Bool) (xs ys : List ℕ) → list_all p xs ≡ true → prefix_len p ys ≡ 0 → prefix_len p (xs ++ ys) ≡ length xs
@@ -38,7 +38,7 @@ prefix_len-behind p [] = refl
 prefix_len-behind p (x ∷ xs) = behind_more p x xs (prefix_len p xs) (p x) refl (prefix_len-behind p xs)
 
 -- the longest front that passes, cut off
-pub run_cut : (test : ℕ → Bool) (text front rest : List ℕ) (n : ℕ) → n ≡ prefix_len test text → front ≡ take n text → rest ≡ drop n text → IsRun test text front rest
+pub run_cut : (test : ℕ → Bool) (text front rest : List ℕ) (n : ℕ) → n ≡ prefix_len test text → front ≡ take n text → rest ≡ drop n text → IsLongestFront test text front rest
 run_cut test text front rest n long front_is rest_is = record {
   joined = sym (take-append-drop n text) ∙ cc;
   passes = rw (front_is, long) (list_all-prefix test text);
@@ -46,7 +46,7 @@ run_cut test text front rest n long front_is rest_is = record {
 }
 
 -- the longest front that passes is known by what follows it
-pub run_exact : (test : ℕ → Bool) (text front rest xs ys : List ℕ) → IsRun test text front rest → text ≡ xs ++ ys → list_all test xs ≡ true → prefix_len test ys ≡ 0 → (front ≡ xs) × (rest ≡ ys)
+pub run_exact : (test : ℕ → Bool) (text front rest xs ys : List ℕ) → IsLongestFront test text front rest → text ≡ xs ++ ys → list_all test xs ≡ true → prefix_len test ys ≡ 0 → (front ≡ xs) × (rest ≡ ys)
 run_exact test text front rest xs ys run e passes stops =
     let here : prefix_len test text ≡ length front = ap (λ (t : List ℕ). prefix_len test t) run.joined ∙ prefix_len-exact test front rest run.passes run.stops in
     let there : prefix_len test text ≡ length xs = ap (λ (t : List ℕ). prefix_len test t) e ∙ prefix_len-exact test xs ys passes stops in

@@ -16,20 +16,20 @@ abbrev pub four_digits : ℕ → List ℕ
 four_digits n = (48 + n / 1000) ∷ (48 + n / 100 % 10) ∷ (48 + n / 10 % 10) ∷ (48 + n % 10) ∷ []
 
 -- the longest front of a text that passes a test, and what follows it
-pub record IsRun (test : ℕ → Bool) (text front rest : List ℕ) : Type 0 where
+pub record IsLongestFront (test : ℕ → Bool) (text front rest : List ℕ) : Type 0 where
   pub joined : text ≡ front ++ rest
   pub passes : list_all test front ≡ true
   pub stops : prefix_len test rest ≡ 0
 
 -- a text in blanks, digits, blanks, letters and digits, and the rest
-pub record AreParts (text gap digits second_gap name rest : List ℕ) : Type 0 where
+pub record ArePieces (text gap digits second_gap name rest : List ℕ) : Type 0 where
   pub behind_gap : List ℕ
   pub behind_digits : List ℕ
   pub behind_second : List ℕ
-  pub gap_is : IsRun is_blank text gap behind_gap
-  pub digits_is : IsRun is_ascii_digit behind_gap digits behind_digits
-  pub second_is : IsRun is_blank behind_digits second_gap behind_second
-  pub name_is : IsRun is_ascii_alphanumeric behind_second name rest
+  pub gap_is : IsLongestFront is_blank text gap behind_gap
+  pub digits_is : IsLongestFront is_ascii_digit behind_gap digits behind_digits
+  pub second_is : IsLongestFront is_blank behind_digits second_gap behind_second
+  pub name_is : IsLongestFront is_ascii_alphanumeric behind_second name rest
 
 -- a text begins with a space or a newline
 abbrev pub is_closed : List ℕ → Bool

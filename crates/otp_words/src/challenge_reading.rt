@@ -8,7 +8,7 @@ ghost use Rattle.otp_hash.specs.declared.chain.Algo.{Algo};
 ghost use Rattle.otp_hash.specs.SeedBytes.{seed_bytes};
 ghost use Rattle.otp_words.specs.Challenges.{challenge_word, decimal_value, BeginsWithChallenge};
 ghost use Rattle.otp_words.specs.Readings.{HasParts};
-ghost use Rattle.otp_words.specs.Inner.{AreParts, is_closed};
+ghost use Rattle.otp_words.specs.Inner.{ArePieces, is_closed};
 
 use crate::blanks::gap_len;
 use crate::challenge::challenge_word;
@@ -93,7 +93,7 @@ fn front_algo(text: &[u8]) -> Option<Algo>
 
 /// Cuts a text behind its blanks, digits, blanks, and letters and digits.
 fn parts_of(text: &[u8]) -> Parts<'_>
-    ensures parts { AreParts text.now result.gap.now result.digits.now result.second_gap.now result.name.now result.rest.now }
+    ensures parts { ArePieces text.now result.gap.now result.digits.now result.second_gap.now result.name.now result.rest.now }
     ensures within { length result.rest.now ≤ length text.now }
 {
     let (gap, rest) = text.split_at(gap_len(text));

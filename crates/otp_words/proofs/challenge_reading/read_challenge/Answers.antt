@@ -8,7 +8,7 @@ use Rattle.std.specs.Char.{to_ascii_lowercase}
 use Rattle.otp_hash.specs.SeedBytes.{seed_bytes}
 use Rattle.otp_hash.specs.Seeds.{is_seed_text}
 use Rattle.otp_words.specs.Challenges.{challenge_word}
-use Rattle.otp_words.specs.Inner.{AreParts, is_closed}
+use Rattle.otp_words.specs.Inner.{ArePieces, is_closed}
 use Rattle.otp_words.proofs.NumberLemmas.{no_length, some_length}
 use Rattle.otp_words.proofs.ReadingLemmas.{parts_only, parts_found, number_only, number_found, closed_parts}
 use Rattle.otp_words.proofs.challenge_reading.read_challenge.Goals as goal
@@ -58,7 +58,7 @@ returns-clause-found c =
     let found : c.front_algo.result ≡ Some algo = c.ok_or.ensures.ok_part ∙ ap result_ok c.in_ok-algo.was in
     let begins : text ≡ challenge_word algo ++ drop (length (challenge_word algo)) text = rw found at c.front_algo.ensures.found in
     let cut : take (length text - length front) (drop (length front) text) ≡ drop (length (challenge_word algo)) text = take_rest text (length front) ∙ ap (λ (w : List ℕ). drop (length w) text) c.challenge_word.ensures.text in
-    let pieces = subst (λ (t : List ℕ). AreParts t parts.gap.now parts.digits.now parts.second_gap.now parts.name.now parts.rest.now) cut c.parts_of-parts.ensures.parts in
+    let pieces = subst (λ (t : List ℕ). ArePieces t parts.gap.now parts.digits.now parts.second_gap.now parts.name.now parts.rest.now) cut c.parts_of-parts.ensures.parts in
     let number = number_found parts.digits.now c.in_ok-n.n c.number_of.result pieces.digits_is.passes (c.ok_or-2.ensures.ok_part ∙ ap result_ok c.in_ok-n.was) c.number_of.ensures in
     let seeded : c.of.result ≡ Some c.in_ok-seed.seed = c.ok_or-3.ensures.ok_part ∙ ap result_ok c.in_ok-seed.was in
     let legal : is_seed_text parts.name.now ≡ true = sym c.of.ensures.rule ∙ ap is_some seeded in
