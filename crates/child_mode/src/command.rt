@@ -64,7 +64,7 @@ fn user_command(mode: &str, session: &str, uid: &str, name: &str) -> Option<Chil
 fn number_within(word: &str, max: u32) -> Option<u32>
     ensures { result ≡ number_within max word.now }
 {
-    let number = long_of(word)?;
+    let number = long_of(word.as_bytes())?;
     if number < 1 || number > u64::from(max) {
         return None;
     }

@@ -1,11 +1,8 @@
-//! The parts of a line, and the numbers in them.
+//! The parts of a line.
 
 ghost use Rattle.std.specs.Prelude.{◌≡◌, ◌≤◌, length};
 ghost use Rattle.std.specs.List.{position_or_len};
 ghost use Rattle.decision_log.specs.Parts.{behind_part, behind_space, ends_part, first_part};
-ghost use Rattle.text_line.specs.Reading.{decimal_of};
-
-use text_line::long_of;
 
 /// A part, and what stands behind it.
 #[derive(Clone, Copy)]
@@ -51,14 +48,4 @@ pub(crate) fn next_part(text: &[u8]) -> Part<'_>
         [b' ', rest @ ..] => first_part(rest),
         _ => first_part(&[]),
     }
-}
-
-/// The number of 64 bits that the bytes spell in decimal digits without a leading zero.
-pub(crate) fn decimal_of(bytes: &[u8]) -> Option<u64>
-    ensures { result ≡ decimal_of bytes.now }
-{
-    let Ok(text) = std::str::from_utf8(bytes) else {
-        return None;
-    };
-    long_of(text)
 }

@@ -9,15 +9,14 @@ ghost use Rattle.request_catalogue.specs.TextBytes.{label_bytes, name_bytes, not
 ghost use Rattle.decision_log.specs.Parts.{Gives, IsNoHex, hex_in, hex_of, lettered, name_in, number_below, password_in, rule_in};
 
 use crate::logged::LineFault;
-use crate::parts::decimal_of;
 use request_catalogue::{Label, Name, Note};
-use text_line::{Line, put_hex};
+use text_line::{Line, long_of, put_hex};
 
 /// A number of 64 bits.
 pub(crate) fn u64_in(bytes: &[u8]) -> Result<u64, LineFault>
     ensures { Gives (λ n. n) result (number_below (2 ^ 64) bytes.now) }
 {
-    match decimal_of(bytes) {
+    match long_of(bytes) {
         Some(number) => Ok(number),
         None => Err(LineFault::Number),
     }
@@ -27,7 +26,7 @@ pub(crate) fn u64_in(bytes: &[u8]) -> Result<u64, LineFault>
 pub(crate) fn u32_in(bytes: &[u8]) -> Result<u32, LineFault>
     ensures { Gives (λ n. n) result (number_below (2 ^ 32) bytes.now) }
 {
-    match decimal_of(bytes) {
+    match long_of(bytes) {
         Some(number) if number < 1 << 32 => Ok(number as u32),
         _ => Err(LineFault::Number),
     }
@@ -37,7 +36,7 @@ pub(crate) fn u32_in(bytes: &[u8]) -> Result<u32, LineFault>
 pub(crate) fn u16_in(bytes: &[u8]) -> Result<u16, LineFault>
     ensures { Gives (λ n. n) result (number_below (2 ^ 16) bytes.now) }
 {
-    match decimal_of(bytes) {
+    match long_of(bytes) {
         Some(number) if number < 1 << 16 => Ok(number as u16),
         _ => Err(LineFault::Number),
     }
@@ -47,7 +46,7 @@ pub(crate) fn u16_in(bytes: &[u8]) -> Result<u16, LineFault>
 pub(crate) fn u8_in(bytes: &[u8]) -> Result<u8, LineFault>
     ensures { Gives (λ n. n) result (number_below (2 ^ 8) bytes.now) }
 {
-    match decimal_of(bytes) {
+    match long_of(bytes) {
         Some(number) if number < 1 << 8 => Ok(number as u8),
         _ => Err(LineFault::Number),
     }

@@ -28,7 +28,7 @@ fn drill_number(word: &str) -> Option<u32>
     ensures least { IfSome result (λ number. 1 ≤ number) }
     ensures most { IfSome result (λ number. number ≤ 64) }
 {
-    let number = long_of(word)?;
+    let number = long_of(word.as_bytes())?;
     if number < 1 || number > NUMBER_MAX {
         return None;
     }

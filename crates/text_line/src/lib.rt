@@ -3,9 +3,12 @@
 //! a word spells.
 #![tactic(auto)]
 
-ghost use Rattle.std.specs.Prelude.{◌≡◌, ◌≤◌, ◌+◌, ◌*◌, ◌++◌, length};
+ghost use Rattle.std.specs.Prelude.{◌≡◌, ◌≤◌, ◌+◌, ◌*◌, ◌^◌, ◌&&◌, ◌++◌, length, nat_le, nat_lt};
+ghost use Rattle.std.specs.Bool.{then_some};
+ghost use Rattle.std.specs.Char.{digit_value, is_ascii_digit};
 ghost use Rattle.std.specs.Fmt.{decimal};
-ghost use Rattle.std.specs.Str.{bytes_eq};
+ghost use Rattle.std.specs.Str.{all_ascii_digits};
+ghost use Rattle.std.specs.Str.Parse.{digits_value};
 ghost use Rattle.hex.specs.Hex.{encode_lower};
 ghost use Rattle.arrayvec.specs.ArrayVec.{array_vec_len};
 ghost use Rattle.text_line.specs.Reading.{decimal_of};
@@ -70,24 +73,54 @@ pub fn put_hex(line: &mut Line, bytes: &[u8])
     put(line, &digits[..len]);
 }
 
-/// The number of 64 bits that a text spells in decimal digits without a leading zero.
-#[tactic(auto, unfolding(crate::specs::Reading::decimal_of))]
-pub fn long_of(text: &str) -> Option<u64>
-    ensures { result ≡ decimal_of text.now }
+/// The number of 64 bits that bytes spell in decimal digits without a leading zero.
+#[tactic(auto, using(crate::proofs::Readings::readings))]
+pub fn long_of(digits: &[u8]) -> Option<u64>
+    ensures { result ≡ decimal_of digits.now }
 {
-    let Ok(number) = text.parse::<u64>() else {
-        return None;
-    };
-    is_decimal(number, text).then_some(number)
+    match digits {
+        [] => None,
+        [digit] => digit_of(*digit),
+        [b'0', ..] => None,
+        [front @ .., last] => with_digit(front_of(front)?, *last),
+    }
 }
 
-/// Whether the text is what a number is written as.
-fn is_decimal(number: u64, text: &str) -> bool
-    ensures { result ≡ bytes_eq text.now (decimal number) }
+/// So many decimal digits make a number of 64 bits, whichever they are.
+const FRONT_MAX: usize = 19;
+
+/// The number that the digits in front of the last one make; none where a byte is no digit, or where
+/// they are too many.
+#[tactic(auto, using(crate::proofs::Digits::digits))]
+fn front_of(digits: &[u8]) -> Option<u64>
+    ensures { result ≡ then_some (all_ascii_digits digits.now && nat_le (length digits.now) FRONT_MAX) (digits_value 10 digits.now) }
 {
-    let mut line = Line::new();
-    put_long(&mut line, number);
-    text.as_bytes() == line.as_slice()
+    if digits.len() > FRONT_MAX {
+        return None;
+    }
+    let mut number = 0;
+    for digit in digits {
+        number = number * 10 + digit_of(*digit)?;
+    }
+    Some(number)
+}
+
+/// The number that a last digit makes behind a front, where 64 bits hold it.
+fn with_digit(front: u64, last: u8) -> Option<u64>
+    ensures { let number = front * 10 + digit_value last in result ≡ then_some (is_ascii_digit last && nat_lt number (2 ^ 64)) number }
+{
+    front.checked_mul(10)?.checked_add(digit_of(last)?)
+}
+
+/// The number that a digit stands for; none where the byte is no digit.
+fn digit_of(byte: u8) -> Option<u64>
+    ensures { result ≡ then_some (is_ascii_digit byte) (digit_value byte) }
+{
+    if byte.is_ascii_digit() {
+        Some(u64::from(byte - b'0'))
+    } else {
+        None
+    }
 }
 
 #[cfg(test)]

@@ -16,3 +16,34 @@ fn parts_of_a_line(rt: HostRuntime) -> Result<(), Fail> {
     assert_eq!(rt; line.as_slice(), text.as_slice());
     Ok(())
 }
+
+/// Whether a text is read as this.
+fn is_read(text: &[u8], number: Option<u64>) -> bool {
+    long_of(text) == number
+}
+
+#[test]
+fn the_edges_of_numbers(rt: HostRuntime) -> Result<(), Fail> {
+    assert!(rt; is_read(b"0", Some(0)));
+    assert!(rt; is_read(b"9", Some(9)));
+    assert!(rt; is_read(b"10", Some(10)));
+    assert!(rt; is_read(b"9999999999999999999", Some(10_000_000_000_000_000_000 - 1)));
+    assert!(rt; is_read(b"18446744073709551615", Some(u64::MAX)));
+    assert!(rt; is_read(b"18446744073709551616", None));
+    assert!(rt; is_read(b"99999999999999999999", None));
+    assert!(rt; is_read(b"100000000000000000000", None));
+    Ok(())
+}
+
+#[test]
+fn texts_that_spell_no_number(rt: HostRuntime) -> Result<(), Fail> {
+    assert!(rt; is_read(b"", None));
+    assert!(rt; is_read(b"00", None));
+    assert!(rt; is_read(b"01", None));
+    assert!(rt; is_read(b"+1", None));
+    assert!(rt; is_read(b"a", None));
+    assert!(rt; is_read(b"1a", None));
+    assert!(rt; is_read(b"1/", None));
+    assert!(rt; is_read(b":1", None));
+    Ok(())
+}
