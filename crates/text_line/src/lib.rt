@@ -30,17 +30,24 @@ pub fn put(line: &mut Line, bytes: &[u8])
     let _fits = line.try_extend_from_slice(bytes);
 }
 
-#[tactic(auto, using(crate::proofs::Decimals::decimals))]
+/// The most digits of a number of 64 bits.
+const DIGITS_MAX: usize = 20;
+
+/// Appends a number in decimal digits, which are found from the last to the first.
 fn put_decimal(line: &mut Line, number: u64)
     requires { array_vec_len line.old + length (decimal number) ≤ LINE_MAX }
     ensures { Writes (decimal number) line.old.items line.new.items }
 {
-    if number < 10 {
-        put(line, &[b'0' + number as u8]);
-    } else {
-        put_decimal(line, number / 10);
-        put(line, &[b'0' + (number % 10) as u8]);
+    let mut digits = [0; DIGITS_MAX];
+    let mut start = DIGITS_MAX - 1;
+    let mut left = number;
+    while left >= 10 {
+        digits[start] = b'0' + (left % 10) as u8;
+        start -= 1;
+        left /= 10;
     }
+    digits[start] = b'0' + left as u8;
+    put(line, &digits[start..]);
 }
 
 /// Appends a number in decimal digits, at most 20.
