@@ -1,5 +1,6 @@
 -- What one more event makes of what is kept of a log.
 use Rattle.std.proofs.Common.{◌≡◌, ◌≢◌, ℕ, suc, ◌+◌, ◌-◌, ◌<◌, Bool, true, false, not, ◌&&◌, cond, eqb, arith, rules, List, [], ◌∷◌, ◌++◌, length, length-append, map, set, slice_get, get_or, ◌≤◌, Option, Some, None, Vec, Global, refl, sym, ap, ◌∙◌, ◌⊎◌, inl, inr}
+use Rattle.std.specs.Bool.{MatchBool}
 use Rattle.std.specs.Option.{option_to_list}
 use Rattle.std.proofs.lemmas.Bool.{and_parts, cases_eq, false_from_ne_true, false≢true}
 use Rattle.std.proofs.lemmas.Bool.Decides.{nat_tests}
@@ -30,7 +31,7 @@ use Rattle.session_laws.proofs.Settling.{reserves_live, reserves_none}
 use Rattle.audit_check.specs.declared.accounts.Standing.{Standing}
 use Rattle.audit_check.specs.declared.history.Hold.{Hold}
 use Rattle.audit_check.specs.History.{AreEmpty, AreIdle, IsRenewed, IsRenewedTo, IsReplyFor, challenge_by, first_hold, hold_after, hold_by, is_next_by, reply_at, silent_by, standing_by}
-use Rattle.audit_check.specs.Legal.{IsLegalLog, MayFollow, is_open, is_password_of, may_be_decided, readings_decide}
+use Rattle.audit_check.specs.Legal.{IsDecided, IsLegalLog, MayFollow, is_open, is_password_of, may_be_decided, readings_decide}
 use Rattle.audit_check.specs.Following.{is_no_reading, may_be_denied}
 use Rattle.policy_laws.specs.Strangers.{without_readings}
 use Rattle.otp_hash.specs.Hashing.{hash_of}
@@ -354,3 +355,15 @@ idle_more xs v none all n d lt = go (cases_eq n (length xs)) where
   go (inr ne) =
       let below : n < length xs = omega (arith, lt, ne, length-append xs (v ∷ [])) in
       ap (λ (x : Vec Event Global). x.items) (get_or_append_left xs (v ∷ []) d n below) ∙ all n d below
+
+-- whether the policy may give an event's decision, on a reply whose readings decide and on any other ask
+pub decided_open : (setup : Settings) (events : List Event) (e : Event) (b : Bool) → is_open setup events e ≡ true → (readings_decide setup events (open_session_of events e.worker) ≡ true → b ≡ may_be_decided setup events (open_session_of events e.worker) e.decision) → MatchBool b (IsDecided setup events e) (IsDecided setup events e → ⊥)
+decided_open setup events e b opened by =
+    go b (by (and_parts (is_reply e.ask) (readings_decide setup events (open_session_of events e.worker)) opened).1) where
+      go : (b : Bool) → b ≡ may_be_decided setup events (open_session_of events e.worker) e.decision → MatchBool b (IsDecided setup events e) (IsDecided setup events e → ⊥)
+      go true is = record { decided = λ shut. absurd (false≢true (sym shut ∙ opened)); undecided = λ h. sym is }
+      go false is = λ d. false≢true (is ∙ d.undecided opened)
+
+pub decided_shut : (setup : Settings) (events : List Event) (e : Event) (b : Bool) (verdict : Decision) → is_open setup events e ≡ false → verdict ≡ verdict_of setup events e.worker e.ask → MatchBool b (e.decision ≡ verdict) (e.decision ≡ verdict → ⊥) → MatchBool b (IsDecided setup events e) (IsDecided setup events e → ⊥)
+decided_shut setup events e true verdict shut is told = record { decided = λ h. told ∙ is; undecided = λ opened. absurd (false≢true (sym shut ∙ opened)) }
+decided_shut setup events e false verdict shut is told = λ d. told (d.decided shut ∙ sym is)

@@ -58,19 +58,25 @@ pub record AreFollowed (e : Event) (old new : List (Vec Event Global)) : Type 0 
   pub same : length new ≡ length old
   pub each : (n : ℕ) (d : Vec Event Global) → n < length old → (slice_index_or new n d).items ≡ recent_after n e (slice_index_or old n d).items
 
--- what is kept of a legal log: for each worker what its open session has come to and the events of it, how many sessions were opened, and for each account its hold and the passwords of its replies
-pub record IsKept (setup : Settings) (h : History) : Type 0 where
+-- what is kept of a legal log: how many events it has and how many sessions were opened, for each worker what its open session has come to and the events of it, and for each account its hold and the passwords of its replies
+pub record IsKept (setup : Settings) (events : List Event) (h : History) : Type 0 where
   pub in_range : IsInRange setup
-  pub legal : IsLegalLog setup h.events.items
+  pub legal : IsLegalLog setup events
+  pub counted : h.count ≡ length events
   pub followed : length h.recent.items ≡ setup.workers
-  pub recents : (n : ℕ) (d : Vec Event Global) → n < length h.recent.items → IsRecent (slice_index_or h.recent.items n d).items n h.events.items
+  pub recents : (n : ℕ) (d : Vec Event Global) → n < length h.recent.items → IsRecent (slice_index_or h.recent.items n d).items n events
   pub seated : length h.seats.items ≡ setup.workers
-  pub seats : (n : ℕ) (d : Seat) → n < length h.seats.items → IsSeat (slice_index_or h.seats.items n d) n h.events.items
-  pub opened : h.opened ≡ openings_of h.events.items
+  pub seats : (n : ℕ) (d : Seat) → n < length h.seats.items → IsSeat (slice_index_or h.seats.items n d) n events
+  pub opened : h.opened ≡ openings_of events
   pub held : length h.holds.items ≡ length setup.accounts
-  pub holds : (n : ℕ) (account : Account) (d : Hold) → slice_get setup.accounts n ≡ Some account → slice_index_or h.holds.items n d ≡ hold_by h.events.items account.name
+  pub holds : (n : ℕ) (account : Account) (d : Hold) → slice_get setup.accounts n ≡ Some account → slice_index_or h.holds.items n d ≡ hold_by events account.name
   pub replied : length h.replies.items ≡ length setup.accounts
-  pub replies : (n : ℕ) (account : Account) (d : Vec ℕ Global) → slice_get setup.accounts n ≡ Some account → (slice_index_or h.replies.items n d).items ≡ replies_of h.events.items account.name
+  pub replies : (n : ℕ) (account : Account) (d : Vec ℕ Global) → slice_get setup.accounts n ≡ Some account → (slice_index_or h.replies.items n d).items ≡ replies_of events account.name
+
+-- there is such a log
+pub record HasLog (setup : Settings) (h : History) : Type 0 where
+  pub events : List Event
+  pub kept : IsKept setup events h
 
 -- a hold before the first event
 abbrev pub first_hold : Account → Hold

@@ -1,13 +1,14 @@
 //! What is decided by the accounts, where a session's own events decide nothing else.
 
-ghost use Rattle.std.specs.Prelude.{◌≡◌, ◌≢◌, ◌<◌, ◌&&◌, [], ◌∷◌, None, Some, length, nat_eq, not, slice_get, unwrap_or};
+ghost use Rattle.std.specs.Prelude.{◌≡◌, ◌≢◌, ◌<◌, ◌&&◌, List, [], ◌∷◌, None, Some, length, nat_eq, not, slice_get, unwrap_or};
 ghost use Rattle.std.specs.List.{last_or, list_any};
 ghost use Rattle.policy_model.specs.declared.account.Account.{Account};
 ghost use Rattle.policy_model.specs.declared.event.Decision.TheVariants.{Permit};
+ghost use Rattle.policy_model.specs.declared.event.Event.{Event};
 ghost use Rattle.policy_model.specs.Journal.{open_session_of};
 ghost use Rattle.policy_model.specs.Logins.{account_of, current_sequence, is_decoy, user_named, verified_user};
 ghost use Rattle.policy_model.specs.Verdict.{account_named, account_verdict, is_next_password, reply_verdict, sequence_of, user_verdict};
-ghost use Rattle.audit_check.specs.History.{IsKept, challenge_by, is_next_by, silent_by, standing_by};
+ghost use Rattle.audit_check.specs.History.{HasLog, IsKept, challenge_by, is_next_by, silent_by, standing_by};
 ghost use Rattle.audit_check.specs.Legal.{is_password_of};
 
 use crate::history::{History, Hold};
@@ -20,9 +21,9 @@ use request_catalogue::{Name, rules};
 
 /// How many passwords an account's chain still has.
 fn sequence(setup: &Setup, history: &History, account: u32) -> u64
-    requires kept { IsKept setup.now history.now }
+    requires kept { HasLog setup.now history.now }
     requires account { account < length setup.now.accounts }
-    ensures { (a : Account) → slice_get setup.now.accounts account ≡ Some a → result ≡ current_sequence history.now.events.items a }
+    ensures { (events : List Event) → IsKept setup.now events history.now → (a : Account) → slice_get setup.now.accounts account ≡ Some a → result ≡ current_sequence events a }
 {
     let first = setup.parts().accounts.as_slice()[account as usize].sequence;
     u64::from(first).saturating_sub(history.replies[account as usize].len() as u64)
@@ -39,9 +40,9 @@ pub(crate) struct Standing {
 
 /// What is kept of the account of a number.
 fn standing_of(setup: &Setup, history: &History, account: u32) -> Standing
-    requires kept { IsKept setup.now history.now }
+    requires kept { HasLog setup.now history.now }
     requires account { account < length setup.now.accounts }
-    ensures { (a : Account) → slice_get setup.now.accounts account ≡ Some a → result ≡ standing_by history.now.events.items a }
+    ensures { (events : List Event) → IsKept setup.now events history.now → (a : Account) → slice_get setup.now.accounts account ≡ Some a → result ≡ standing_by events a }
 {
     Standing {
         enabled: setup.parts().accounts.as_slice()[account as usize].enabled,
@@ -77,8 +78,8 @@ pub(crate) fn judge_challenge(
     user: &Name,
     now: u64,
 ) -> Decision
-    requires { IsKept setup.now history.now }
-    ensures { result ≡ account_verdict setup.now history.now.events.items session user.now now (account_of setup.now user.now) }
+    requires { HasLog setup.now history.now }
+    ensures { (events : List Event) → IsKept setup.now events history.now → result ≡ account_verdict setup.now events session user.now now (account_of setup.now user.now) }
 {
     match setup.find(user) {
         None => setup.challenge_decoy(user),
@@ -105,8 +106,8 @@ fn silent_by(session: u32, hold: Hold) -> Decision
 
 /// A REPLY without readings of a session for a user.
 fn judge_user(setup: &Setup, history: &History, session: u32, user: &Name) -> Decision
-    requires { IsKept setup.now history.now }
-    ensures { result ≡ user_verdict setup.now history.now.events.items session [] user.now }
+    requires { HasLog setup.now history.now }
+    ensures { (events : List Event) → IsKept setup.now events history.now → result ≡ user_verdict setup.now events session [] user.now }
 {
     match setup.find(user) {
         None => Decision::Deny {
@@ -119,10 +120,10 @@ fn judge_user(setup: &Setup, history: &History, session: u32, user: &Name) -> De
 
 /// A REPLY without readings of a worker's open session, where nothing but its login decides.
 pub(crate) fn judge_reply(setup: &Setup, history: &History, worker: u32) -> Decision
-    requires kept { IsKept setup.now history.now }
+    requires kept { HasLog setup.now history.now }
     requires worker { worker < length history.now.recent.items }
-    ensures { open_session_of history.now.events.items worker ≢ 0 →
-        result ≡ reply_verdict setup.now history.now.events.items (open_session_of history.now.events.items worker) None None }
+    ensures { (events : List Event) → IsKept setup.now events history.now → open_session_of events worker ≢ 0 →
+        result ≡ reply_verdict setup.now events (open_session_of events worker) None None }
 {
     let taking = login_of(history, worker);
     if is_decoy(&taking) {
@@ -147,8 +148,8 @@ pub(crate) fn judge_reply(setup: &Setup, history: &History, worker: u32) -> Deci
 
 /// The current sequence of a user that is there and has an account, or 0.
 fn sequence_of(setup: &Setup, history: &History, user: Option<Name>) -> u64
-    requires { IsKept setup.now history.now }
-    ensures { result ≡ sequence_of history.now.events.items (account_named setup.now user) }
+    requires { HasLog setup.now history.now }
+    ensures { (events : List Event) → IsKept setup.now events history.now → result ≡ sequence_of events (account_named setup.now user) }
 {
     let Some(user) = user else {
         return 0;
@@ -161,10 +162,10 @@ fn sequence_of(setup: &Setup, history: &History, user: Option<Name>) -> u64
 
 /// An INFO of a session that is logged in: the user's sequence.
 pub(crate) fn judge_info(setup: &Setup, history: &History, worker: u32) -> Decision
-    requires kept { IsKept setup.now history.now }
+    requires kept { HasLog setup.now history.now }
     requires worker { worker < length history.now.recent.items }
-    ensures { open_session_of history.now.events.items worker ≢ 0 →
-        result ≡ Permit (sequence_of history.now.events.items (account_named setup.now (verified_user history.now.events.items (open_session_of history.now.events.items worker)))) }
+    ensures { (events : List Event) → IsKept setup.now events history.now → open_session_of events worker ≢ 0 →
+        result ≡ Permit (sequence_of events (account_named setup.now (verified_user events (open_session_of events worker)))) }
 {
     let recent = recent(history, worker);
     let user = verified_user(recent, open_session(recent, worker));
@@ -212,9 +213,9 @@ fn is_next_by(account: &Account, replies: &[u64], password: u64) -> bool
 
 /// Whether a password is the next one of an account.
 fn is_next(setup: &Setup, history: &History, account: u32, password: u64) -> bool
-    requires kept { IsKept setup.now history.now }
+    requires kept { HasLog setup.now history.now }
     requires account { account < length setup.now.accounts }
-    ensures { (a : Account) → slice_get setup.now.accounts account ≡ Some a → result ≡ is_next_password history.now.events.items a password }
+    ensures { (events : List Event) → IsKept setup.now events history.now → (a : Account) → slice_get setup.now.accounts account ≡ Some a → result ≡ is_next_password events a password }
 {
     is_next_by(
         &setup.parts().accounts.as_slice()[account as usize],
@@ -230,8 +231,8 @@ pub(crate) fn permits(
     taking: &Option<Event>,
     password: u64,
 ) -> bool
-    requires { IsKept setup.now history.now }
-    ensures { result ≡ (not (is_decoy taking.now) && is_password_of history.now.events.items (account_named setup.now (user_named taking.now)) password) }
+    requires { HasLog setup.now history.now }
+    ensures { (events : List Event) → IsKept setup.now events history.now → result ≡ (not (is_decoy taking.now) && is_password_of events (account_named setup.now (user_named taking.now)) password) }
 {
     if is_decoy(taking) {
         return false;

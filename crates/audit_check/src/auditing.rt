@@ -6,7 +6,7 @@ ghost use Rattle.policy_model.specs.declared.event.Event.{Event};
 ghost use Rattle.policy_model.specs.Journal.{kept_events};
 ghost use Rattle.decision_log.specs.Log.{log_text};
 ghost use Rattle.audit_check.specs.Consequences.{IsJournalOf};
-ghost use Rattle.audit_check.specs.History.{IsKept};
+ghost use Rattle.audit_check.specs.History.{HasLog, IsKept};
 ghost use Rattle.audit_check.specs.Legal.{MayFollow};
 ghost use Rattle.audit_check.specs.Said.{IsAnswer, IsFault, Says, events_max, first_line};
 
@@ -20,7 +20,7 @@ use policy_model::{Event, Setup};
 use std::alloc::{AllocError, Global};
 
 /// The events that a run makes at most.
-const EVENTS_MAX: usize = 1_048_576;
+const EVENTS_MAX: u32 = 1_048_576;
 
 /// Where the first newline of a text stands, or the text's length.
 fn newline_at(text: &[u8]) -> usize
@@ -45,20 +45,19 @@ fn line_len(text: &[u8]) -> usize
 
 /// The event of a line that stands behind these, or what is wrong with it.
 fn next_event(setup: &Setup, history: &History, line: &[u8]) -> Result<Event, AuditWhy>
-    requires kept { IsKept setup.now history.now }
-    requires few { length history.now.events.items ≤ events_max }
+    requires { HasLog setup.now history.now }
     ensures { MatchResult result
-        (λ e. (length history.now.events.items < events_max) × Says (length history.now.events.items + 1) line.now e × MayFollow setup.now history.now.events.items e)
-        (IsFault setup.now history.now.events.items line.now) }
+        (λ e. (history.now.count < events_max) × Says (history.now.count + 1) line.now e
+        × ((events : List Event) → IsKept setup.now events history.now → MayFollow setup.now events e))
+        (λ why. (events : List Event) → IsKept setup.now events history.now → IsFault setup.now events line.now why) }
 {
-    let count = history.events.len();
-    if count >= EVENTS_MAX {
+    if history.count >= EVENTS_MAX {
         return Err(AuditWhy::Count);
     }
     let Ok(logged) = read_line(line) else {
         return Err(AuditWhy::Text);
     };
-    if logged.number as usize != count + 1 {
+    if logged.number != history.count + 1 {
         return Err(AuditWhy::Count);
     }
     let event = event_said(&logged);
@@ -81,7 +80,7 @@ fn read_log(alloc: Global, setup: &Setup, text: &[u8]) -> Result<Audit, AllocErr
             Ok(event) => history.push(setup, event)?,
             Err(why) => {
                 return Ok(Audit::No {
-                    line: history.events.len() as u32 + 1,
+                    line: history.count + 1,
                     why,
                 });
             }
@@ -89,7 +88,7 @@ fn read_log(alloc: Global, setup: &Setup, text: &[u8]) -> Result<Audit, AllocErr
         rest = behind;
     }
     Ok(Audit::Yes {
-        events: history.events.len() as u32,
+        events: history.count,
     })
 }
 

@@ -1,15 +1,15 @@
 //! Whether an event may stand behind others in a log.
 
-ghost use Rattle.std.specs.Prelude.{◌≡◌, ◌^◌, ◌-◌, ◌<◌, IfSome, List, false, true, length};
+ghost use Rattle.std.specs.Prelude.{◌≡◌, ◌≤◌, ◌^◌, ◌-◌, ◌<◌, IfSome, List, false, true, length};
 ghost use Rattle.std.specs.Bool.{MatchBool};
-ghost use Rattle.policy_model.specs.Journal.{open_session_of, openings_of};
+ghost use Rattle.policy_model.specs.Journal.{open_session_of};
 ghost use Rattle.policy_model.specs.Legal.{opening_session, session_of};
 ghost use Rattle.policy_model.specs.declared.event.Event.{Event};
 ghost use Rattle.policy_model.specs.Settings.{Settings};
 ghost use Rattle.policy_model.specs.Verdict.{verdict_of};
 ghost use Rattle.policy_laws.specs.Strangers.{without_readings};
 ghost use Rattle.audit_check.specs.Following.{is_local, is_no_reading, may_be_denied, rests_on_accounts};
-ghost use Rattle.audit_check.specs.History.{IsKept};
+ghost use Rattle.audit_check.specs.History.{HasLog, IsKept};
 ghost use Rattle.audit_check.specs.Legal.{IsDecided, MayFollow, is_open, may_be_decided, readings_decide};
 
 use crate::accounts::{judge_challenge, judge_info, judge_reply, permits};
@@ -44,11 +44,12 @@ fn rests_on_accounts(decision: &Decision) -> bool
 
 /// The policy's verdict on an opening, a CHALLENGE, a REPLY or an INFO.
 fn verdict_by_accounts(setup: &Setup, history: &History, event: &Event) -> Decision
-    requires kept { IsKept setup.now history.now }
+    requires kept { HasLog setup.now history.now }
     requires worker { event.now.worker < length history.now.recent.items }
     requires shown { without_readings event.now.ask ≡ event.now.ask }
     requires other { is_local event.now.ask ≡ false }
-    ensures { result ≡ verdict_of setup.now history.now.events.items event.now.worker event.now.ask }
+    ensures { (events : List Event) → IsKept setup.now events history.now →
+        result ≡ verdict_of setup.now events event.now.worker event.now.ask }
 {
     let recent = recent(history, event.worker);
     let verdict = judge(setup, recent, event.worker, &event.ask);
@@ -68,9 +69,10 @@ fn verdict_by_accounts(setup: &Setup, history: &History, event: &Event) -> Decis
 
 /// The policy's verdict on the event's ask, where what its worker's open session has come to decides it.
 fn verdict_by_seat(setup: &Setup, history: &History, event: &Event) -> Option<Decision>
-    requires kept { IsKept setup.now history.now }
+    requires kept { HasLog setup.now history.now }
     requires worker { event.now.worker < length history.now.seats.items }
-    ensures { IfSome result (λ d. d ≡ verdict_of setup.now history.now.events.items event.now.worker event.now.ask) }
+    ensures { (events : List Event) → IsKept setup.now events history.now →
+        IfSome result (λ d. d ≡ verdict_of setup.now events event.now.worker event.now.ask) }
 {
     judge_by_seat(
         setup.requests(),
@@ -82,10 +84,11 @@ fn verdict_by_seat(setup: &Setup, history: &History, event: &Event) -> Option<De
 
 /// The policy's verdict on the event's ask, by its worker's events and the accounts.
 fn verdict_by_events(setup: &Setup, history: &History, event: &Event) -> Decision
-    requires kept { IsKept setup.now history.now }
+    requires kept { HasLog setup.now history.now }
     requires worker { event.now.worker < length history.now.recent.items }
     requires shown { without_readings event.now.ask ≡ event.now.ask }
-    ensures { result ≡ verdict_of setup.now history.now.events.items event.now.worker event.now.ask }
+    ensures { (events : List Event) → IsKept setup.now events history.now →
+        result ≡ verdict_of setup.now events event.now.worker event.now.ask }
 {
     if is_local(&event.ask) {
         let recent = recent(history, event.worker);
@@ -97,10 +100,11 @@ fn verdict_by_events(setup: &Setup, history: &History, event: &Event) -> Decisio
 
 /// The policy's verdict on the event's ask.
 fn verdict(setup: &Setup, history: &History, event: &Event) -> Decision
-    requires kept { IsKept setup.now history.now }
+    requires kept { HasLog setup.now history.now }
     requires worker { event.now.worker < length history.now.recent.items }
     requires shown { without_readings event.now.ask ≡ event.now.ask }
-    ensures { result ≡ verdict_of setup.now history.now.events.items event.now.worker event.now.ask }
+    ensures { (events : List Event) → IsKept setup.now events history.now →
+        result ≡ verdict_of setup.now events event.now.worker event.now.ask }
 {
     match verdict_by_seat(setup, history, event) {
         None => verdict_by_events(setup, history, event),
@@ -133,10 +137,10 @@ fn may_be_denied(rule: u8, detail: u32, decoyed: bool) -> bool
 
 /// Whether the decision may be one on a reply whose readings decide.
 fn may_be_decided(setup: &Setup, history: &History, event: &Event) -> bool
-    requires kept { IsKept setup.now history.now }
+    requires kept { HasLog setup.now history.now }
     requires worker { event.now.worker < length history.now.recent.items }
-    requires open { readings_decide setup.now history.now.events.items (open_session_of history.now.events.items event.now.worker) ≡ true }
-    ensures { result ≡ may_be_decided setup.now history.now.events.items (open_session_of history.now.events.items event.now.worker) event.now.decision }
+    ensures { (events : List Event) → IsKept setup.now events history.now → readings_decide setup.now events (open_session_of events event.now.worker) ≡ true →
+        result ≡ may_be_decided setup.now events (open_session_of events event.now.worker) event.now.decision }
 {
     let taking = login_of(history, event.worker);
     match event.decision {
@@ -156,27 +160,36 @@ fn is_open(event: &Event, verdict: &Decision) -> bool
     is_reply(&event.ask) && is_no_reading(verdict)
 }
 
+/// Whether a decision is the policy's verdict.
+fn is_verdict(decision: &Decision, verdict: &Decision) -> bool
+    ensures { MatchBool result (decision.now ≡ verdict.now) (decision.now ≡ verdict.now → ⊥) }
+{
+    decision == verdict
+}
+
 /// Whether the policy may give the event's decision.
 fn is_decided(setup: &Setup, history: &History, event: &Event) -> bool
-    requires kept { IsKept setup.now history.now }
+    requires kept { HasLog setup.now history.now }
     requires worker { event.now.worker < length history.now.recent.items }
     requires shown { without_readings event.now.ask ≡ event.now.ask }
-    ensures { MatchBool result (IsDecided setup.now history.now.events.items event.now) (IsDecided setup.now history.now.events.items event.now → ⊥) }
+    ensures { (events : List Event) → IsKept setup.now events history.now →
+        MatchBool result (IsDecided setup.now events event.now) (IsDecided setup.now events event.now → ⊥) }
 {
     let verdict = verdict(setup, history, event);
     if is_open(event, &verdict) {
         may_be_decided(setup, history, event)
     } else {
-        event.decision == verdict
+        is_verdict(&event.decision, &verdict)
     }
 }
 
 /// The session of a worker's opening with this decision.
 fn opening_session(history: &History, worker: u32, decision: &Decision) -> u32
-    requires few { length history.now.events.items < 2 ^ 32 - 1 }
-    requires opened { history.now.opened ≡ openings_of history.now.events.items }
+    requires few { history.now.count < 2 ^ 32 - 1 }
+    requires opened { history.now.opened ≤ history.now.count }
     requires worker { worker < length history.now.seats.items }
-    ensures { (setup : Settings) → IsKept setup history.now → result ≡ opening_session history.now.events.items worker decision.now }
+    ensures { (setup : Settings) (events : List Event) → IsKept setup events history.now →
+        result ≡ opening_session events worker decision.now }
 {
     match decision {
         Decision::Permit { .. } => history.opened + 1,
@@ -187,10 +200,11 @@ fn opening_session(history: &History, worker: u32, decision: &Decision) -> u32
 
 /// The session that an event with this ask and decision has behind these.
 fn session_after(history: &History, event: &Event) -> u32
-    requires few { length history.now.events.items < 2 ^ 32 - 1 }
-    requires opened { history.now.opened ≡ openings_of history.now.events.items }
+    requires few { history.now.count < 2 ^ 32 - 1 }
+    requires opened { history.now.opened ≤ history.now.count }
     requires worker { event.now.worker < length history.now.seats.items }
-    ensures { (setup : Settings) → IsKept setup history.now → result ≡ session_of history.now.events.items event.now.worker event.now.ask event.now.decision }
+    ensures { (setup : Settings) (events : List Event) → IsKept setup events history.now →
+        result ≡ session_of events event.now.worker event.now.ask event.now.decision }
 {
     if event.ask.is_begin() {
         opening_session(history, event.worker, &event.decision)
@@ -201,10 +215,11 @@ fn session_after(history: &History, event: &Event) -> u32
 
 /// Whether an event may stand in a log behind these.
 pub(crate) fn may_follow(setup: &Setup, history: &History, event: &Event) -> bool
-    requires kept { IsKept setup.now history.now }
-    requires few { length history.now.events.items < 2 ^ 32 - 1 }
+    requires kept { HasLog setup.now history.now }
+    requires few { history.now.count < 2 ^ 32 - 1 }
     requires shown { without_readings event.now.ask ≡ event.now.ask }
-    ensures { MatchBool result (MayFollow setup.now history.now.events.items event.now) (MayFollow setup.now history.now.events.items event.now → ⊥) }
+    ensures { (events : List Event) → IsKept setup.now events history.now →
+        MatchBool result (MayFollow setup.now events event.now) (MayFollow setup.now events event.now → ⊥) }
 {
     event.worker < setup.workers()
         && event.session == session_after(history, event)

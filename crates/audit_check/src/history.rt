@@ -1,14 +1,15 @@
-//! The events of a log so far, and beside them what they say of each account, so that nobody looks
-//! through all of them again.
+//! What the events of a log so far say of each worker and each account, so that nobody looks through them
+//! again.
 
-ghost use Rattle.std.specs.Prelude.{◌≡◌, ◌<◌, ◌-◌, ◌^◌, [], ◌∷◌, ◌++◌, ◌+◌, IfOk, IfSome, length, map, slice_index_or, if◌then◌else◌};
+ghost use Rattle.std.specs.Prelude.{◌≡◌, ◌<◌, ◌-◌, ◌^◌, List, [], ◌∷◌, ◌++◌, ◌+◌, IfOk, IfSome, length, map, slice_index_or, if◌then◌else◌};
+ghost use Rattle.policy_model.specs.declared.event.Event.{Event};
 ghost use Rattle.policy_model.specs.Asks.{opens};
 ghost use Rattle.session_laws.specs.Tied.{holder_after};
 ghost use Rattle.audit_check.specs.Following.{own_after};
 ghost use Rattle.audit_check.specs.Legal.{MayFollow};
 ghost use Rattle.audit_check.specs.declared.seats.Seat.{Seat};
 ghost use Rattle.audit_check.specs.Seats.{AreSeated, AreVacant};
-ghost use Rattle.audit_check.specs.History.{AreEmpty, AreFollowed, AreIdle, AreReplied, IsKept, IsRenewed, IsReplyFor, first_hold, hold_after};
+ghost use Rattle.audit_check.specs.History.{AreEmpty, AreFollowed, AreIdle, AreReplied, HasLog, IsKept, IsRenewed, IsReplyFor, first_hold, hold_after};
 
 use crate::reading::{is_turn, leaves};
 use crate::seats::{Seat, seat_after};
@@ -27,10 +28,12 @@ pub(crate) struct Hold {
     pub(crate) holder: Option<u32>,
 }
 
-/// The events of a log so far, with what they say of each account of a setup.
+/// What the events of a log so far say of each worker and each account of a setup. The events themselves are
+/// kept nowhere.
 #[derive(Debug, Drop)]
 pub(crate) struct History {
-    pub(crate) events: Vec<Event>,
+    /// How many events there are.
+    pub(crate) count: u32,
     /// By the workers' numbers: each worker's events from its last permitted opening or end on.
     pub(crate) recent: Vec<Vec<Event>>,
     /// By the workers' numbers: what each worker's open session has come to.
@@ -213,12 +216,11 @@ impl History {
     ///
     /// There isn't the memory.
     pub(crate) fn new(alloc: Global, setup: &Setup) -> Result<History, AllocError>
-        ensures kept { IfOk result (IsKept setup.now) }
-        ensures none { IfOk result (λ history. history.events.items ≡ []) }
+        ensures { IfOk result (IsKept setup.now []) }
     {
         let accounts = setup.parts().accounts.as_slice();
         Ok(History {
-            events: Vec::new(alloc),
+            count: 0,
             recent: no_events(alloc, setup.workers() as usize)?,
             seats: no_sessions(alloc, setup.workers() as usize)?,
             opened: 0,
@@ -229,10 +231,11 @@ impl History {
 
     /// The account of a permitted reply's user.
     fn account_of_reply(&self, setup: &Setup, event: &Event) -> Option<u32>
-        requires kept { IsKept setup.now self.now }
+        requires kept { HasLog setup.now self.now }
         requires worker { event.now.worker < length self.now.recent.items }
-        requires next { MayFollow setup.now self.now.events.items event.now }
-        ensures { IsReplyFor setup.now self.now.events.items event.now result }
+        ensures within { IfSome result (λ n. n < length setup.now.accounts) }
+        ensures each { (events : List Event) → IsKept setup.now events self.now → MayFollow setup.now events event.now →
+            IsReplyFor setup.now events event.now result }
     {
         if !event.accepts() {
             return None;
@@ -249,11 +252,11 @@ impl History {
     ///
     /// There isn't the memory.
     pub(crate) fn push(&mut self, setup: &Setup, event: Event) -> Result<(), AllocError>
-        requires kept { IsKept setup.now self.old }
-        requires few { length self.old.events.items < 2 ^ 32 - 1 }
-        requires next { MayFollow setup.now self.old.events.items event }
-        ensures kept { IfOk result (λ done. IsKept setup.now self.new) }
-        ensures events { IfOk result (λ done. self.new.events.items ≡ self.old.events.items ++ event ∷ []) }
+        requires kept { HasLog setup.now self.old }
+        requires few { self.old.count < 2 ^ 32 - 1 }
+        requires next { (events : List Event) → IsKept setup.now events self.old → MayFollow setup.now events event }
+        ensures { IfOk result (λ done. (events : List Event) → IsKept setup.now events self.old →
+            IsKept setup.now (events ++ event ∷ []) self.new) }
     {
         let account = self.account_of_reply(setup, &event);
         accept(&mut self.replies, account, event.decision.value())?;
@@ -261,7 +264,7 @@ impl History {
         self.opened = opened_after(self.opened, &event);
         seat(&mut self.seats, &event);
         follow(&mut self.recent, event)?;
-        self.events.push(event)?;
+        self.count += 1;
         Ok(())
     }
 }

@@ -1,6 +1,7 @@
 //! What a worker's open session did, by the worker's events since it was opened.
 
-ghost use Rattle.std.specs.Prelude.{◌≡◌, ◌≢◌, ◌<◌, ◌&&◌, ◌==◌, Some, length, if◌then◌else◌};
+ghost use Rattle.std.specs.Prelude.{◌≡◌, ◌≢◌, ◌<◌, ◌&&◌, ◌==◌, List, Some, length, if◌then◌else◌};
+ghost use Rattle.policy_model.specs.declared.event.Event.{Event};
 ghost use Rattle.policy_model.specs.Asks.{takes};
 ghost use Rattle.policy_model.specs.Journal.{is_own, last_event, open_session_of};
 ghost use Rattle.policy_model.specs.Logins.{is_decoy, user_named};
@@ -15,7 +16,7 @@ use request_catalogue::Name;
 /// The worker's events from its last permitted opening or end on: all that its open session did.
 pub(crate) fn recent(history: &History, worker: u32) -> &[Event]
     requires { worker < length history.now.recent.items }
-    ensures { (setup : Settings) → IsKept setup history.now → IsRecent result.now worker history.now.events.items }
+    ensures { (setup : Settings) (events : List Event) → IsKept setup events history.now → IsRecent result.now worker events }
 {
     history.recent[worker as usize].as_slice()
 }
@@ -65,8 +66,8 @@ pub(crate) fn user_named(taking: &Option<Event>) -> Option<Name>
 /// The last permitted CHALLENGE of the worker's open session.
 pub(crate) fn login_of(history: &History, worker: u32) -> Option<Event>
     requires { worker < length history.now.recent.items }
-    ensures { (setup : Settings) → IsKept setup history.now → open_session_of history.now.events.items worker ≢ 0 →
-        result ≡ last_event history.now.events.items (open_session_of history.now.events.items worker) takes }
+    ensures { (setup : Settings) (events : List Event) → IsKept setup events history.now → open_session_of events worker ≢ 0 →
+        result ≡ last_event events (open_session_of events worker) takes }
 {
     let recent = recent(history, worker);
     last_taking(recent, open_session(recent, worker))

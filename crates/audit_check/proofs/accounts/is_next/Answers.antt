@@ -7,11 +7,11 @@ use Rattle.audit_check.proofs.KeptLemmas.{next_told}
 use Rattle.audit_check.proofs.accounts.is_next.Goals as goal
 
 pub returns : goal.returns
-returns c = λ a stands.
+returns c = λ events kept a stands.
     c.is_next_by.ensures
     ∙ ap (λ (x : Account). is_next_by x c.as_slice-2.result.now c.args.password)
     (c.index-as_slice-account.is
     ∙ ap (λ (l : List Account). get_or l c.args.account c.index-as_slice-account.result) (c.as_slice.ensures ∙ ap (λ (s : Settings). s.accounts) c.parts.ensures.value)
     ∙ get_or_from_slice_get c.args.setup.now.accounts c.args.account a c.index-as_slice-account.result stands)
-    ∙ next_told c.args.history.now.events.items a c.as_slice-2.result.now c.args.password
-    (c.as_slice-2.ensures.value ∙ ap (λ (v : Vec ℕ Global). v.items) c.index.ensures ∙ c.requires.kept.replies c.args.account a c.index.result.now stands)
+    ∙ next_told events a c.as_slice-2.result.now c.args.password
+    (c.as_slice-2.ensures.value ∙ ap (λ (v : Vec ℕ Global). v.items) c.index.ensures ∙ kept.replies c.args.account a c.index.result.now stands)

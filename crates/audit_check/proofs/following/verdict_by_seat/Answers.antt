@@ -6,8 +6,8 @@ use Rattle.audit_check.proofs.SeatLemmas.{seat_told}
 use Rattle.audit_check.proofs.following.verdict_by_seat.Goals as goal
 
 pub returns : goal.returns
-returns c =
-    let seat : IsSeat c.index.result.now c.args.event.now.worker c.args.history.now.events.items = subst (λ s. IsSeat s c.args.event.now.worker c.args.history.now.events.items) (sym c.index.ensures) (c.requires.kept.seats c.args.event.now.worker c.index.result.now c.requires.worker) in
-    subst (λ o. IfSome o (λ d. d ≡ verdict_of c.args.setup.now c.args.history.now.events.items c.args.event.now.worker c.args.event.now.ask))
+returns c = λ events kept.
+    let seat : IsSeat c.index.result.now c.args.event.now.worker events = subst (λ s. IsSeat s c.args.event.now.worker events) (sym c.index.ensures) (kept.seats c.args.event.now.worker c.index.result.now c.requires.worker) in
+    subst (λ o. IfSome o (λ d. d ≡ verdict_of c.args.setup.now events c.args.event.now.worker c.args.event.now.ask))
     (sym (c.judge_by_seat.ensures ∙ ap (λ n. seat_verdict n c.args.history.now.opened c.index.result.now c.args.event.now.ask) c.requests.ensures.value))
-    (seat_told c.args.setup.now c.args.history.now.events.items c.args.event.now.worker c.args.history.now.opened c.index.result.now c.args.event.now.ask seat c.requires.kept.opened)
+    (seat_told c.args.setup.now events c.args.event.now.worker c.args.history.now.opened c.index.result.now c.args.event.now.ask seat kept.opened)

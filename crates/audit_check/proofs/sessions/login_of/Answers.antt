@@ -5,7 +5,7 @@ use Rattle.audit_check.proofs.OwnEvents.{taking_is}
 use Rattle.audit_check.proofs.sessions.login_of.Goals as goal
 
 pub returns : goal.returns
-returns c = λ setup kept some.
+returns c = λ setup events kept some.
     c.last_taking.ensures
-    ∙ ap (λ n. last_event c.recent-recent.result.now n takes) (c.open_session.ensures ∙ (c.recent-recent.ensures setup kept).session)
-    ∙ taking_is c.recent-recent.result.now c.args.history.now.events.items c.args.worker (c.recent-recent.ensures setup kept) some
+    ∙ ap (λ n. last_event c.recent-recent.result.now n takes) (c.open_session.ensures ∙ (c.recent-recent.ensures setup events kept).session)
+    ∙ taking_is c.recent-recent.result.now events c.args.worker (c.recent-recent.ensures setup events kept) some
