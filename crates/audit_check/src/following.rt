@@ -14,7 +14,6 @@ ghost use Rattle.audit_check.specs.Legal.{IsDecided, MayFollow, is_open, may_be_
 
 use crate::accounts::{judge_challenge, judge_info, judge_reply, permits};
 use crate::history::History;
-use crate::reading::is_reply;
 use crate::seats::judge_by_seat;
 use crate::sessions::{is_decoy, login_of, recent};
 use policy_model::{Ask, Decision, Event, Setup, judge, open_session};
@@ -157,7 +156,7 @@ fn is_open(event: &Event, verdict: &Decision) -> bool
     ensures { (setup : Settings) (before : List Event) → verdict.now ≡ verdict_of setup before event.now.worker event.now.ask →
         result ≡ is_open setup before event.now }
 {
-    is_reply(&event.ask) && is_no_reading(verdict)
+    event.ask.is_reply() && is_no_reading(verdict)
 }
 
 /// Whether a decision is the policy's verdict.

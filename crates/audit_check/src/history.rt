@@ -11,7 +11,6 @@ ghost use Rattle.audit_check.specs.declared.seats.Seat.{Seat};
 ghost use Rattle.audit_check.specs.Seats.{AreSeated, AreVacant};
 ghost use Rattle.audit_check.specs.History.{AreEmpty, AreFollowed, AreIdle, AreReplied, HasLog, IsKept, IsRenewed, IsReplyFor, first_hold, hold_after};
 
-use crate::reading::{is_turn, leaves};
 use crate::seats::{Seat, seat_after};
 use crate::sessions::{login_of, user_named};
 use policy_model::{Account, Event, Setup};
@@ -51,7 +50,7 @@ fn holder_after(holder: Option<u32>, event: &Event) -> Option<u32>
     ensures { result ≡ holder_after holder event.now }
 {
     match holder {
-        Some(session) if event.session == session && leaves(event) => None,
+        Some(session) if event.session == session && event.leaves() => None,
         _ => holder,
     }
 }
@@ -89,7 +88,7 @@ fn settle(holds: &mut Vec<Hold>, accounts: &[Account], event: &Event)
     requires { length holds.old.items ≡ length accounts.now }
     ensures { IsRenewed accounts.now event.now holds.old.items holds.new.items }
 {
-    if event.takes() || leaves(event) {
+    if event.takes() || event.leaves() {
         renew(holds, accounts, event);
     }
 }
@@ -122,7 +121,7 @@ fn opened_after(opened: u32, event: &Event) -> u32
 fn append(own: &mut Vec<Event>, event: Event) -> Result<(), AllocError>
     ensures { IfOk result (λ done. own.new.items ≡ own_after event own.old.items) }
 {
-    if is_turn(&event) {
+    if event.is_turn_of(event.worker) {
         own.clear();
     }
     own.push(event)?;

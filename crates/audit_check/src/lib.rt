@@ -8,7 +8,6 @@ mod auditing;
 mod following;
 mod history;
 mod laws;
-mod reading;
 mod said;
 mod seats;
 mod sessions;

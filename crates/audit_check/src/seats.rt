@@ -4,7 +4,6 @@ ghost use Rattle.std.specs.Prelude.{◌≡◌, ◌<◌, ◌^◌, ◌-◌};
 ghost use Rattle.session_laws.specs.Judged.{closing_decision, opening_decision};
 ghost use Rattle.audit_check.specs.Seats.{frame_verdict, is_common, seat_after, seat_verdict};
 
-use crate::reading::is_turn;
 use policy_model::{Ask, Decision, Event};
 use request_catalogue::rules;
 
@@ -24,7 +23,7 @@ pub(crate) fn seat_after(seat: Seat, event: &Event) -> Seat
     requires { seat.asks < 2 ^ 32 - 1 }
     ensures { result ≡ seat_after event.now seat }
 {
-    if is_turn(event) {
+    if event.is_turn_of(event.worker) {
         Seat {
             session: if event.ask.is_begin() {
                 event.session

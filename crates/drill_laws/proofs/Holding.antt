@@ -11,7 +11,7 @@ use Rattle.policy_model.specs.declared.event.Decision.{Decision}
 use Rattle.policy_model.specs.declared.event.Event.{Event}
 use Rattle.policy_model.specs.declared.phase.Phase.{Phase}
 use Rattle.policy_model.specs.declared.phase.Phase.TheVariants.{Challenged, Over}
-use Rattle.policy_model.specs.Asks.{came_by_frame, decoys_from, ends_session, gives_up, is_begin, is_challenge_for, is_end, is_finish, is_lost, is_permit, is_violation, opens, reserves, takes_user, value_of}
+use Rattle.policy_model.specs.Asks.{came_by_frame, decoys_from, ends_session, gives_up, is_begin, is_challenge_for, is_end, is_finish, is_lost, is_permit, is_violation, leaves, opens, reserves, takes_user, value_of}
 use Rattle.policy_model.specs.Journal.{is_own, open_session_of}
 use Rattle.policy_model.specs.Legal.{IsLegal, session_of}
 use Rattle.policy_model.specs.Logins.{holder_of}
@@ -20,7 +20,7 @@ use Rattle.policy_model.specs.Settings.{Settings}
 use Rattle.policy_model.specs.Verdict.{is_other, verdict_of}
 use Rattle.policy_model.proofs.Runs.{next_decision, next_session, no_begin, stays_open}
 use Rattle.policy_model.proofs.Verdicts.{denied_begin}
-use Rattle.session_laws.specs.Tied.{holder_after, leaves}
+use Rattle.session_laws.specs.Tied.{holder_after}
 use Rattle.session_laws.proofs.ByEvents.{by_legal_events}
 use Rattle.session_laws.proofs.Holders.{holder_of-none, holder_of-other, holder_of-taken, legal_tied}
 use Rattle.session_laws.proofs.Openings.{legal_numbered, open_session-kept, open_session-other, phase_of-zero, session_own}

@@ -166,6 +166,10 @@ reserves user e = takes_user user e && nat_lt (value_of e.decision) decoys_from
 abbrev pub gives_up : Event → Bool
 gives_up e = is_reply e.ask || is_abandon e.ask && is_permit e.decision
 
+-- an event by which its session leaves whom it holds: it gives up, or it ends
+abbrev pub leaves : Event → Bool
+leaves e = gives_up e || ends_session e
+
 -- what a session does with a user: it takes one or gives it up
 abbrev pub is_login_step : Event → Bool
 is_login_step e = takes e || gives_up e

@@ -33,4 +33,4 @@ pub use reading::DECOYS_FROM;
 pub use setup::Setup;
 pub use table::row;
 pub use texts::{Numbers, Text};
-pub use verdict::{allows, is_holder, judge_decoy, shown};
+pub use verdict::{allows, is_holder, judge_decoy, judge_grant, shown};

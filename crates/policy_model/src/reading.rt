@@ -2,7 +2,7 @@
 
 ghost use Rattle.std.specs.Prelude.{◌≡◌, ◌&&◌, ◌==◌, nat_le, option_and_then};
 ghost use Rattle.policy_model.specs.declared.event.Decision.TheVariants.{Deny};
-ghost use Rattle.policy_model.specs.Asks.{accepts, challenge_name, closes_file, decoys_from, ends_session, exports, gives_up, handle_of, is_challenge_for, is_close, is_denied_reply, is_login_denial, is_login_step, mode_of, moment_of, opens, opens_file, permits_kind, reserves, takes, takes_user, value_of};
+ghost use Rattle.policy_model.specs.Asks.{accepts, challenge_name, closes_file, decoys_from, ends_session, exports, gives_up, handle_of, is_challenge_for, is_close, is_denied_reply, is_login_denial, is_login_step, is_reply, leaves, mode_of, moment_of, opens, opens_file, permits_kind, reserves, takes, takes_user, value_of};
 ghost use Rattle.policy_model.specs.Journal.{is_own, is_turn_of};
 
 use crate::event::{Ask, Decision, Event};
@@ -31,6 +31,13 @@ impl Ask {
             Ask::Challenge { user, .. } => same_name(user, name),
             _ => false,
         }
+    }
+
+    /// Whether this is a REPLY.
+    pub fn is_reply(&self) -> bool
+        ensures { result ≡ is_reply self.now }
+    {
+        matches!(self, Ask::Reply { .. })
     }
 
     /// The moment of a CHALLENGE in milliseconds, or 0.
@@ -98,7 +105,7 @@ impl Decision {
 
 impl Event {
     /// Whether this is a permitted opening or end of the worker.
-    pub(crate) fn is_turn_of(&self, worker: u32) -> bool
+    pub fn is_turn_of(&self, worker: u32) -> bool
         ensures { result ≡ is_turn_of worker self.now }
     {
         self.worker == worker
@@ -169,6 +176,13 @@ impl Event {
         }
     }
 
+    /// Whether the session leaves whom it holds by this: it gives up, or it ends.
+    pub fn leaves(&self) -> bool
+        ensures { result ≡ leaves self.now }
+    {
+        self.gives_up() || self.ends_session()
+    }
+
     /// Whether this is the session's, which holds no user after it.
     pub(crate) fn is_giving_up_of(&self, session: u32) -> bool
         ensures { result ≡ is_own session gives_up self.now }
@@ -194,7 +208,7 @@ impl Event {
     pub fn accepts(&self) -> bool
         ensures { result ≡ accepts self.now }
     {
-        matches!(self.ask, Ask::Reply { .. }) && self.decision.is_permit()
+        self.ask.is_reply() && self.decision.is_permit()
     }
 
     /// Whether this is the session's and a permitted REPLY.
@@ -208,7 +222,7 @@ impl Event {
     pub fn is_denied_reply(&self) -> bool
         ensures { result ≡ is_denied_reply self.now }
     {
-        matches!(self.ask, Ask::Reply { .. }) && self.decision.is_login_denial()
+        self.ask.is_reply() && self.decision.is_login_denial()
     }
 
     /// Whether this is a permitted EXPORT.

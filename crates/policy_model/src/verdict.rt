@@ -273,8 +273,8 @@ fn grant_of<'a>(grants: &'a [Grant], name: &Label) -> Option<&'a Grant>
     grants.iter().find(|g| same_label(&g.name, name))
 }
 
-/// Rules 20 and 21 of an OPEN, else a permit with the handle.
-fn judge_grant(grants: &[Grant], mode: u8, name: &Label, free: u64) -> Decision
+/// Rules 20 and 21 of an OPEN of the file with this name in a mode, else a permit with the handle that is free.
+pub fn judge_grant(grants: &[Grant], mode: u8, name: &Label, free: u64) -> Decision
     ensures { result ≡ grant_verdict free mode (find (λ g. same_label g.name name.now) grants.now) }
 {
     match grant_of(grants, name) {

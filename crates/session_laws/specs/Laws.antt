@@ -4,7 +4,7 @@ use Rattle.request_catalogue.specs.declared.texts.Name.{Name}
 use Rattle.policy_model.specs.declared.account.Account.{Account}
 use Rattle.policy_model.specs.declared.event.Event.{Event}
 use Rattle.policy_model.specs.declared.phase.Phase.TheVariants.{Challenged, Over, User, Verified}
-use Rattle.policy_model.specs.Asks.{accepts, exports, opens, opens_file, reserves, takes_user}
+use Rattle.policy_model.specs.Asks.{accepts, exports, leaves, opens, opens_file, reserves, takes_user}
 use Rattle.policy_model.specs.Handles.{live_handles_of}
 use Rattle.policy_model.specs.Journal.{has_event}
 use Rattle.policy_model.specs.Legal.{IsLegal, IsNext}
@@ -17,7 +17,7 @@ use Rattle.session_laws.specs.Handled.{GivesLeast, HandlesDiffer}
 use Rattle.session_laws.specs.LoggedIn.{IsChallenged, IsLoggedIn}
 use Rattle.session_laws.specs.Numbered.{HoldsNone, HoldsOnly}
 use Rattle.session_laws.specs.Opened.{AreApart, IsFresh}
-use Rattle.session_laws.specs.Tied.{AcceptsNext, AreTied, HoldsOneAtMost, LeavesUser, ReservesLive, leaves}
+use Rattle.session_laws.specs.Tied.{AcceptsNext, AreTied, HoldsOneAtMost, LeavesUser, ReservesLive}
 
 -- an event counts for its own session and for no other
 pub record CountsOnce (journal : List Event) (e : Event) : Type 0 where

@@ -1,20 +1,16 @@
 -- Inner: the tie between sessions and accounts.
-use Rattle.std.specs.Prelude.{ℕ, ◌≡◌, ◌<◌, ◌-◌, ◌||◌, Bool, true, false, List, [], ◌∷◌, ◌++◌, Option, Some, None, if◌then◌else◌}
+use Rattle.std.specs.Prelude.{ℕ, ◌≡◌, ◌<◌, ◌-◌, true, false, List, [], ◌∷◌, ◌++◌, Option, Some, None, if◌then◌else◌}
 use Rattle.request_catalogue.specs.declared.texts.Name.{Name}
 use Rattle.policy_model.specs.declared.account.Account.{Account}
 use Rattle.policy_model.specs.declared.event.Event.{Event}
 use Rattle.policy_model.specs.declared.phase.Phase.TheVariants.{Challenged}
-use Rattle.policy_model.specs.Asks.{ends_session, gives_up, value_of}
+use Rattle.policy_model.specs.Asks.{leaves, value_of}
 use Rattle.policy_model.specs.Journal.{is_own}
 use Rattle.policy_model.specs.Logins.{account_of, challenged_user, current_sequence, holder_of, is_live, last_taking_of, replies_of, was_decoyed}
 use Rattle.policy_model.specs.Phases.{is_over, phase_of}
 use Rattle.policy_model.specs.Settings.{Settings}
 use Rattle.policy_model.specs.Verdict.{is_next_password}
 use Rattle.session_laws.specs.Numbered.{IsNumbered}
-
--- an event by which its session leaves whom it holds: it gives up, or it ends
-abbrev pub leaves : Event → Bool
-leaves e = gives_up e || ends_session e
 
 -- what an event that doesn't reserve the user makes of its holder: none where the holder's session leaves, else as before
 abbrev pub holder_after : Option ℕ → Event → Option ℕ

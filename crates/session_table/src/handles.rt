@@ -10,7 +10,7 @@ ghost use Rattle.session_table.specs.Standing.{grant_number};
 ghost use Rattle.session_table.specs.Judging.{IsCloseVerdict, IsOpenVerdict, IsUseVerdict};
 
 use arrayvec::ArrayVec;
-use policy_model::{Ask, Decision, Event, Grant, Grants, allows};
+use policy_model::{Ask, Decision, Event, Grant, Grants, allows, judge_grant};
 use request_catalogue::{Label, rules};
 use std::marker::Model;
 
@@ -50,37 +50,11 @@ impl Model for Handles {
     ghost invariant = { λ h. AreHandles h.live.items };
 }
 
-/// The grant of a file's name.
-fn grant_of<'a>(grants: &'a [Grant], name: &Label) -> Option<&'a Grant>
-    ensures { option_copied result ≡ find (λ g. same_label g.name name.now) grants.entry.now }
-{
-    grants.iter().find(|g| g.name == *name)
-}
-
 /// The number of the grant of a file's name, counted from 0.
 pub fn find_grant(grants: &Grants, name: &Label) -> Option<usize>
     ensures { result ≡ grant_number grants.now (Some name.now) }
 {
     grants.as_slice().iter().position(|g| g.name == *name)
-}
-
-/// Rules 20 and 21 of an OPEN, else a permit with the handle.
-fn judge_grant(grants: &[Grant], mode: u8, name: &Label, free: u32) -> Decision
-    ensures { result ≡ grant_verdict free mode (find (λ g. same_label g.name name.now) grants.now) }
-{
-    match grant_of(grants, name) {
-        None => Decision::Deny {
-            rule: rules::NOT_GRANTED,
-            detail: 0,
-        },
-        Some(grant) if allows(grant.mode, mode) => Decision::Permit {
-            value: u64::from(free),
-        },
-        Some(_) => Decision::Deny {
-            rule: rules::MODE_NOT_GRANTED,
-            detail: u32::from(mode),
-        },
-    }
 }
 
 /// The file with this handle.
@@ -119,7 +93,7 @@ fn judge_open(live: &[LiveHandle], grants: &[Grant], mode: u8, name: &Label) -> 
             detail: 8,
         };
     }
-    judge_grant(grants, mode, name, free_handle(live))
+    judge_grant(grants, mode, name, u64::from(free_handle(live)))
 }
 
 /// Rules 17 and 18 of a READ or WRITE.
