@@ -5,20 +5,20 @@
 #![tactic(auto)]
 
 mod complaint;
+mod durable;
 mod information;
 
 use complaint::Complaint;
+use durable::{lock_recovered, log_of};
 use info_hooks::{Hook, Hooks};
 use information::{chain_form, person_form, say_chain, say_person};
-use line_log::LineLog;
 use monitor_server::{Detail, otplogd};
 use outside::Word;
-use outside_real::{RealEnds, RealFiles, RealSink, RealSite, fill_standard_streams};
-use real_log::{FileDisk, RealLog};
+use outside_real::{RealEnds, RealFiles, RealSite, fill_standard_streams};
 use std::alloc::{AllocError, Global};
 use std::env;
 use std::env::Args;
-use std::io::{ErrorKind, Stderr};
+use std::io::ErrorKind;
 use std::process::ExitCode;
 use std::rt::Env;
 
@@ -33,6 +33,9 @@ const NO_MEMORY: u8 = 9;
 
 /// A standard stream was closed, and nothing can be opened in its place.
 const NO_STREAM: u8 = 11;
+
+/// The durable log to be recovered from is a run's that is at work.
+const LOG_TAKEN: u8 = 13;
 
 /// The words of the command line, without the program's name.
 fn words_of(alloc: Global, args: Args) -> Result<Vec<Word>, AllocError> {
@@ -49,32 +52,6 @@ fn words_given(rt: &HostRuntime) -> Result<Vec<Word>, u8> {
         Ok(args) => words_of(rt.alloc(), args).map_err(|_| NO_MEMORY),
         Err(error) if error.kind() == ErrorKind::OutOfMemory => Err(NO_MEMORY),
         Err(_) => Err(NO_COMMAND),
-    }
-}
-
-/// The name of the durable log's file, where the words are those of a run that keeps one.
-fn durable_name(words: &[Word]) -> Option<&Word> {
-    match words {
-        [mode, _, log] if mode.as_str() == "serve" => Some(log),
-        _ => None,
-    }
-}
-
-/// The log of a run: standard error, or the durable one that the words name and then standard error.
-fn log_of(
-    rt: HostRuntime,
-    alloc: Global,
-    words: &[Word],
-) -> Result<RealLog<Stderr, HostRuntime>, AllocError> {
-    match durable_name(words) {
-        Some(name) => {
-            let disk = FileDisk::new(rt, name.copy(alloc)?);
-            Ok(RealLog::Durable {
-                log: LineLog::new(disk),
-                echo: RealSink::new(rt.stderr()),
-            })
-        }
-        None => Ok(RealLog::Stream(RealSink::new(rt.stderr()))),
     }
 }
 
@@ -105,6 +82,9 @@ fn main(rt: HostRuntime) -> ExitCode {
     };
     let Ok(log) = log_of(rt, alloc, words.as_slice()) else {
         return complain(&rt, NO_MEMORY, Detail::Nothing);
+    };
+    let Ok(_lock) = lock_recovered(&rt, words.as_slice()) else {
+        return complain(&rt, LOG_TAKEN, Detail::Nothing);
     };
     let mut ends = RealEnds::new(rt.stdin(), rt.stdout());
     let mut files = RealFiles::new(rt, alloc);
