@@ -12,7 +12,7 @@ use crate::reading::{closes, is_challenged, leaves};
 use otp_ledger::Ledger;
 use policy_model::{Ask, DECOYS_FROM, Decision, Event, Grants, Setup};
 use request_catalogue::Label;
-use session_table::{SessionRow, Table, find_grant};
+use session_table::{SessionRow, Table, find_grant, is_use};
 
 /// The session that a worker has, 0 where it has none.
 pub(crate) fn session_of(table: &Table, worker: u32) -> u32
@@ -126,13 +126,13 @@ fn leave(ledger: &mut Ledger, row: &SessionRow, event: &Event)
     }
 }
 
-/// What an event of a session makes of the accounts.
-fn settle_session(ledger: &mut Ledger, row: &SessionRow, event: &Event)
+/// What an event of a session makes of the accounts, where its CHALLENGE is for the account of this number.
+fn settle_session(ledger: &mut Ledger, row: &SessionRow, event: &Event, number: u32)
+    requires number { number ≡ number_for ledger.old event.now }
     requires spends { accepts event.now ≡ true → IsSpendable ledger.old row.now.account (value_of event.now.decision) }
     ensures { ledger.new ≡ ledger_by ledger.old row.now event.now }
 {
     if event.takes() {
-        let number = number_for(ledger, event);
         take(ledger, number, event);
     } else if event.accepts() {
         accept(ledger, row.account, event);
@@ -141,13 +141,14 @@ fn settle_session(ledger: &mut Ledger, row: &SessionRow, event: &Event)
     }
 }
 
-/// What an event makes of the accounts.
-fn settle_accounts(ledger: &mut Ledger, table: &Table, event: &Event)
-    requires { FitsAccounts ledger.old table.now event.now }
+/// What an event makes of the accounts, where its CHALLENGE is for the account of this number.
+fn settle_accounts(ledger: &mut Ledger, table: &Table, event: &Event, number: u32)
+    requires fits { FitsAccounts ledger.old table.now event.now }
+    requires number { number ≡ number_for ledger.old event.now }
     ensures { ledger.new ≡ ledger_after ledger.old (row_at table.now event.now.worker) event.now }
 {
     if let Some(row) = table.row(event.worker) {
-        settle_session(ledger, row, event);
+        settle_session(ledger, row, event, number);
     }
 }
 
@@ -166,8 +167,10 @@ fn settle_rows(table: &mut Table, event: &Event, number: u32, grant: u32)
     }
 }
 
-/// What an event makes of the accounts and the rows.
-pub(crate) fn settle(ledger: &mut Ledger, table: &mut Table, event: &Event)
+/// What an event makes of the accounts and the rows. It stays a call, so that the short way beside it keeps
+/// its words in registers.
+#[inline(never)]
+fn settle_each(ledger: &mut Ledger, table: &mut Table, event: &Event)
     requires accounts { FitsAccounts ledger.old table.old event.now }
     requires rows { FitsRows table.old event.now }
     ensures accounts { ledger.new ≡ ledger_after ledger.old (row_at table.old event.now.worker) event.now }
@@ -175,6 +178,36 @@ pub(crate) fn settle(ledger: &mut Ledger, table: &mut Table, event: &Event)
 {
     let number = number_for(ledger, event);
     let grant = grant_for(ledger.setup(), table, event);
-    settle_accounts(ledger, table, event);
+    settle_accounts(ledger, table, event, number);
     settle_rows(table, event, number, grant);
+}
+
+/// An event once more, from its ask. Of an event that is only made anew single words are read, and so it
+/// never lies in memory whole.
+pub(crate) fn event_again(event: &Event, ask: &Ask) -> Event
+    requires { ask.now ≡ event.now.ask }
+    ensures { result ≡ event.now }
+{
+    Event {
+        worker: event.worker,
+        session: event.session,
+        ask: *ask,
+        decision: event.decision,
+    }
+}
+
+/// What an event of this ask makes of the accounts and the rows. Most are a READ or WRITE, which changes
+/// a few words of one row.
+pub(crate) fn settle(ledger: &mut Ledger, table: &mut Table, ask: &Ask, event: &Event)
+    requires accounts { FitsAccounts ledger.old table.old event.now }
+    requires rows { FitsRows table.old event.now }
+    requires ask { ask.now ≡ event.now.ask }
+    ensures accounts { ledger.new ≡ ledger_after ledger.old (row_at table.old event.now.worker) event.now }
+    ensures rows { table.new ≡ table_next table.old event.now (number_for ledger.old event.now) (grant_for ledger.old.setup (row_at table.old event.now.worker) event.now) }
+{
+    if is_use(event) {
+        table.advance_use(event.worker, event);
+    } else {
+        settle_each(ledger, table, &event_again(event, ask));
+    }
 }

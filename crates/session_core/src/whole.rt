@@ -12,7 +12,7 @@ ghost use Rattle.session_core.specs.Settling.{core_event};
 ghost use Rattle.session_core.specs.Standing.{HasRoom, KeepsSetup, Stands};
 
 use crate::deciding::judge;
-use crate::settling::{session_for, session_of, settle};
+use crate::settling::{event_again, session_for, session_of, settle};
 use otp_ledger::Ledger;
 use policy_model::{Ask, Decision, Event, Setup, Step};
 use session_table::Table;
@@ -117,9 +117,9 @@ impl Core {
         ensures stands { (journal : List Event) → Stands self.old journal → Stands self.new (journal ++ result ∷ []) }
     {
         let event = self.event_of(worker, ask, decision);
-        settle(&mut self.ledger, &mut self.table, &event);
+        settle(&mut self.ledger, &mut self.table, ask, &event);
         self.settled += 1;
-        event
+        event_again(&event, ask)
     }
 
     /// Decides and settles an ask.

@@ -11,7 +11,7 @@ mod table;
 
 pub use bits::Bits;
 pub use handles::{Handles, LiveHandle, find_grant};
-pub use rows::SessionRow;
+pub use rows::{SessionRow, is_use};
 pub use table::Table;
 
 #[cfg(test)]

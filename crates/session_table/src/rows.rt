@@ -1,15 +1,15 @@
 //! The row of a session.
 
-ghost use Rattle.std.specs.Prelude.{◌≡◌, ◌<◌, ◌-◌, ◌^◌, ◌+◌, if◌then◌else◌};
+ghost use Rattle.std.specs.Prelude.{◌≡◌, ◌<◌, ◌-◌, ◌^◌, ◌+◌, true, if◌then◌else◌};
 ghost use Rattle.policy_model.specs.Asks.{takes};
 ghost use Rattle.session_laws.specs.Phased.{phase_after};
 ghost use Rattle.session_table.specs.Files.{FitsFiles};
-ghost use Rattle.session_table.specs.Rows.{new_row, row_after};
+ghost use Rattle.session_table.specs.Rows.{is_use, new_row, row_after};
 ghost use Rattle.session_table.specs.Standing.{StandsAfter, StandsNew};
 
 use crate::bits::Bits;
 use crate::handles::Handles;
-use policy_model::{Event, Phase};
+use policy_model::{Ask, Event, Phase};
 use std::mem::size_of;
 
 /// What the policy knows of a session that is open.
@@ -58,6 +58,13 @@ fn account_after(before: u32, event: &Event, account: u32) -> u32
     if event.takes() { account } else { before }
 }
 
+/// Whether this is a permitted READ or WRITE: of such a one a row keeps a mark and a count alone.
+pub fn is_use(event: &Event) -> bool
+    ensures { result ≡ is_use event.now }
+{
+    matches!(event.ask, Ask::ReadAt { .. } | Ask::WriteAt { .. }) && event.decision.is_permit()
+}
+
 /// One more where something is counted.
 fn count_after(count: u32, is_counted: bool) -> u32
     requires { count < 2 ^ 32 - 1 }
@@ -99,5 +106,15 @@ impl SessionRow {
         self.asked = count_after(self.asked, event.ask.came_by_frame());
         self.tries = count_after(self.tries, event.is_denied_reply());
         self.handles.advance(event, grant);
+    }
+
+    /// What `advance` does, where the event is a permitted READ or WRITE.
+    pub fn advance_use(&mut self, event: &Event)
+        requires kind { is_use event.now ≡ true }
+        requires asked { self.old.asked < 2 ^ 32 - 1 }
+        ensures { self.new ≡ row_after self.old event.now 0 0 }
+    {
+        self.bits.advance(event);
+        self.asked += 1;
     }
 }

@@ -2,6 +2,7 @@
 
 ghost use Rattle.std.specs.Prelude.{◌≡◌, ◌<◌, ◌-◌, ◌^◌, ◌+◌, None, IfOk, is_none, is_some, true, length, slice_set};
 ghost use Rattle.std.specs.Option.{option_copied};
+ghost use Rattle.session_table.specs.Rows.{is_use};
 ghost use Rattle.session_table.specs.Tables.{FitsWorker, StandsBegun, StandsEnded, StandsKept, StandsOpen, new_table, row_at, rows_after, table_after, table_begun, table_ended};
 
 use crate::rows::SessionRow;
@@ -32,6 +33,18 @@ fn put(rows: &mut Vec<Option<SessionRow>>, worker: u32, event: &Event, account: 
 {
     if let Some(row) = &mut rows[worker as usize] {
         row.advance(event, account, grant);
+    }
+}
+
+/// What a permitted READ or WRITE makes of the row of its worker, if it has one.
+fn put_use(rows: &mut Vec<Option<SessionRow>>, worker: u32, event: &Event)
+    requires worker { worker < length rows.old.items }
+    requires fits { FitsWorker rows.old.items worker event.now }
+    requires kind { is_use event.now ≡ true }
+    ensures { rows.new.items ≡ rows_after rows.old.items worker event.now 0 0 }
+{
+    if let Some(row) = &mut rows[worker as usize] {
+        row.advance_use(event);
     }
 }
 
@@ -90,6 +103,16 @@ impl Table {
         ensures stands { StandsKept self.old worker event.now account grant self.new }
     {
         put(&mut self.rows, worker, event, account, grant);
+    }
+
+    /// What `advance` does, where the event is a permitted READ or WRITE, which names no account and no grant.
+    pub fn advance_use(&mut self, worker: u32, event: &Event)
+        requires worker { worker < length self.old.rows }
+        requires fits { FitsWorker self.old.rows worker event.now }
+        requires kind { is_use event.now ≡ true }
+        ensures { self.new ≡ table_after self.old worker event.now 0 0 }
+    {
+        put_use(&mut self.rows, worker, event);
     }
 
     /// The worker has no session any more.

@@ -41,11 +41,12 @@ returns-clause-kept c =
     }
 
 pub returns-clause-event : goal.returns-clause-event
-returns-clause-event c journal st = c.event_of-event.ensures ∙ core_event_is c.args.self.now journal c.args.worker c.args.ask.now c.args.decision st c.requires.worker (c.requires.decided journal st)
+returns-clause-event c journal st = c.event_again.ensures ∙ c.event_of-event.ensures ∙ core_event_is c.args.self.now journal c.args.worker c.args.ask.now c.args.decision st c.requires.worker (c.requires.decided journal st)
 
 pub returns-clause-stands : goal.returns-clause-stands
 returns-clause-stands c journal st =
     let core : CoreParts = record { ledger = c.self.inside.ledger; table = c.self.inside.table; settled = c.self.inside.settled } in
-    subst (λ (x : CoreParts). Stands x (journal ++ c.event_of-event.result ∷ [])) (sym (core_after_is core c.event_of-event.result c.settle.new.ledger c.settle.new.table c.settle.ensures.accounts c.settle.ensures.rows))
+    rw c.event_again.ensures
+    (subst (λ (x : CoreParts). Stands x (journal ++ c.event_of-event.result ∷ [])) (sym (core_after_is core c.event_of-event.result c.settle.new.ledger c.settle.new.table c.settle.ensures.accounts c.settle.ensures.rows))
     (stands_push core journal c.event_of-event.result c.self.invariant.core_is
-    (event_following core c.args.self.now journal c.args.worker c.args.ask.now c.args.decision c.event_of-event.result c.self.view_is (subst (λ (x : CoreParts). Stands x journal) (sym c.self.view_is) st) c.requires.worker c.requires.room.few (c.requires.decided journal st) c.event_of-event.ensures))
+    (event_following core c.args.self.now journal c.args.worker c.args.ask.now c.args.decision c.event_of-event.result c.self.view_is (subst (λ (x : CoreParts). Stands x journal) (sym c.self.view_is) st) c.requires.worker c.requires.room.few (c.requires.decided journal st) c.event_of-event.ensures)))
