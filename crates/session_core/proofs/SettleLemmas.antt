@@ -16,7 +16,7 @@ use Rattle.policy_model.specs.declared.event.Decision.{Decision}
 use Rattle.policy_model.specs.declared.event.Event.{Event}
 use Rattle.policy_model.specs.declared.phase.Phase.{Phase}
 use Rattle.policy_model.specs.declared.phase.Phase.TheVariants.{Challenged, Over}
-use Rattle.policy_model.specs.Asks.{accepts, came_by_frame, challenge_name, decoys_from, ends_session, gives_up, is_login_step, is_permit, is_reply, moment_of, opens, reserves, takes, takes_user, value_of}
+use Rattle.policy_model.specs.Asks.{accepts, came_by_frame, challenge_name, decoys_from, ends_session, gives_up, is_login_step, is_permit, is_reply, leaves, moment_of, opens, reserves, takes, takes_user, value_of}
 use Rattle.policy_model.specs.Legal.{IsLegal, IsNext}
 use Rattle.policy_model.specs.Logins.{account_of, holder_of, last_taking_of, replies_of, session_taking, was_decoyed}
 use Rattle.policy_model.specs.Phases.{phase_of}
@@ -25,7 +25,7 @@ use Rattle.policy_model.specs.Verdict.{is_holder, taking_moment}
 use Rattle.session_core.specs.Settling.{is_challenged, ledger_accepting, ledger_by, ledger_leaving, ledger_taking, may_hold, number_for}
 use Rattle.session_core.specs.Standing.{IsSpendable}
 use Rattle.session_core.proofs.AccountLemmas.{IsUser, as_many, decoy_number_is, holds_at_most, user_is}
-use Rattle.session_laws.specs.Tied.{LeavesUser, leaves}
+use Rattle.session_laws.specs.Tied.{LeavesUser}
 use Rattle.session_laws.proofs.Numbers.{decoyed_holds, holds_only, unchallenged_holds}
 use Rattle.session_laws.proofs.Opened.{opening}
 use Rattle.session_laws.proofs.Openings.{phase_of-zero}

@@ -13,7 +13,7 @@ use Rattle.policy_model.specs.declared.event.Decision.{Decision}
 use Rattle.policy_model.specs.declared.event.Event.{Event}
 use Rattle.policy_model.specs.declared.phase.Phase.{Phase}
 use Rattle.policy_model.specs.declared.phase.Phase.TheVariants.{Challenged}
-use Rattle.policy_model.specs.Asks.{accepts, is_begin, is_end, is_lost, is_permit, is_reply, moment_of, opens, takes}
+use Rattle.policy_model.specs.Asks.{accepts, is_begin, is_end, is_lost, is_permit, is_reply, leaves, moment_of, opens, takes}
 use Rattle.policy_model.specs.Journal.{open_session_of}
 use Rattle.policy_model.specs.Legal.{IsLegal, IsNext, next_event}
 use Rattle.policy_model.specs.Runs.{IsOfWorker}
@@ -29,7 +29,6 @@ use Rattle.session_core.specs.Standing.{FitsAccounts, FitsRows, HasJournal, IsCo
 use Rattle.session_core.proofs.GrantLemmas.{grant_found}
 use Rattle.session_core.proofs.SettleLemmas.{idle_stands, number_taken, opened_stands, session_stands, spendable}
 use Rattle.session_laws.specs.Rooms.{login_room, may_log_in}
-use Rattle.session_laws.specs.Tied.{leaves}
 use Rattle.session_laws.proofs.Judging.{event_is}
 use Rattle.session_laws.proofs.NextEvents.{next_event_follows, next_event_kept, workers_go_on}
 use Rattle.session_laws.proofs.Opened.{opening}

@@ -6,11 +6,10 @@ use Rattle.policy_model.specs.declared.event.Decision.{Decision}
 use Rattle.policy_model.specs.declared.event.Event.{Event}
 use Rattle.policy_model.specs.declared.phase.Phase.{Phase}
 use Rattle.policy_model.specs.declared.phase.Phase.TheVariants.{Challenged}
-use Rattle.policy_model.specs.Asks.{accepts, challenge_name, decoys_from, is_end, is_permit, moment_of, opens, takes, value_of}
+use Rattle.policy_model.specs.Asks.{accepts, challenge_name, decoys_from, is_end, is_permit, leaves, moment_of, opens, takes, value_of}
 use Rattle.policy_model.specs.Settings.{Settings}
 use Rattle.session_core.specs.Parts.{CoreParts, row_of}
 use Rattle.session_laws.specs.Judged.{event_by}
-use Rattle.session_laws.specs.Tied.{leaves}
 use Rattle.session_table.specs.declared.rows.SessionRow.{SessionRow}
 use Rattle.session_table.specs.Standing.{grant_number, grants_at, label_named, number_by}
 use Rattle.session_table.specs.Tables.{TableParts, table_after, table_begun, table_ended}

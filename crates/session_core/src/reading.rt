@@ -3,7 +3,6 @@
 ghost use Rattle.std.specs.Prelude.{◌≡◌, ◌&&◌};
 ghost use Rattle.policy_model.specs.Asks.{is_end, is_permit};
 ghost use Rattle.session_core.specs.Settling.{is_challenged};
-ghost use Rattle.session_laws.specs.Tied.{leaves};
 
 use policy_model::{Event, Phase};
 
@@ -12,13 +11,6 @@ pub(crate) fn closes(event: &Event) -> bool
     ensures { result ≡ (is_end event.now.ask && is_permit event.now.decision) }
 {
     event.ask.is_end() && event.decision.is_permit()
-}
-
-/// Whether the session leaves whom it holds by this.
-pub(crate) fn leaves(event: &Event) -> bool
-    ensures { result ≡ leaves event.now }
-{
-    event.gives_up() || event.ends_session()
 }
 
 /// Whether a session of this phase was challenged.

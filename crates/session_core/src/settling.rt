@@ -8,7 +8,7 @@ ghost use Rattle.session_laws.specs.Judged.{event_session};
 ghost use Rattle.session_table.specs.Standing.{grant_number, grants_at};
 ghost use Rattle.session_table.specs.Tables.{row_at};
 
-use crate::reading::{closes, is_challenged, leaves};
+use crate::reading::{closes, is_challenged};
 use otp_ledger::Ledger;
 use policy_model::{Ask, DECOYS_FROM, Decision, Event, Grants, Setup};
 use request_catalogue::Label;
@@ -121,7 +121,7 @@ fn accept(ledger: &mut Ledger, account: u32, event: &Event)
 fn leave(ledger: &mut Ledger, row: &SessionRow, event: &Event)
     ensures { ledger.new ≡ ledger_leaving ledger.old row.now event.now }
 {
-    if leaves(event) && may_hold(ledger, row) {
+    if event.leaves() && may_hold(ledger, row) {
         ledger.release(row.account, event.session);
     }
 }
