@@ -25,6 +25,7 @@ def rate(command, events, times):
 
 
 def measure(commands, n, times, runs):
+    """Prints rates and ratios, and gives the events and, by the commands' names, the instructions where they are counted."""
     texts = {drill(command) for command in commands.values()}
     if len(texts) != 1:
         sys.exit(f"the programs differ at {n}")
@@ -33,23 +34,34 @@ def measure(commands, n, times, runs):
     for _ in range(runs):
         for name, command in commands.items():
             rates[name].append(rate(command, events, times))
+    costs = {}
     for name, command in commands.items():
         cost = instructions(*command)
-        counted = "" if cost is None else f", {cost // events} instructions an event"
+        if cost is not None:
+            costs[name] = cost
+        counted = f", {cost // events} instructions an event" if name in costs else ""
         print(f"drill {n:2} {name:14}: {spread(rates[name], '9.0f')} events a second{counted}")
     for name in list(commands)[1:]:
         ratios = [ours / theirs for ours, theirs in zip(rates["ours"], rates[name])]
         print(f"drill {n:2} ratio         : {spread(ratios, '.2f')} of the {name}", flush=True)
+    return events, costs
 
 
 def main(ours, twin, runs):
+    before = None
     for n, times in CASES:
         commands = {
             "ours": (ours, "drill", str(n)),
             "twin, 4 threads": (twin, str(n), "4"),
             "twin, 1 thread": (twin, str(n), "1"),
         }
-        measure(commands, n, times, int(runs))
+        events, costs = measure(commands, n, times, int(runs))
+        if before:
+            more = events - before[0]
+            for name in costs:
+                each = (costs[name] - before[1][name]) // more
+                print(f"drill {n:2} {name:14}: {each} instructions for each of the {more} events that it has more", flush=True)
+        before = events, costs
 
 
 main(*sys.argv[1:])
