@@ -1,7 +1,8 @@
 //! The durable log that the words of the command line name.
 
+use durable_log::Disk;
 use line_log::LineLog;
-use outside::Word;
+use outside::{Failed, Word};
 use outside_real::RealSink;
 use real_log::{FileDisk, RealLog};
 use std::alloc::{AllocError, Global};
@@ -9,63 +10,80 @@ use std::fs::{File, TryLockError};
 use std::io::Stderr;
 use std::rt::Files;
 
-/// The name of the durable log's file, where the words are those of a run that keeps one.
-fn durable_name(words: &[Word]) -> Option<&Word> {
-    match words {
-        [mode, _, log] if mode.as_str() == "serve" => Some(log),
-        _ => None,
-    }
-}
+/// The log of a run that writes lines to standard error.
+pub(crate) type RunLog = RealLog<Stderr, HostRuntime>;
 
-/// The log of a run: standard error, or the durable one that the words name and then standard error.
-pub(crate) fn log_of(
-    rt: HostRuntime,
-    alloc: Global,
-    words: &[Word],
-) -> Result<RealLog<Stderr, HostRuntime>, AllocError> {
-    match durable_name(words) {
-        Some(name) => {
-            let disk = FileDisk::new(rt, name.copy(alloc)?);
-            Ok(RealLog::Durable {
-                log: LineLog::new(disk),
-                echo: RealSink::new(rt.stderr()),
-            })
-        }
-        None => Ok(RealLog::Stream(RealSink::new(rt.stderr()))),
-    }
-}
-
-/// The name of the durable log's file, where the words recover from it.
-fn recovered_name(words: &[Word]) -> Option<&Word> {
-    match words {
-        [mode, _, log] if mode.as_str() == "recover" => Some(log),
-        _ => None,
-    }
-}
-
-/// A run that is at work has the durable log.
+/// Why a run has no log.
 #[derive(Clone, Copy, Debug)]
-pub(crate) struct Taken;
+pub(crate) enum LogError {
+    /// Memory was wanted.
+    OutOfMemory,
+    /// Another run has the durable log.
+    Taken,
+}
 
-/// The file of the durable log that the words recover from, locked until it is dropped, so that no run
-/// writes to it meanwhile. None where the words recover from no file that can be opened: what is wrong with
-/// that one the recovery says.
-///
-/// # Errors
-///
-/// A run has locked it, as each does that has written its first line.
-pub(crate) fn lock_recovered<R: Files<File = File>>(
-    rt: &R,
-    words: &[Word],
-) -> Result<Option<File>, Taken> {
-    let Some(name) = recovered_name(words) else {
-        return Ok(None);
-    };
+impl LogError {
+    /// The exit status.
+    pub(crate) fn status(self) -> u8 {
+        match self {
+            LogError::OutOfMemory => 9,
+            LogError::Taken => 13,
+        }
+    }
+}
+
+impl From<AllocError> for LogError {
+    fn from(_: AllocError) -> Self {
+        LogError::OutOfMemory
+    }
+}
+
+/// The file of this name, locked until it is dropped. None where it can't be opened: what is wrong with it
+/// the mode says that reads it.
+fn lock<R: Files<File = File>>(rt: &R, name: &Word) -> Result<Option<File>, LogError> {
     let Ok(file) = File::open(rt, name.as_str()) else {
         return Ok(None);
     };
     match file.try_lock() {
-        Err(TryLockError::WouldBlock) => Err(Taken),
+        Err(TryLockError::WouldBlock) => Err(LogError::Taken),
         Ok(()) | Err(TryLockError::Error(_)) => Ok(Some(file)),
+    }
+}
+
+/// The disk of a run's durable log, whose file it keeps locked from now on.
+fn disk_of(rt: HostRuntime, alloc: Global, name: &Word) -> Result<FileDisk<HostRuntime>, LogError> {
+    drop(lock(&rt, name)?);
+    let mut disk = FileDisk::new(rt, name.copy(alloc)?);
+    // The first call opens and locks the file. Where it fails, so does each line's.
+    match disk.sync() {
+        Ok(()) | Err(Failed) => Ok(disk),
+    }
+}
+
+/// The log of a run, which is the durable one of this name and then standard error.
+fn log_on_disk(rt: HostRuntime, alloc: Global, name: &Word) -> Result<RunLog, LogError> {
+    let disk = disk_of(rt, alloc, name)?;
+    Ok(RealLog::Durable {
+        log: LineLog::new(disk),
+        echo: RealSink::new(rt.stderr()),
+    })
+}
+
+/// The log of a run, and the file that the words recover from, locked until it is dropped, so that no run
+/// writes to it meanwhile. The log is standard error, but where the words name a durable one.
+///
+/// # Errors
+///
+/// There isn't the memory, or a run has the durable log.
+pub(crate) fn logs_of(
+    rt: HostRuntime,
+    alloc: Global,
+    words: &[Word],
+) -> Result<(RunLog, Option<File>), LogError> {
+    let plain = RealLog::Stream(RealSink::new(rt.stderr()));
+    match words {
+        [mode, _, name] if mode.as_str() == "serve" => Ok((log_on_disk(rt, alloc, name)?, None)),
+        [mode, _, name] if mode.as_str() == "recover" => Ok((plain, lock(&rt, name)?)),
+        _ => Ok((plain, None)),
     }
 }

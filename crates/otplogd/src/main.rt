@@ -9,7 +9,7 @@ mod durable;
 mod information;
 
 use complaint::Complaint;
-use durable::{lock_recovered, log_of};
+use durable::logs_of;
 use info_hooks::{Hook, Hooks};
 use information::{chain_form, person_form, say_chain, say_person};
 use monitor_server::{Detail, otplogd};
@@ -33,9 +33,6 @@ const NO_MEMORY: u8 = 9;
 
 /// A standard stream was closed, and nothing can be opened in its place.
 const NO_STREAM: u8 = 11;
-
-/// The durable log to be recovered from is a run's that is at work.
-const LOG_TAKEN: u8 = 13;
 
 /// The words of the command line, without the program's name.
 fn words_of(alloc: Global, args: Args) -> Result<Vec<Word>, AllocError> {
@@ -80,11 +77,9 @@ fn main(rt: HostRuntime) -> ExitCode {
     let Ok(information) = Hooks::new(hooks) else {
         return complain(&rt, NO_MEMORY, Detail::Nothing);
     };
-    let Ok(log) = log_of(rt, alloc, words.as_slice()) else {
-        return complain(&rt, NO_MEMORY, Detail::Nothing);
-    };
-    let Ok(_lock) = lock_recovered(&rt, words.as_slice()) else {
-        return complain(&rt, LOG_TAKEN, Detail::Nothing);
+    let (log, _lock) = match logs_of(rt, alloc, words.as_slice()) {
+        Ok(logs) => logs,
+        Err(error) => return complain(&rt, error.status(), Detail::Nothing),
     };
     let mut ends = RealEnds::new(rt.stdin(), rt.stdout());
     let mut files = RealFiles::new(rt, alloc);
