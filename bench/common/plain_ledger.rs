@@ -1,7 +1,8 @@
 // The ledger as one would write it in plain Rust: a row an account, and an ordered set of the accepted passwords.
-// All accounts have MD5.
-use crate::plain_md5::step;
 use std::collections::BTreeSet;
+
+/// An algorithm's hash step: the password that follows from a password.
+pub type HashStep = fn(u64) -> u64;
 
 #[derive(Clone, Copy, Debug, PartialEq, Eq)]
 pub enum Decision {
@@ -20,6 +21,7 @@ impl Decision {
 }
 
 pub struct Row {
+    pub step: HashStep,
     pub sequence: u16,
     pub password: u64,
     pub taker: u32,
@@ -35,9 +37,10 @@ pub struct Ledger {
 }
 
 impl Ledger {
-    /// Accounts by their sequences and stored passwords; `cap` passwords more may be accepted.
-    pub fn new(accounts: &[(u16, u64)], cap: u32) -> Ledger {
-        let row_of = |&(sequence, password): &(u16, u64)| Row {
+    /// Accounts by their hash steps, sequences and stored passwords; `cap` passwords more may be accepted.
+    pub fn new(accounts: &[(HashStep, u16, u64)], cap: u32) -> Ledger {
+        let row_of = |&(step, sequence, password): &(HashStep, u16, u64)| Row {
+            step,
             sequence,
             password,
             taker: 0,
@@ -46,7 +49,7 @@ impl Ledger {
         };
         Ledger {
             rows: accounts.iter().map(row_of).collect(),
-            kept: (0..).zip(accounts.iter().map(|account| account.1)).collect(),
+            kept: (0..).zip(accounts.iter().map(|account| account.2)).collect(),
             spent: 0,
             cap,
         }
@@ -71,7 +74,7 @@ impl Ledger {
         }
         let readings = || [words, hex].into_iter().flatten();
         for password in readings() {
-            if step(password) == row.password && !self.was_accepted(account, password) {
+            if (row.step)(password) == row.password && !self.was_accepted(account, password) {
                 return Decision::Permit { value: password };
             }
         }

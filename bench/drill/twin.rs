@@ -1,6 +1,11 @@
 // The drill of N as one would write it in plain Rust: the children's bytes are frames in memory, workers read them frame
 // by frame, decide each request behind one lock, write a line for each event into a log in memory, and reply by frames.
 // Prints the counts of the journal as `otplogd drill N` does. Called as `twin N THREADS`.
+#[path = "../common/plain_core.rs"]
+mod plain_core;
+#[path = "../common/plain_ledger.rs"]
+#[allow(dead_code)]
+mod plain_ledger;
 #[path = "../common/plain_md5.rs"]
 mod plain_md5;
 #[path = "../common/plain_sha1.rs"]
@@ -9,9 +14,12 @@ mod twin_chain;
 mod twin_monitor;
 mod twin_script;
 
+use plain_core::{Ask, Event, Name, Why};
+use plain_ledger::Decision;
 use std::collections::BTreeMap;
 use std::fmt::Write;
-use twin_monitor::{Account, Algo, Ask, Decision, Event, Monitor, Why};
+use twin_chain::Algo;
+use twin_monitor::{Account, Monitor};
 use twin_script::{Class, Script, frame_at, request_of};
 
 const WORKERS: u32 = 4;
@@ -33,7 +41,7 @@ fn serve_child(monitor: &Monitor, worker: u32, session: u32, bytes: &[u8], post:
         };
         rest = behind;
         let ask = request_of(kind, body);
-        let decision = monitor.decide(worker, session, ask.clone());
+        let decision = monitor.decide(worker, ask);
         let reply = act(monitor, &ask, decision, body, post);
         twin_script::push_frame(&mut told, kind | 256, session, &reply);
         match (ask, decision) {
@@ -57,13 +65,13 @@ fn act(monitor: &Monitor, ask: &Ask, decision: Decision, body: &[u8], post: &mut
     match ask {
         Ask::Banner => reply.extend_from_slice(b"OTP login"),
         Ask::Challenge { user, .. } => reply.extend_from_slice(monitor.challenge(user, value).as_bytes()),
-        Ask::Write { .. } => {
+        Ask::WriteAt { .. } => {
             let bytes = &body[12..];
             post.file.resize(post.file.len().max(bytes.len()), 0);
             post.file[..bytes.len()].copy_from_slice(bytes);
         }
-        Ask::Read { max, .. } => reply.extend_from_slice(&post.file[..post.file.len().min(*max as usize)]),
-        Ask::Open { .. } => reply.extend_from_slice(&(value as u32).to_le_bytes()),
+        Ask::ReadAt { max, .. } => reply.extend_from_slice(&post.file[..post.file.len().min(usize::from(*max))]),
+        Ask::OpenFile { .. } => reply.extend_from_slice(&(value as u32).to_le_bytes()),
         _ => {}
     }
     reply
@@ -77,17 +85,18 @@ fn serve(monitor: &Monitor, worker: u32, scripts: &[Script]) -> Post {
         if end.is_none() {
             end = serve_child(monitor, worker, session, &script.user, &mut post);
         }
-        monitor.end(worker, session, end.unwrap_or(Why::ChildEnded));
+        monitor.end(worker, end.unwrap_or(Why::ChildEnded));
     }
     post
 }
 
-fn end_word(why: Why) -> &'static str {
+/// The place and the word of an end in the counts.
+fn end_of(why: Why) -> (u8, &'static str) {
     match why {
-        Why::Finished => "finished",
-        Why::ChildEnded => "child-ended",
-        Why::Truncated => "truncated",
-        Why::Violation { .. } => "violation",
+        Why::Finished => (0, "finished"),
+        Why::ChildEnded => (1, "child-ended"),
+        Why::Truncated => (2, "truncated"),
+        Why::Violation { .. } => (4, "violation"),
     }
 }
 
@@ -100,7 +109,7 @@ fn counts_of(journal: &[Event]) -> String {
             *rules.entry(rule).or_insert(0) += 1;
         }
         if let Ask::End { why } = event.ask {
-            *ends.entry((why.place(), end_word(why))).or_insert(0) += 1;
+            *ends.entry(end_of(why)).or_insert(0) += 1;
         }
     }
     let mut text = format!(
@@ -130,7 +139,13 @@ fn main() {
         let seed = format!("drill{worker}");
         let chain = twin_chain::chain(algo, &seed, &format!("drill phrase {n}"), 8 * n);
         plans.push(Class::plan(n, worker, &chain));
-        accounts.push(Account::new(format!("d{worker}"), algo, seed, 8 * n, chain[8 * n as usize]));
+        accounts.push(Account {
+            name: Name::of(&format!("d{worker}")),
+            algo,
+            seed,
+            sequence: 8 * n as u16,
+            password: chain[8 * n as usize],
+        });
     }
     let monitor = Monitor::new(accounts);
     let posts: Vec<Post> = if threads == 1 {

@@ -1,11 +1,26 @@
-// The chains of passwords of RFC 2289.
-use crate::twin_monitor::Algo;
+// The algorithms and the chains of passwords of RFC 2289.
+use crate::plain_ledger::HashStep;
 use crate::{plain_md5, plain_sha1};
 
-pub fn step(algo: Algo, password: u64) -> u64 {
-    match algo {
-        Algo::Md5 => plain_md5::step(password),
-        Algo::Sha1 => plain_sha1::step(password),
+#[derive(Clone, Copy)]
+pub enum Algo {
+    Md5,
+    Sha1,
+}
+
+impl Algo {
+    pub fn hash_step(self) -> HashStep {
+        match self {
+            Algo::Md5 => plain_md5::step,
+            Algo::Sha1 => plain_sha1::step,
+        }
+    }
+
+    pub fn word(self) -> &'static str {
+        match self {
+            Algo::Md5 => "md5",
+            Algo::Sha1 => "sha1",
+        }
     }
 }
 
@@ -28,5 +43,6 @@ pub fn chain(algo: Algo, seed: &str, phrase: &str, count: u32) -> Vec<u64> {
             plain_sha1::folded(words)
         }
     };
-    std::iter::successors(Some(first), |password| Some(step(algo, *password))).take(count as usize + 1).collect()
+    let step = algo.hash_step();
+    std::iter::successors(Some(first), |password| Some(step(*password))).take(count as usize + 1).collect()
 }

@@ -1,5 +1,5 @@
 // The frames of requests, and what the children of a drill send.
-use crate::twin_monitor::Ask;
+use crate::plain_core::{Ask, Label, Name};
 
 pub struct Script {
     pub pre: Vec<u8>,
@@ -30,22 +30,31 @@ fn number_at(body: &[u8], at: usize) -> u32 {
     u32::from_le_bytes(body[at..at + 4].try_into().unwrap())
 }
 
-fn text_of(body: &[u8]) -> String {
-    String::from_utf8(body.to_vec()).expect("a text")
+/// The offset of a READ or a WRITE, which stands behind the handle.
+fn offset_of(body: &[u8]) -> u64 {
+    u64::from_le_bytes(body[4..12].try_into().unwrap())
+}
+
+fn text_of(body: &[u8]) -> &str {
+    std::str::from_utf8(body).expect("a text")
 }
 
 pub fn request_of(kind: u32, body: &[u8]) -> Ask {
     match kind {
         1 => Ask::Banner,
-        2 => Ask::Challenge { user: text_of(body), now: 1_000 },
-        3 => Ask::Reply { hex: u64::from_str_radix(&text_of(body), 16).ok() },
+        2 => Ask::Challenge { user: Name::of(text_of(body)), now: 1_000 },
+        3 => Ask::Reply { words: None, hex: u64::from_str_radix(text_of(body), 16).ok() },
         4 => Ask::Abandon,
-        5 => Ask::Export { len: body.len() as u32 },
+        5 => Ask::Export { len: body.len() as u16 },
         6 => Ask::Import,
-        7 => Ask::Read { handle: number_at(body, 0), max: u32::from(u16::from_le_bytes([body[12], body[13]])) },
-        8 => Ask::Write { handle: number_at(body, 0), len: body.len() as u32 - 12 },
-        9 => Ask::Open { mode: body[0], name: text_of(&body[1..]) },
-        10 => Ask::Close { handle: number_at(body, 0) },
+        7 => Ask::ReadAt {
+            handle: number_at(body, 0),
+            offset: offset_of(body),
+            max: u16::from_le_bytes([body[12], body[13]]),
+        },
+        8 => Ask::WriteAt { handle: number_at(body, 0), offset: offset_of(body), len: body.len() as u16 - 12 },
+        9 => Ask::OpenFile { mode: body[0], name: Label::of(text_of(&body[1..])) },
+        10 => Ask::CloseFile { handle: number_at(body, 0) },
         13 => Ask::Finish,
         _ => panic!("no request of a drill"),
     }

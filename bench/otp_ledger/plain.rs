@@ -4,7 +4,7 @@ mod plain_ledger;
 #[path = "../common/plain_md5.rs"]
 mod plain_md5;
 
-use plain_ledger::{Decision, Ledger};
+use plain_ledger::{Decision, HashStep, Ledger};
 use plain_md5::step;
 use std::time::Instant;
 
@@ -88,7 +88,7 @@ fn summed(calls: u32, sum: u64, mut answer: impl FnMut(u32, u64) -> u64) -> u64 
 
 /// A ledger in which so many passwords were accepted, account by account.
 fn begun(chains: &Chains, accepted: u32) -> Ledger {
-    let accounts: Vec<_> = (0..ACCOUNTS).map(|account| (9_999, chains.at(account, 0))).collect();
+    let accounts: Vec<_> = (0..ACCOUNTS).map(|account| (step as HashStep, 9_999, chains.at(account, 0))).collect();
     let mut ledger = Ledger::new(&accounts, accepted + SPARE);
     for account in 0..ACCOUNTS {
         ledger.hold(account, account + 1, 0);

@@ -1,15 +1,15 @@
 // What main.rt.txt does, over the plain core: the words and the lines are the same.
 #![allow(dead_code)]
 
-#[path = "plain_core.rs"]
+#[path = "../common/plain_core.rs"]
 mod plain_core;
 #[path = "../common/plain_ledger.rs"]
 mod plain_ledger;
 #[path = "../common/plain_md5.rs"]
 mod plain_md5;
 
-use plain_core::{Ask, Core, Event, Label, Limits, Name, Step};
-use plain_ledger::Ledger;
+use plain_core::{Ask, Core, Event, Label, Limits, Name, Step, Why};
+use plain_ledger::{HashStep, Ledger};
 use plain_md5::step;
 use std::time::Instant;
 
@@ -150,7 +150,7 @@ fn file_ask(step: u32) -> Ask {
 
 fn late_ask(place: Place, left: u32) -> Ask {
     match left {
-        1 => Ask::End,
+        1 => Ask::End { why: Why::Finished },
         2 => Ask::Finish,
         3 if place.class() < LOGINS => Ask::CloseFile { handle: 1 },
         _ if place.class() < LOGINS => file_ask(place.step),
@@ -162,7 +162,7 @@ fn late_ask(place: Place, left: u32) -> Ask {
 fn run(length: u32, total: u32, count: usize, blocks: usize) {
     let chains = chains_of(total / length / ACCOUNTS / 2 + 5);
     let names: Vec<Name> = (0..ACCOUNTS).map(|account| Name::of(&format!("user{account}"))).collect();
-    let stored: Vec<_> = chains.iter().map(|chain| (9_999, chain[0])).collect();
+    let stored: Vec<_> = chains.iter().map(|chain| (step as HashStep, 9_999, chain[0])).collect();
     let grants = names.iter().map(|_| vec![(Label::of("notes"), 3)]).collect();
     let limits = Limits { requests: 4_096, tries: 3, hold: 30_000 };
     let mut core = Core::new(Ledger::new(&stored, MOST), &names, grants, limits, WORKERS as usize);

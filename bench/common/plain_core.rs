@@ -1,4 +1,5 @@
-// The core as one would write it in plain Rust: a row a worker, the plain ledger, and a map from names to accounts.
+// The core as one would write it in plain Rust: a row a worker, the plain ledger, and a map from names to accounts. The
+// twin of bench/session_core steps it alone, that of bench/drill behind a lock.
 use crate::plain_ledger::{Decision, Ledger};
 use std::collections::HashMap;
 
@@ -15,10 +16,23 @@ impl<const N: usize> Short<N> {
         bytes[..text.len()].copy_from_slice(text.as_bytes());
         Short { bytes, len: text.len() as u8 }
     }
+
+    pub fn as_bytes(&self) -> &[u8] {
+        &self.bytes[..self.len as usize]
+    }
 }
 
 pub type Name = Short<32>;
 pub type Label = Short<64>;
+
+/// Why a session ends.
+#[derive(Clone, Copy, Debug)]
+pub enum Why {
+    Finished,
+    ChildEnded,
+    Truncated,
+    Violation { rule: u8 },
+}
 
 #[derive(Clone, Copy, Debug)]
 pub enum Ask {
@@ -34,13 +48,13 @@ pub enum Ask {
     OpenFile { mode: u8, name: Label },
     CloseFile { handle: u32 },
     Finish,
-    End,
+    End { why: Why },
 }
 
 impl Ask {
     fn number(&self) -> u32 {
         match self {
-            Ask::Begin | Ask::End => 0,
+            Ask::Begin | Ask::End { .. } => 0,
             Ask::Banner => 1,
             Ask::Challenge { .. } => 2,
             Ask::Reply { .. } => 3,
@@ -109,7 +123,10 @@ pub struct Core {
 }
 
 const PERMIT: Decision = Decision::Permit { value: 0 };
-const DECOYS: u64 = 10_000;
+
+/// What is added to a decoy's number in the value of a challenge.
+pub const DECOYS: u64 = 10_000;
+
 const SALT: [u8; 5] = *b"decoy";
 
 fn deny(rule: u8, detail: u32) -> Decision {
@@ -135,7 +152,7 @@ fn is_once(ask: &Ask) -> bool {
 /// The number of a name's decoy: the MD5 of salt and name.
 fn decoy(user: &Name) -> u64 {
     let mut words = [0u32; 16];
-    let text = [&SALT[..], &user.bytes[..user.len as usize]].concat();
+    let text = [&SALT[..], user.as_bytes()].concat();
     let mut bytes = [0u8; 64];
     bytes[..text.len()].copy_from_slice(&text);
     bytes[text.len()] = 0x80;
@@ -167,7 +184,7 @@ impl Core {
     fn decide(&self, worker: u32, ask: &Ask) -> Decision {
         match (&self.rows[worker as usize], ask) {
             (None, Ask::Begin) => Decision::Permit { value: u64::from(self.begun) + 1 },
-            (Some(_), Ask::End) => PERMIT,
+            (Some(_), Ask::End { .. }) => PERMIT,
             (Some(row), ask) if !matches!(ask, Ask::Begin) => self.decide_in(row, ask),
             _ => deny(6, ask.number()),
         }
@@ -237,13 +254,13 @@ impl Core {
         let place = worker as usize;
         match (ask, decision) {
             (Ask::Begin, Decision::Permit { .. }) => return self.open(place),
-            (Ask::End, Decision::Permit { .. }) => return self.end(place),
+            (Ask::End { .. }, Decision::Permit { .. }) => return self.end(place),
             _ => {}
         }
         let Some(row) = &mut self.rows[place] else {
             return 0;
         };
-        row.asked += u32::from(!matches!(ask, Ask::Begin | Ask::End));
+        row.asked += u32::from(!matches!(ask, Ask::Begin | Ask::End { .. }));
         match decision {
             Decision::Permit { value } => settle_permit(&mut self.ledger, &self.accounts, row, ask, value),
             Decision::Deny { rule, .. } => settle_denial(&mut self.ledger, row, ask, rule),
