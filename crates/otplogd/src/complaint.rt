@@ -79,7 +79,7 @@ fn status_text(status: u8) -> &'static str {
             "the input is refused: a pass phrase is 10 to 63 bytes of printable ASCII, \
             and a response one of RFC 2243"
         }
-        13 => "a run that is at work has the durable log",
+        13 => "the durable log is in use",
         14 => "the log is not legal",
         15 => "the response renews nothing",
         _ => "it failed",

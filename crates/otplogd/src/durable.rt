@@ -2,7 +2,7 @@
 
 use durable_log::Disk;
 use line_log::LineLog;
-use outside::{Failed, Word};
+use outside::Word;
 use outside_real::RealSink;
 use real_log::{FileDisk, RealLog};
 use std::alloc::{AllocError, Global};
@@ -18,7 +18,7 @@ pub(crate) type RunLog = RealLog<Stderr, HostRuntime>;
 pub(crate) enum LogError {
     /// Memory was wanted.
     OutOfMemory,
-    /// Another run has the durable log.
+    /// A run or a recovery has the durable log.
     Taken,
 }
 
@@ -52,12 +52,12 @@ fn lock<R: Files<File = File>>(rt: &R, name: &Word) -> Result<Option<File>, LogE
 
 /// The disk of a run's durable log, whose file it keeps locked from now on.
 fn disk_of(rt: HostRuntime, alloc: Global, name: &Word) -> Result<FileDisk<HostRuntime>, LogError> {
-    drop(lock(&rt, name)?);
     let mut disk = FileDisk::new(rt, name.copy(alloc)?);
-    // The first call opens and locks the file. Where it fails, so does each line's.
-    match disk.sync() {
-        Ok(()) | Err(Failed) => Ok(disk),
+    // The first call opens the file and locks it. Where it fails the disk takes no line.
+    if disk.sync().is_err() {
+        drop(lock(&rt, name)?);
     }
+    Ok(disk)
 }
 
 /// The log of a run, which is the durable one of this name and then standard error.
@@ -74,7 +74,7 @@ fn log_on_disk(rt: HostRuntime, alloc: Global, name: &Word) -> Result<RunLog, Lo
 ///
 /// # Errors
 ///
-/// There isn't the memory, or a run has the durable log.
+/// There isn't the memory, or a run or a recovery has the durable log.
 pub(crate) fn logs_of(
     rt: HostRuntime,
     alloc: Global,
