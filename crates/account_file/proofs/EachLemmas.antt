@@ -10,12 +10,12 @@ use Rattle.account_file.specs.declared.fault.SetupError.{SetupError}
 use Rattle.account_file.specs.declared.fault.SetupError.TheVariants.{Refused, OutOfMemory}
 use Rattle.account_file.specs.Faults.{Answers}
 use Rattle.std.proofs.Math.Seq.{get_or-append_seam}
+use Rattle.request_catalogue.specs.Results.{◌>>=◌}
 use Rattle.toml.specs.Data.{Data, array, no_items}
 use Rattle.toml.specs.View.{view}
 use Rattle.toml.specs.declared.value.Value.{Value}
 use Rattle.policy_model.specs.Settings.{are_distinct}
 use Rattle.account_file.specs.declared.fault.SetupFault.{SetupFault}
-use Rattle.account_file.specs.Faults.{◌>>=◌}
 use Rattle.account_file.specs.Trees.{all_read, each}
 
 -- the items from one on, behind the items before

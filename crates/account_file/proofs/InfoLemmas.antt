@@ -2,20 +2,21 @@
 use Rattle.std.proofs.Common.{◌≡◌, ℕ, suc, ◌+◌, ◌<◌, ◌≤◌, Bool, true, false, List, [], ◌∷◌, ◌++◌, length, map, drop, get_or, refl, sym, ap, ◌∙◌, arith, append_assoc, Option, Some, None}
 use Rattle.std.specs.Option.{is_some, option_map, option_and_then}
 use Rattle.std.proofs.lemmas.List.{append-nil, drop_more, drop_all}
-use Rattle.account_file.specs.Setups.{all_some, top, info_items, info_of}
 use Rattle.std.specs.Prelude.{ℤ, pos, negsuc, nat_le, ◌==◌}
 use Rattle.std.specs.Bool.{then_some}
 use Rattle.std.specs.List.{list_all}
 use Rattle.std.proofs.lemmas.Bool.{and_from, false≢true}
 use Rattle.std.proofs.lemmas.Bool.Decides.{nat_tests}
+use Rattle.request_catalogue.specs.Results.{◌>>=◌}
 use Rattle.toml.specs.Data.{Data, Items, as_integer, as_array}
 use Rattle.toml.specs.View.{view, items_view}
 use Rattle.toml.specs.declared.value.Value.{Value}
 use Rattle.policy_model.specs.Settings.{is_number, are_distinct, are_numbers}
 use Rattle.account_file.specs.declared.fault.SetupKey.TheVariants.{Info}
 use Rattle.account_file.specs.declared.fault.SetupRule.TheVariants.{Kind}
-use Rattle.account_file.specs.Faults.{demand, ◌>>=◌}
+use Rattle.account_file.specs.Faults.{demand_at}
 use Rattle.account_file.specs.Keys.{number_in}
+use Rattle.account_file.specs.Setups.{all_some, top, info_items, read_info}
 use Rattle.account_file.specs.Trees.{data_of}
 use Rattle.account_file.proofs.KeyLemmas.{data_of-view}
 
@@ -108,9 +109,9 @@ info_in_range all ns e few apart =
     and_from _ _ (and_from _ _ count parts.1) apart
 
 -- the numbers of an array that is kept
-pub info_of-view : (value : Data) (vs : List Value) → Some (items_view vs) ≡ as_array value → info_of (Some value) ≡ info_items (map view vs)
+pub info_of-view : (value : Data) (vs : List Value) → Some (items_view vs) ≡ as_array value → read_info (Some value) ≡ info_items (map view vs)
 info_of-view value vs e =
-    ap (λ (o : Option Items). demand (top Info) Kind o >>= (λ items. info_items (data_of items))) (sym e)
+    ap (λ (o : Option Items). demand_at (top Info) Kind o >>= (λ items. info_items (data_of items))) (sym e)
     ∙ ap info_items (data_of-view vs)
 
 -- an item that fails

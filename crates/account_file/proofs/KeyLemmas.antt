@@ -8,17 +8,18 @@ use Rattle.toml.specs.Data.{Data, Items, as_array}
 use Rattle.std.specs.Prelude.{nat_le, length, ◌≤◌, ◌<◌, ◌==◌}
 use Rattle.std.proofs.lemmas.Bool.Decides.{nat_tests}
 use Rattle.std.proofs.lemmas.List.{length-map}
+use Rattle.request_catalogue.specs.Results.{◌>>=◌}
 use Rattle.toml.specs.View.{view, items_view, members_view}
 use Rattle.toml.specs.declared.value.Value.{Value}
 use Rattle.account_file.specs.declared.fault.SetupRule.TheVariants as rules
 use Rattle.account_file.specs.declared.fault.Spot.{Spot}
 use Rattle.account_file.specs.declared.fault.SetupFault.{SetupFault}
-use Rattle.account_file.specs.Accounts.{new_string, new_string_of, uid_of}
-use Rattle.account_file.specs.Faults.{fault_of, demand, ◌>>=◌}
-use Rattle.account_file.specs.Keys.{string_of, number_of}
+use Rattle.account_file.specs.Accounts.{new_string, read_new_string, read_uid}
+use Rattle.account_file.specs.Faults.{spot_fault, demand_at}
+use Rattle.account_file.specs.Keys.{read_string, read_number}
 use Rattle.account_file.specs.Levels.{keys_at}
+use Rattle.account_file.specs.Trees.{data_of, read_items, are_known}
 use Rattle.account_file.specs.declared.known.Level.{Level}
-use Rattle.account_file.specs.Trees.{data_of, items_of, are_known}
 
 -- some value of other values
 pub list_any-map : {X Y : Type 0} (p : X → Bool) (f : Y → X) (ys : List Y) → list_any p (map f ys) ≡ list_any (λ y. p (f y)) ys
@@ -35,12 +36,12 @@ keys_known known [] = refl
 keys_known known (e ∷ es) = rw (keys_known known es) refl
 
 -- a string that passes a test, beside others that may have it
-pub new_string_read : {G : Type 0} (spot : Spot) (test : List ℕ → Bool) (f : G → List ℕ) (others : List G) (value : Option Data) (text bytes name : List ℕ) (taken : Bool) → string_of spot value ≡ Ok text → bytes ≡ text → name ≡ bytes → true ≡ test bytes → taken ≡ list_any (λ g. bytes_eq (f g) name) others → new_string_of spot test (map f others) value ≡ demand spot rules.Twice (then_some (not taken) name)
+pub new_string_read : {G : Type 0} (spot : Spot) (test : List ℕ → Bool) (f : G → List ℕ) (others : List G) (value : Option Data) (text bytes name : List ℕ) (taken : Bool) → read_string spot value ≡ Ok text → bytes ≡ text → name ≡ bytes → true ≡ test bytes → taken ≡ list_any (λ g. bytes_eq (f g) name) others → read_new_string spot test (map f others) value ≡ demand_at spot rules.Twice (then_some (not taken) name)
 new_string_read spot test f others value text bytes name taken read cut same legal among =
     let here : text ≡ name = sym (same ∙ cut) in
     let passes : test name ≡ true = ap test same ∙ sym legal in
     let any : list_any (λ other. bytes_eq other name) (map f others) ≡ taken = list_any-map (λ other. bytes_eq other name) f others ∙ sym among in
-    let first : new_string_of spot test (map f others) value ≡ new_string spot test (map f others) text = ap (λ (r : Result (List ℕ) SetupFault). r >>= new_string spot test (map f others)) read in
+    let first : read_new_string spot test (map f others) value ≡ new_string spot test (map f others) text = ap (λ (r : Result (List ℕ) SetupFault). r >>= new_string spot test (map f others)) read in
     first ∙ ap (new_string spot test (map f others)) here ∙ rw (passes, any) refl
 
 -- the items of an array that is kept, as a list
@@ -49,27 +50,27 @@ data_of-view [] = refl
 data_of-view (v ∷ vs) = ap (λ (ds : List Data). view v ∷ ds) (data_of-view vs)
 
 -- the items of an array, by how many they are
-items_by : (spot : Spot) (most : ℕ) (d : Data) (vs : List Value) → Some (items_view vs) ≡ as_array d → items_of spot most d ≡ demand spot rules.Range (then_some (nat_le (length vs) most) (map view vs))
+items_by : (spot : Spot) (most : ℕ) (d : Data) (vs : List Value) → Some (items_view vs) ≡ as_array d → read_items spot most d ≡ demand_at spot rules.Range (then_some (nat_le (length vs) most) (map view vs))
 items_by spot most d vs e =
-    ap (λ (o : Option Items). demand spot rules.Kind o >>= (λ items. demand spot rules.Range (then_some (nat_le (length (data_of items)) most) (data_of items)))) (sym e)
-    ∙ ap (λ (ds : List Data). demand spot rules.Range (then_some (nat_le (length ds) most) ds)) (data_of-view vs)
-    ∙ ap (λ (n : ℕ). demand spot rules.Range (then_some (nat_le n most) (map view vs))) (length-map vs view)
+    ap (λ (o : Option Items). demand_at spot rules.Kind o >>= (λ items. demand_at spot rules.Range (then_some (nat_le (length (data_of items)) most) (data_of items)))) (sym e)
+    ∙ ap (λ (ds : List Data). demand_at spot rules.Range (then_some (nat_le (length ds) most) ds)) (data_of-view vs)
+    ∙ ap (λ (n : ℕ). demand_at spot rules.Range (then_some (nat_le n most) (map view vs))) (length-map vs view)
 
 -- the items of an array of so many
-pub items_few : (spot : Spot) (most : ℕ) (d : Data) (vs : List Value) → Some (items_view vs) ≡ as_array d → length vs ≤ most → items_of spot most d ≡ Ok (map view vs)
+pub items_few : (spot : Spot) (most : ℕ) (d : Data) (vs : List Value) → Some (items_view vs) ≡ as_array d → length vs ≤ most → read_items spot most d ≡ Ok (map view vs)
 items_few spot most d vs e few =
     let test : nat_le (length vs) most ≡ true = grind (arith, nat_tests) in
     items_by spot most d vs e ∙ rw test refl
 
 -- the items of an array of more
-pub items_many : (spot : Spot) (most : ℕ) (d : Data) (vs : List Value) → Some (items_view vs) ≡ as_array d → most < length vs → items_of spot most d ≡ Err (fault_of spot rules.Range)
+pub items_many : (spot : Spot) (most : ℕ) (d : Data) (vs : List Value) → Some (items_view vs) ≡ as_array d → most < length vs → read_items spot most d ≡ Err (spot_fault spot rules.Range)
 items_many spot most d vs e many =
     let test : nat_le (length vs) most ≡ false = grind (arith, nat_tests) in
     items_by spot most d vs e ∙ rw test refl
 
 -- a user number, beside others that may have it
-pub uid_read : {G : Type 0} (spot : Spot) (f : G → ℕ) (others : List G) (value : Option Data) (uid : ℕ) (taken : Bool) → number_of spot 1 4294967294 value ≡ Ok uid → taken ≡ list_any (λ g. f g == uid) others → uid_of spot (map f others) value ≡ demand spot rules.Twice (then_some (not taken) uid)
+pub uid_read : {G : Type 0} (spot : Spot) (f : G → ℕ) (others : List G) (value : Option Data) (uid : ℕ) (taken : Bool) → read_number spot 1 4294967294 value ≡ Ok uid → taken ≡ list_any (λ g. f g == uid) others → read_uid spot (map f others) value ≡ demand_at spot rules.Twice (then_some (not taken) uid)
 uid_read spot f others value uid taken read among =
     let any : list_any (λ other. other == uid) (map f others) ≡ taken = list_any-map (λ other. other == uid) f others ∙ sym among in
-    ap (λ (r : Result ℕ SetupFault). r >>= (λ n. demand spot rules.Twice (then_some (not (list_any (λ other. other == n) (map f others))) n))) read
-    ∙ ap (λ (t : Bool). demand spot rules.Twice (then_some (not t) uid)) any
+    ap (λ (r : Result ℕ SetupFault). r >>= (λ n. demand_at spot rules.Twice (then_some (not (list_any (λ other. other == n) (map f others))) n))) read
+    ∙ ap (λ (t : Bool). demand_at spot rules.Twice (then_some (not t) uid)) any

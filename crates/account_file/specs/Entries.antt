@@ -1,5 +1,6 @@
 -- Believed: what a setup file says, and what it says of a setup.
 use Rattle.std.specs.Prelude.{ℕ, Bool, List, map}
+use Rattle.account_file.specs.declared.settings.Counts.{Counts}
 use Rattle.otp_hash.specs.declared.chain.Algo.{Algo}
 use Rattle.otp_hash.specs.SeedBytes.{seed_bytes}
 use Rattle.request_catalogue.specs.declared.width.Width.{Width}
@@ -32,20 +33,12 @@ pub record TextEntries : Type 0 where
   pub words : List ℕ
   pub banner : List ℕ
 
--- the numbers of a setup
-pub record CountEntries : Type 0 where
-  pub workers : ℕ
-  pub connections : ℕ
-  pub requests : ℕ
-  pub tries : ℕ
-  pub hold : ℕ
-
 -- a setup
 pub record SetupEntries : Type 0 where
   pub texts : TextEntries
   pub salt : List ℕ
   pub frames : Width
-  pub counts : CountEntries
+  pub counts : Counts
   pub info : List ℕ
   pub accounts : List AccountEntry
 

@@ -1,5 +1,5 @@
 -- Believed: values that are read, or the first fault.
-use Rattle.std.specs.Prelude.{◌≡◌, Option, Some, None, Result, Ok, Err}
+use Rattle.std.specs.Prelude.{◌≡◌, Option, Result, Ok, Err, ok_or}
 use Rattle.account_file.specs.declared.fault.SetupRule.{SetupRule}
 use Rattle.account_file.specs.declared.fault.SetupFault.{SetupFault}
 use Rattle.account_file.specs.declared.fault.SetupError.{SetupError}
@@ -7,19 +7,12 @@ use Rattle.account_file.specs.declared.fault.SetupError.TheVariants.{Refused, Ou
 use Rattle.account_file.specs.declared.fault.Spot.{Spot}
 
 -- the fault of a rule that the value at a spot breaks
-abbrev pub fault_of : Spot → SetupRule → SetupFault
-fault_of spot rule = record { key = spot.key; rule = rule; account = spot.account }
+abbrev pub spot_fault : Spot → SetupRule → SetupFault
+spot_fault spot rule = record { key = spot.key; rule = rule; account = spot.account }
 
 -- what is there, or else the fault of a rule
-abbrev pub demand : {A : Type 0} → Spot → SetupRule → Option A → Result A SetupFault
-demand spot rule (Some a) = Ok a
-demand spot rule None = Err (fault_of spot rule)
-
--- the left fault first, then what follows from the value
-infixl 10 ◌>>=◌
-abbrev pub ◌>>=◌ : {A B : Type 0} → Result A SetupFault → (A → Result B SetupFault) → Result B SetupFault
-Ok a >>= next = next a
-Err fault >>= next = Err fault
+abbrev pub demand_at : {A : Type 0} → Spot → SetupRule → Option A → Result A SetupFault
+demand_at spot rule there = ok_or there (spot_fault spot rule)
 
 -- a result is the value that a definition gives, seen by a view, or its fault
 abbrev pub Reads : {A B : Type 0} → (A → B) → Result A SetupFault → Result B SetupFault → Type 0

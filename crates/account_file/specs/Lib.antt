@@ -1,5 +1,5 @@
 pub mod Accounts
-pub mod Counts
+pub mod Texts
 pub mod Entries
 pub mod Faults
 pub mod Keys

@@ -8,16 +8,19 @@ use Rattle.toml.specs.Data.{Data, Members, get_member, as_array, as_integer}
 use Rattle.toml.specs.Parse.{parse_document}
 use Rattle.request_catalogue.specs.declared.width.Width.{Width}
 use Rattle.request_catalogue.specs.declared.width.Width.TheVariants.{Narrow}
+use Rattle.request_catalogue.specs.Results.{◌>>=◌}
+use Rattle.policy_model.specs.declared.ranges.TheConstants.{EVENTS_LIMIT}
 use Rattle.policy_model.specs.Settings.{are_distinct}
 use Rattle.account_file.specs.declared.fault.SetupKey.{SetupKey}
 use Rattle.account_file.specs.declared.fault.SetupKey.TheVariants as keys
 use Rattle.account_file.specs.declared.fault.SetupRule.TheVariants as rules
 use Rattle.account_file.specs.declared.fault.SetupFault.{SetupFault}
 use Rattle.account_file.specs.declared.fault.Spot.{Spot}
-use Rattle.account_file.specs.Accounts.{accounts_of}
-use Rattle.account_file.specs.Entries.{TextEntries, CountEntries, SetupEntries}
-use Rattle.account_file.specs.Faults.{demand, ◌>>=◌}
-use Rattle.account_file.specs.Keys.{text_of, number_in, number_of, seed_of, width_of}
+use Rattle.account_file.specs.declared.settings.Counts.{Counts}
+use Rattle.account_file.specs.Accounts.{read_accounts}
+use Rattle.account_file.specs.Entries.{SetupEntries, TextEntries}
+use Rattle.account_file.specs.Faults.{demand_at}
+use Rattle.account_file.specs.Keys.{read_text, number_in, read_number, read_seed, read_width}
 use Rattle.account_file.specs.Trees.{data_of, are_known}
 
 -- a key outside the accounts
@@ -33,38 +36,38 @@ abbrev pub document_of : List ℕ → Option Members
 document_of bytes = if utf8_valid_len bytes == length bytes then parse_document bytes else None
 
 -- the banner, empty where it is not there
-abbrev pub banner_of : Option Data → Result (List ℕ) SetupFault
-banner_of None = Ok []
-banner_of (Some value) = text_of (top keys.Banner) 0 200 (Some value)
+abbrev pub read_banner : Option Data → Result (List ℕ) SetupFault
+read_banner None = Ok []
+read_banner (Some value) = read_text (top keys.Banner) 0 200 (Some value)
 
 -- the salt of decoys, in lower case; `decoy` where it is not there
-abbrev pub salt_of : Option Data → Result (List ℕ) SetupFault
-salt_of None = Ok (codes "decoy")
-salt_of (Some value) = seed_of (top keys.Salt) (Some value)
+abbrev pub read_salt : Option Data → Result (List ℕ) SetupFault
+read_salt None = Ok (codes "decoy")
+read_salt (Some value) = read_seed (top keys.Salt) (Some value)
 
 -- the width of frames, narrow where it is not there
-abbrev pub frames_of : Option Data → Result Width SetupFault
-frames_of None = Ok Narrow
-frames_of (Some value) = width_of (top keys.Frames) (Some value)
+abbrev pub read_frames : Option Data → Result Width SetupFault
+read_frames None = Ok Narrow
+read_frames (Some value) = read_width (top keys.Frames) (Some value)
 
 -- the texts
-abbrev pub texts_of : Members → Result TextEntries SetupFault
-texts_of entries = do
-  socket ← text_of (top keys.Socket) 1 100 (get_member (codes "socket") entries)
-  launcher ← text_of (top keys.Launcher) 1 255 (get_member (codes "launcher") entries)
-  vault ← text_of (top keys.Vault) 1 255 (get_member (codes "vault") entries)
-  words ← text_of (top keys.Words) 1 255 (get_member (codes "words") entries)
-  banner ← banner_of (get_member (codes "banner") entries)
+abbrev pub read_texts : Members → Result TextEntries SetupFault
+read_texts entries = do
+  socket ← read_text (top keys.Socket) 1 100 (get_member (codes "socket") entries)
+  launcher ← read_text (top keys.Launcher) 1 255 (get_member (codes "launcher") entries)
+  vault ← read_text (top keys.Vault) 1 255 (get_member (codes "vault") entries)
+  words ← read_text (top keys.Words) 1 255 (get_member (codes "words") entries)
+  banner ← read_banner (get_member (codes "banner") entries)
   Ok (record { socket = socket; launcher = launcher; vault = vault; words = words; banner = banner })
 
 -- the numbers
-abbrev pub counts_of : Members → Result CountEntries SetupFault
-counts_of entries = do
-  workers ← number_of (top keys.Workers) 1 64 (get_member (codes "workers") entries)
-  connections ← number_of (top keys.Connections) 1 4096 (get_member (codes "connections") entries)
-  requests ← number_of (top keys.Requests) 8 4096 (get_member (codes "requests") entries)
-  tries ← number_of (top keys.Tries) 1 10 (get_member (codes "tries") entries)
-  hold ← number_of (top keys.Hold) 1 3600000 (get_member (codes "hold") entries)
+abbrev pub read_counts : Members → Result Counts SetupFault
+read_counts entries = do
+  workers ← read_number (top keys.Workers) 1 64 (get_member (codes "workers") entries)
+  connections ← read_number (top keys.Connections) 1 4096 (get_member (codes "connections") entries)
+  requests ← read_number (top keys.Requests) 8 4096 (get_member (codes "requests") entries)
+  tries ← read_number (top keys.Tries) 1 10 (get_member (codes "tries") entries)
+  hold ← read_number (top keys.Hold) 1 3600000 (get_member (codes "hold") entries)
   Ok (record { workers = workers; connections = connections; requests = requests; tries = tries; hold = hold })
 
 -- what each passes as, where all do
@@ -75,37 +78,37 @@ all_some test (a ∷ rest) = option_and_then (λ b. option_map (λ bs. b ∷ bs)
 -- at most 32 different numbers of information from 1 to 1,000
 abbrev pub info_items : List Data → Result (List ℕ) SetupFault
 info_items items = do
-  integers ← demand (top keys.Info) rules.Kind (then_some (list_all (λ d. is_some (as_integer d)) items) items)
-  few ← demand (top keys.Info) rules.Range (then_some (nat_le (length integers) 32) integers)
-  info ← demand (top keys.Info) rules.Range (all_some (λ d. option_and_then (number_in 1 1000) (as_integer d)) few)
-  demand (top keys.Info) rules.Twice (then_some (are_distinct ◌==◌ info) info)
+  integers ← demand_at (top keys.Info) rules.Kind (then_some (list_all (λ d. is_some (as_integer d)) items) items)
+  few ← demand_at (top keys.Info) rules.Range (then_some (nat_le (length integers) 32) integers)
+  info ← demand_at (top keys.Info) rules.Range (all_some (λ d. option_and_then (number_in 1 1000) (as_integer d)) few)
+  demand_at (top keys.Info) rules.Twice (then_some (are_distinct ◌==◌ info) info)
 
 -- the numbers of information, none where the key is not there
-abbrev pub info_of : Option Data → Result (List ℕ) SetupFault
-info_of None = Ok []
-info_of (Some value) = do
-  items ← demand (top keys.Info) rules.Kind (as_array value)
+abbrev pub read_info : Option Data → Result (List ℕ) SetupFault
+read_info None = Ok []
+read_info (Some value) = do
+  items ← demand_at (top keys.Info) rules.Kind (as_array value)
   info_items (data_of items)
 
--- numbers by which a run makes at most 1,048,576 events
-abbrev pub product_of : CountEntries → Result CountEntries SetupFault
-product_of counts = demand (top keys.Requests) rules.Product (then_some (nat_le (counts.workers * (counts.connections * (counts.requests + 3))) 1048576) counts)
+-- numbers by which a run makes no more events than it may
+abbrev pub product_of : Counts → Result Counts SetupFault
+product_of counts = demand_at (top keys.Requests) rules.Product (then_some (nat_le (counts.workers * (counts.connections * (counts.requests + 3))) EVENTS_LIMIT) counts)
 
 -- the setup of a document's entries
-abbrev pub settings_of : Members → Result SetupEntries SetupFault
-settings_of entries = do
-  texts ← texts_of entries
-  salt ← salt_of (get_member (codes "salt") entries)
-  frames ← frames_of (get_member (codes "frames") entries)
-  counts ← counts_of entries
-  info ← info_of (get_member (codes "info") entries)
+abbrev pub read_settings : Members → Result SetupEntries SetupFault
+read_settings entries = do
+  texts ← read_texts entries
+  salt ← read_salt (get_member (codes "salt") entries)
+  frames ← read_frames (get_member (codes "frames") entries)
+  counts ← read_counts entries
+  info ← read_info (get_member (codes "info") entries)
   bounded ← product_of counts
-  accounts ← accounts_of (get_member (codes "account") entries)
+  accounts ← read_accounts (get_member (codes "account") entries)
   Ok (record { texts = texts; salt = salt; frames = frames; counts = bounded; info = info; accounts = accounts })
 
 -- the setup that the bytes of a file spell, or its first fault
 unfoldable pub setup_of : List ℕ → Result SetupEntries SetupFault
 setup_of bytes = do
-  entries ← demand (top keys.File) rules.NotToml (document_of bytes)
-  known ← demand (top keys.Other) rules.Unknown (then_some (are_known setup_keys entries) entries)
-  settings_of known
+  entries ← demand_at (top keys.File) rules.NotToml (document_of bytes)
+  known ← demand_at (top keys.Other) rules.Unknown (then_some (are_known setup_keys entries) entries)
+  read_settings known

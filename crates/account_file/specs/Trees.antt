@@ -4,11 +4,12 @@ use Rattle.std.specs.Bool.{then_some}
 use Rattle.std.specs.List.{list_all, list_any, filter_map, range_with_len}
 use Rattle.std.specs.Option.{option_and_then}
 use Rattle.std.specs.Str.{bytes_eq}
+use Rattle.request_catalogue.specs.Results.{◌>>=◌}
 use Rattle.toml.specs.Data.{Data, array, Items, no_items, item, Members, no_members, member, get, as_str, as_array}
 use Rattle.account_file.specs.declared.fault.SetupFault.{SetupFault}
 use Rattle.account_file.specs.declared.fault.SetupRule.TheVariants as rules
 use Rattle.account_file.specs.declared.fault.Spot.{Spot}
-use Rattle.account_file.specs.Faults.{demand, ◌>>=◌}
+use Rattle.account_file.specs.Faults.{demand_at}
 
 -- the items of an array as a list
 abbrev pub data_of : Items → List Data
@@ -16,10 +17,10 @@ data_of no_items = []
 data_of (item d ds) = d ∷ data_of ds
 
 -- the items of an array of at most so many
-abbrev pub items_of : Spot → ℕ → Data → Result (List Data) SetupFault
-items_of spot most value = do
-  items ← demand spot rules.Kind (as_array value)
-  demand spot rules.Range (then_some (nat_le (length (data_of items)) most) (data_of items))
+abbrev pub read_items : Spot → ℕ → Data → Result (List Data) SetupFault
+read_items spot most value = do
+  items ← demand_at spot rules.Kind (as_array value)
+  demand_at spot rules.Range (then_some (nat_le (length (data_of items)) most) (data_of items))
 
 -- the keys of a table
 abbrev pub keys_of : Members → List (List ℕ)

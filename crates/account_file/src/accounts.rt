@@ -9,15 +9,17 @@ ghost use Rattle.request_catalogue.specs.TextBytes.{name_bytes};
 ghost use Rattle.policy_model.specs.Settings.{is_account, are_accounts, are_distinct, same_name};
 ghost use Rattle.toml.specs.Data.{get, get_member, as_str, as_integer};
 ghost use Rattle.toml.specs.View.{view, table_view};
-ghost use Rattle.account_file.specs.Accounts.{new_string_of, uid_of, uid_at, account_keys_of, account_of, account_behind, accounts_of};
+ghost use Rattle.account_file.specs.Accounts.{read_new_string, read_uid, uid_at, read_account_keys, read_account, account_behind, read_accounts};
 ghost use Rattle.account_file.specs.Entries.{account_entry};
 ghost use Rattle.account_file.specs.Faults.{Reads, Answers};
 ghost use Rattle.account_file.specs.Keys.{number_in};
 ghost use Rattle.account_file.specs.Trees.{each};
 
 use crate::fault::{SetupError, SetupFault, SetupKey, SetupRule, Spot};
-use crate::grants::grants_of;
-use crate::keys::{algo_of, entry, items_of, number_of, password_of, seed_of, string_of, truth_of};
+use crate::grants::read_grants;
+use crate::keys::{
+    entry, read_algo, read_items, read_number, read_password, read_seed, read_string, read_truth,
+};
 use crate::known::{Level, are_known};
 use policy_model::{Account, Accounts};
 use request_catalogue::Name;
@@ -28,14 +30,14 @@ use toml::{Table, Value};
 const ACCOUNTS_MAX: usize = 1_024;
 
 /// The accounts of a setup, none where the key isn't there.
-pub fn accounts_of(alloc: Global, table: &Table) -> Result<Accounts, SetupError>
-    ensures read { Answers (map account_entry) result (accounts_of (get_member (codes "account") (table_view table.now))) }
+pub fn read_accounts(alloc: Global, table: &Table) -> Result<Accounts, SetupError>
+    ensures read { Answers (map account_entry) result (read_accounts (get_member (codes "account") (table_view table.now))) }
     ensures in_range { IfOk result (λ a. are_accounts a ≡ true) }
 {
     let Some(value) = entry(table, "account") else {
         return Ok(Accounts::of(Vec::new(alloc)));
     };
-    let items = items_of(value, Spot::new(SetupKey::Account, 0), ACCOUNTS_MAX)?;
+    let items = read_items(value, Spot::new(SetupKey::Account, 0), ACCOUNTS_MAX)?;
     Ok(Accounts::of(each_account(alloc, items)?))
 }
 
@@ -51,20 +53,20 @@ fn each_account(alloc: Global, items: &[Value]) -> Result<Vec<Account>, SetupErr
     let mut accounts = Vec::new(alloc);
     for item in items {
         let place = accounts.len() as u32 + 1;
-        let account = account_of(alloc, item, place, accounts.as_slice())?;
+        let account = read_account(alloc, item, place, accounts.as_slice())?;
         accounts.push(account)?;
     }
     Ok(accounts)
 }
 
 /// The account at a place from 1, behind others.
-fn account_of(
+fn read_account(
     alloc: Global,
     item: &Value,
     place: u32,
     earlier: &[Account],
 ) -> Result<Account, SetupError>
-    ensures read { Answers account_entry result (account_of place (map (λ a. name_bytes a.name) earlier.now) (map (λ a. a.uid) earlier.now) (view item.now)) }
+    ensures read { Answers account_entry result (read_account place (map (λ a. name_bytes a.name) earlier.now) (map (λ a. a.uid) earlier.now) (view item.now)) }
     ensures named { IfOk result (λ a. option_and_then as_str (get (codes "name") (view item.now)) ≡ Some (name_bytes a.name)) }
     ensures numbered { IfOk result (λ a. uid_at (view item.now) ≡ Some a.uid) }
     ensures new_name { IfOk result (λ a. list_any (λ e. same_name e.name a.name) earlier.now ≡ false) }
@@ -91,7 +93,7 @@ fn keys_of(
     place: u32,
     earlier: &[Account],
 ) -> Result<Account, SetupError>
-    ensures read { Answers account_entry result (account_keys_of place (map (λ a. name_bytes a.name) earlier.now) (map (λ a. a.uid) earlier.now) (table_view table.now)) }
+    ensures read { Answers account_entry result (read_account_keys place (map (λ a. name_bytes a.name) earlier.now) (map (λ a. a.uid) earlier.now) (table_view table.now)) }
     ensures named { IfOk result (λ a. option_and_then as_str (get_member (codes "name") (table_view table.now)) ≡ Some (name_bytes a.name)) }
     ensures numbered { IfOk result (λ a. option_and_then (number_in 1 4294967294) (option_and_then as_integer (get_member (codes "uid") (table_view table.now))) ≡ Some a.uid) }
     ensures new_name { IfOk result (λ a. list_any (λ e. same_name e.name a.name) earlier.now ≡ false) }
@@ -99,19 +101,19 @@ fn keys_of(
     ensures legal { IfOk result (λ a. is_account a ≡ true) }
 {
     let name = name_of(table, Spot::new(SetupKey::Name, place), earlier)?;
-    let uid = uid_of(table, Spot::new(SetupKey::Uid, place), earlier)?;
-    let algo = algo_of(table, "algorithm", Spot::new(SetupKey::Algorithm, place))?;
-    let seed = seed_of(table, "seed", Spot::new(SetupKey::Seed, place))?;
-    let sequence = number_of(
+    let uid = read_uid(table, Spot::new(SetupKey::Uid, place), earlier)?;
+    let algo = read_algo(table, "algorithm", Spot::new(SetupKey::Algorithm, place))?;
+    let seed = read_seed(table, "seed", Spot::new(SetupKey::Seed, place))?;
+    let sequence = read_number(
         table,
         "sequence",
         Spot::new(SetupKey::Sequence, place),
         0,
         9_999,
     )?;
-    let password = password_of(table, "password", Spot::new(SetupKey::Password, place))?;
-    let enabled = truth_of(table, "enabled", Spot::new(SetupKey::Enabled, place))?;
-    let grants = grants_of(alloc, table, place)?;
+    let password = read_password(table, "password", Spot::new(SetupKey::Password, place))?;
+    let enabled = read_truth(table, "enabled", Spot::new(SetupKey::Enabled, place))?;
+    let grants = read_grants(alloc, table, place)?;
     Ok(Account {
         name,
         uid,
@@ -126,11 +128,11 @@ fn keys_of(
 
 /// The name of an account, which none of the others has.
 fn name_of(table: &Table, spot: Spot, others: &[Account]) -> Result<Name, SetupFault>
-    ensures read { Reads name_bytes result (new_string_of spot is_name (map (λ a. name_bytes a.name) others.now) (get_member (codes "name") (table_view table.now))) }
+    ensures read { Reads name_bytes result (read_new_string spot is_name (map (λ a. name_bytes a.name) others.now) (get_member (codes "name") (table_view table.now))) }
     ensures named { IfOk result (λ n. option_and_then as_str (get_member (codes "name") (table_view table.now)) ≡ Some (name_bytes n)) }
     ensures new { IfOk result (λ n. list_any (λ e. same_name e.name n) others.now ≡ false) }
 {
-    let text = string_of(table, "name", spot)?;
+    let text = read_string(table, "name", spot)?;
     let Some(name) = Name::of(text.as_bytes()) else {
         return Err(spot.breaks(SetupRule::Text));
     };
@@ -141,13 +143,13 @@ fn name_of(table: &Table, spot: Spot, others: &[Account]) -> Result<Name, SetupF
 }
 
 /// The user number of an account, which none of the others has.
-fn uid_of(table: &Table, spot: Spot, others: &[Account]) -> Result<u32, SetupFault>
-    ensures read { Reads (λ n. n) result (uid_of spot (map (λ a. a.uid) others.now) (get_member (codes "uid") (table_view table.now))) }
+fn read_uid(table: &Table, spot: Spot, others: &[Account]) -> Result<u32, SetupFault>
+    ensures read { Reads (λ n. n) result (read_uid spot (map (λ a. a.uid) others.now) (get_member (codes "uid") (table_view table.now))) }
     ensures numbered { IfOk result (λ n. option_and_then (number_in 1 4294967294) (option_and_then as_integer (get_member (codes "uid") (table_view table.now))) ≡ Some n) }
     ensures new { IfOk result (λ n. list_any (λ e. e.uid == n) others.now ≡ false) }
     ensures within { IfOk result (λ n. (1 ≤ n) × (n ≤ 4294967294)) }
 {
-    let uid = number_of(table, "uid", spot, 1, 4_294_967_294)?;
+    let uid = read_number(table, "uid", spot, 1, 4_294_967_294)?;
     if is_numbered(others, uid) {
         return Err(spot.breaks(SetupRule::Twice));
     }

@@ -2,7 +2,7 @@
 
 ghost use Rattle.std.specs.Prelude.{◌≡◌};
 ghost use Rattle.account_file.specs.declared.fault.SetupError.TheVariants.{Refused, OutOfMemory};
-ghost use Rattle.account_file.specs.Faults.{fault_of};
+ghost use Rattle.account_file.specs.Faults.{spot_fault};
 
 use std::alloc::{AllocError, AllocFailed};
 
@@ -123,7 +123,7 @@ impl Spot {
 
     /// The fault of a rule that the value breaks.
     pub fn breaks(self, rule: SetupRule) -> SetupFault
-        ensures { result ≡ fault_of self rule }
+        ensures { result ≡ spot_fault self rule }
     {
         SetupFault {
             key: self.key,

@@ -9,13 +9,13 @@ ghost use Rattle.request_catalogue.specs.TextBytes.{label_bytes};
 ghost use Rattle.policy_model.specs.Settings.{is_number, are_grants, are_distinct, same_label};
 ghost use Rattle.toml.specs.Data.{get, get_member, as_str};
 ghost use Rattle.toml.specs.View.{view, table_view};
-ghost use Rattle.account_file.specs.Accounts.{new_string_of, grant_of, grant_behind, grants_of};
+ghost use Rattle.account_file.specs.Accounts.{read_new_string, read_grant, grant_behind, read_grants};
 ghost use Rattle.account_file.specs.Trees.{each};
 ghost use Rattle.account_file.specs.Entries.{grant_entry};
 ghost use Rattle.account_file.specs.Faults.{Reads, Answers};
 
 use crate::fault::{SetupError, SetupFault, SetupKey, SetupRule, Spot};
-use crate::keys::{entry, items_of, number_of, string_of};
+use crate::keys::{entry, read_items, read_number, read_string};
 use crate::known::{Level, are_known};
 use policy_model::{Grant, Grants};
 use request_catalogue::Label;
@@ -26,14 +26,14 @@ use toml::{Table, Value};
 const GRANTS_MAX: usize = 64;
 
 /// The grants of the account at a place from 1, none where the key isn't there.
-pub fn grants_of(alloc: Global, table: &Table, account: u32) -> Result<Grants, SetupError>
-    ensures read { Answers (map grant_entry) result (grants_of account (get_member (codes "grants") (table_view table.now))) }
+pub fn read_grants(alloc: Global, table: &Table, account: u32) -> Result<Grants, SetupError>
+    ensures read { Answers (map grant_entry) result (read_grants account (get_member (codes "grants") (table_view table.now))) }
     ensures in_range { IfOk result (λ g. are_grants g ≡ true) }
 {
     let Some(value) = entry(table, "grants") else {
         return Ok(Grants::of(Vec::new(alloc)));
     };
-    let items = items_of(value, Spot::new(SetupKey::Grants, account), GRANTS_MAX)?;
+    let items = read_items(value, Spot::new(SetupKey::Grants, account), GRANTS_MAX)?;
     Ok(Grants::of(each_grant(alloc, items, account)?))
 }
 
@@ -46,15 +46,15 @@ fn each_grant(alloc: Global, items: &[Value], account: u32) -> Result<Vec<Grant>
 {
     let mut grants = Vec::new(alloc);
     for item in items {
-        let grant = grant_of(item, account, grants.as_slice())?;
+        let grant = read_grant(item, account, grants.as_slice())?;
         grants.push(grant)?;
     }
     Ok(grants)
 }
 
 /// A grant behind others of the account at a place from 1.
-fn grant_of(item: &Value, account: u32, earlier: &[Grant]) -> Result<Grant, SetupFault>
-    ensures read { Reads grant_entry result (grant_of account (map (λ g. label_bytes g.name) earlier.now) (view item.now)) }
+fn read_grant(item: &Value, account: u32, earlier: &[Grant]) -> Result<Grant, SetupFault>
+    ensures read { Reads grant_entry result (read_grant account (map (λ g. label_bytes g.name) earlier.now) (view item.now)) }
     ensures named { IfOk result (λ g. option_and_then as_str (get (codes "name") (view item.now)) ≡ Some (label_bytes g.name)) }
     ensures new { IfOk result (λ g. list_any (λ e. bytes_eq (label_bytes e.name) (label_bytes g.name)) earlier.now ≡ false) }
     ensures in_range { IfOk result (λ g. is_number 1 3 g.mode ≡ true) }
@@ -66,7 +66,7 @@ fn grant_of(item: &Value, account: u32, earlier: &[Grant]) -> Result<Grant, Setu
         return Err(Spot::new(SetupKey::Other, account).breaks(SetupRule::Unknown));
     }
     let name = label_of(table, Spot::new(SetupKey::GrantName, account), earlier)?;
-    let mode = number_of(table, "mode", Spot::new(SetupKey::GrantMode, account), 1, 3)?;
+    let mode = read_number(table, "mode", Spot::new(SetupKey::GrantMode, account), 1, 3)?;
     Ok(Grant {
         name,
         mode: mode as u8,
@@ -75,11 +75,11 @@ fn grant_of(item: &Value, account: u32, earlier: &[Grant]) -> Result<Grant, Setu
 
 /// The name of a grant, which none of the others has.
 fn label_of(table: &Table, spot: Spot, others: &[Grant]) -> Result<Label, SetupFault>
-    ensures read { Reads label_bytes result (new_string_of spot is_label (map (λ g. label_bytes g.name) others.now) (get_member (codes "name") (table_view table.now))) }
+    ensures read { Reads label_bytes result (read_new_string spot is_label (map (λ g. label_bytes g.name) others.now) (get_member (codes "name") (table_view table.now))) }
     ensures named { IfOk result (λ l. option_and_then as_str (get_member (codes "name") (table_view table.now)) ≡ Some (label_bytes l)) }
     ensures new { IfOk result (λ l. list_any (λ e. bytes_eq (label_bytes e.name) (label_bytes l)) others.now ≡ false) }
 {
-    let text = string_of(table, "name", spot)?;
+    let text = read_string(table, "name", spot)?;
     let Some(name) = Label::of(text.as_bytes()) else {
         return Err(spot.breaks(SetupRule::Text));
     };

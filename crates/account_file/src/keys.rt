@@ -6,8 +6,8 @@ ghost use Rattle.policy_model.specs.Settings.{is_text, is_number};
 ghost use Rattle.toml.specs.Data.{get_member};
 ghost use Rattle.toml.specs.View.{view, table_view};
 ghost use Rattle.account_file.specs.Faults.{Reads};
-ghost use Rattle.account_file.specs.Keys.{string_of, text_of, number_in, number_of, algo_of, width_named, width_of, seed_of, password_of, truth_of};
-ghost use Rattle.account_file.specs.Trees.{items_of};
+ghost use Rattle.account_file.specs.Keys.{read_string, read_text, number_in, read_number, read_algo, width_named, read_width, read_seed, read_password, read_truth};
+ghost use Rattle.account_file.specs.Trees.{read_items};
 
 use crate::fault::{SetupFault, SetupRule, Spot};
 use hex::FromHex;
@@ -24,8 +24,8 @@ pub fn entry<'a>(table: &'a Table, key: &str) -> Option<&'a Value>
 }
 
 /// The string at a key that must be there.
-pub fn string_of<'a>(table: &'a Table, key: &str, spot: Spot) -> Result<&'a str, SetupFault>
-    ensures { Reads (λ s. s.now) result (string_of spot (get_member key.now (table_view table.now))) }
+pub fn read_string<'a>(table: &'a Table, key: &str, spot: Spot) -> Result<&'a str, SetupFault>
+    ensures { Reads (λ s. s.now) result (read_string spot (get_member key.now (table_view table.now))) }
 {
     let Some(value) = entry(table, key) else {
         return Err(spot.breaks(SetupRule::Missing));
@@ -37,17 +37,17 @@ pub fn string_of<'a>(table: &'a Table, key: &str, spot: Spot) -> Result<&'a str,
 }
 
 /// The text at a key: of low to high bytes, each printable ASCII.
-pub fn text_of<'a>(
+pub fn read_text<'a>(
     table: &'a Table,
     key: &str,
     spot: Spot,
     low: usize,
     high: usize,
 ) -> Result<&'a str, SetupFault>
-    ensures read { Reads (λ s. s.now) result (text_of spot low high (get_member key.now (table_view table.now))) }
+    ensures read { Reads (λ s. s.now) result (read_text spot low high (get_member key.now (table_view table.now))) }
     ensures legal { IfOk result (λ s. is_text low high s.now ≡ true) }
 {
-    let text = string_of(table, key, spot)?;
+    let text = read_string(table, key, spot)?;
     if is_text(low, high, text) {
         Ok(text)
     } else {
@@ -56,14 +56,14 @@ pub fn text_of<'a>(
 }
 
 /// The number at a key, from low to high.
-pub fn number_of(
+pub fn read_number(
     table: &Table,
     key: &str,
     spot: Spot,
     low: u32,
     high: u32,
 ) -> Result<u32, SetupFault>
-    ensures read { Reads (λ n. n) result (number_of spot low high (get_member key.now (table_view table.now))) }
+    ensures read { Reads (λ n. n) result (read_number spot low high (get_member key.now (table_view table.now))) }
     ensures within { IfOk result (λ n. (low ≤ n) × (n ≤ high)) }
 {
     let Some(value) = entry(table, key) else {
@@ -76,34 +76,34 @@ pub fn number_of(
 }
 
 /// The algorithm at a key: `md5` or `sha1`.
-pub fn algo_of(table: &Table, key: &str, spot: Spot) -> Result<Algo, SetupFault>
-    ensures { Reads (λ a. a) result (algo_of spot (get_member key.now (table_view table.now))) }
+pub fn read_algo(table: &Table, key: &str, spot: Spot) -> Result<Algo, SetupFault>
+    ensures { Reads (λ a. a) result (read_algo spot (get_member key.now (table_view table.now))) }
 {
-    let text = string_of(table, key, spot)?;
+    let text = read_string(table, key, spot)?;
     algo_named(text.as_bytes()).ok_or(spot.breaks(SetupRule::Text))
 }
 
 /// The width of frames at a key: `narrow` or `wide`.
-pub fn width_of(table: &Table, key: &str, spot: Spot) -> Result<Width, SetupFault>
-    ensures { Reads (λ w. w) result (width_of spot (get_member key.now (table_view table.now))) }
+pub fn read_width(table: &Table, key: &str, spot: Spot) -> Result<Width, SetupFault>
+    ensures { Reads (λ w. w) result (read_width spot (get_member key.now (table_view table.now))) }
 {
-    let text = string_of(table, key, spot)?;
+    let text = read_string(table, key, spot)?;
     width_named(text.as_bytes()).ok_or(spot.breaks(SetupRule::Text))
 }
 
 /// The seed at a key: 1 to 16 ASCII letters and digits, turned into lower case.
-pub fn seed_of(table: &Table, key: &str, spot: Spot) -> Result<Seed, SetupFault>
-    ensures { Reads seed_bytes result (seed_of spot (get_member key.now (table_view table.now))) }
+pub fn read_seed(table: &Table, key: &str, spot: Spot) -> Result<Seed, SetupFault>
+    ensures { Reads seed_bytes result (read_seed spot (get_member key.now (table_view table.now))) }
 {
-    let text = string_of(table, key, spot)?;
+    let text = read_string(table, key, spot)?;
     Seed::of(text.as_bytes()).ok_or(spot.breaks(SetupRule::Text))
 }
 
 /// The password at a key: 16 hexadecimal digits, the most significant first.
-pub fn password_of(table: &Table, key: &str, spot: Spot) -> Result<u64, SetupFault>
-    ensures { Reads (λ n. n) result (password_of spot (get_member key.now (table_view table.now))) }
+pub fn read_password(table: &Table, key: &str, spot: Spot) -> Result<u64, SetupFault>
+    ensures { Reads (λ n. n) result (read_password spot (get_member key.now (table_view table.now))) }
 {
-    let text = string_of(table, key, spot)?;
+    let text = read_string(table, key, spot)?;
     match <[u8; 8] as FromHex>::from_hex(text) {
         Ok(bytes) => Ok(u64::from_be_bytes(bytes)),
         Err(_) => Err(spot.breaks(SetupRule::Text)),
@@ -111,8 +111,8 @@ pub fn password_of(table: &Table, key: &str, spot: Spot) -> Result<u64, SetupFau
 }
 
 /// The truth value at a key, true where it is not there.
-pub fn truth_of(table: &Table, key: &str, spot: Spot) -> Result<bool, SetupFault>
-    ensures { Reads (λ b. b) result (truth_of spot (get_member key.now (table_view table.now))) }
+pub fn read_truth(table: &Table, key: &str, spot: Spot) -> Result<bool, SetupFault>
+    ensures { Reads (λ b. b) result (read_truth spot (get_member key.now (table_view table.now))) }
 {
     match entry(table, key) {
         None => Ok(true),
@@ -121,8 +121,8 @@ pub fn truth_of(table: &Table, key: &str, spot: Spot) -> Result<bool, SetupFault
 }
 
 /// The items of an array of at most so many.
-pub fn items_of(value: &Value, spot: Spot, most: usize) -> Result<&[Value], SetupFault>
-    ensures read { Reads (λ vs. map view vs.now) result (items_of spot most (view value.now)) }
+pub fn read_items(value: &Value, spot: Spot, most: usize) -> Result<&[Value], SetupFault>
+    ensures read { Reads (λ vs. map view vs.now) result (read_items spot most (view value.now)) }
     ensures few { IfOk result (λ vs. length vs.now ≤ most) }
 {
     let Some(items) = value.as_array() else {

@@ -1,4 +1,5 @@
-//! The setup file: the setup that its bytes spell, or its first fault.
+//! The setup file: the setup that its bytes spell, or its first fault. Believe `specs/` but for
+//! `Texts.antt` and `Levels.antt`; the readers of a setup and the account writer stand above.
 #![tactic(auto)]
 
 mod accounts;

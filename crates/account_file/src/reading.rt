@@ -6,14 +6,14 @@ ghost use Rattle.toml.specs.View.{table_view};
 ghost use Rattle.account_file.specs.declared.fault.SetupKey.TheVariants.{File};
 ghost use Rattle.account_file.specs.declared.fault.SetupRule.TheVariants.{NotToml};
 ghost use Rattle.account_file.specs.Entries.{entries_of};
-ghost use Rattle.account_file.specs.Faults.{Answers, demand};
-ghost use Rattle.account_file.specs.Setups.{top, document_of, settings_of, setup_of};
+ghost use Rattle.account_file.specs.Faults.{Answers, demand_at};
+ghost use Rattle.account_file.specs.Setups.{top, document_of, read_settings, setup_of};
 
-use crate::accounts::accounts_of;
+use crate::accounts::read_accounts;
 use crate::fault::{SetupError, SetupKey, SetupRule, Spot};
-use crate::info::info_of;
+use crate::info::read_info;
 use crate::known::{Level, are_known};
-use crate::settings::{check_product, counts_of, frames_of, salt_of, texts_of};
+use crate::settings::{check_product, read_counts, read_frames, read_salt, read_texts};
 use policy_model::{Setup, SetupParts, Text};
 use std::alloc::{AllocError, Global};
 use toml::Table;
@@ -28,12 +28,12 @@ pub fn read_setup(alloc: Global, bytes: &[u8]) -> Result<Setup, SetupError>
     if !are_known(&table, Level::File) {
         return Err(SetupError::Refused(Spot::new(SetupKey::Other, 0).breaks(SetupRule::Unknown)));
     }
-    settings_of(alloc, &table)
+    read_settings(alloc, &table)
 }
 
 /// The table of a TOML document.
 fn document_of(alloc: Global, bytes: &[u8]) -> Result<Table, SetupError>
-    ensures { Answers table_view result (demand (top File) NotToml (document_of bytes.now)) }
+    ensures { Answers table_view result (demand_at (top File) NotToml (document_of bytes.now)) }
 {
     let fault = Spot::new(SetupKey::File, 0).breaks(SetupRule::NotToml);
     let Ok(text) = std::str::from_utf8(bytes) else {
@@ -52,16 +52,16 @@ fn document_of(alloc: Global, bytes: &[u8]) -> Result<Table, SetupError>
 }
 
 /// The setup of a document's table.
-fn settings_of(alloc: Global, table: &Table) -> Result<Setup, SetupError>
-    ensures { Answers entries_of result (settings_of (table_view table.now)) }
+fn read_settings(alloc: Global, table: &Table) -> Result<Setup, SetupError>
+    ensures { Answers entries_of result (read_settings (table_view table.now)) }
 {
-    let texts = texts_of(table)?;
-    let salt = salt_of(table)?;
-    let frames = frames_of(table)?;
-    let counts = counts_of(table)?;
-    let info = info_of(alloc, table)?;
+    let texts = read_texts(table)?;
+    let salt = read_salt(table)?;
+    let frames = read_frames(table)?;
+    let counts = read_counts(table)?;
+    let info = read_info(alloc, table)?;
     let counts = check_product(counts)?;
-    let accounts = accounts_of(alloc, table)?;
+    let accounts = read_accounts(alloc, table)?;
     let parts = SetupParts {
         socket: copied(alloc, texts.socket)?,
         launcher: copied(alloc, texts.launcher)?,

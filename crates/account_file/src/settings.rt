@@ -5,19 +5,16 @@ ghost use Rattle.otp_hash.specs.SeedBytes.{seed_bytes};
 ghost use Rattle.policy_model.specs.Settings.{is_text};
 ghost use Rattle.toml.specs.Data.{get_member};
 ghost use Rattle.toml.specs.View.{table_view};
-ghost use Rattle.account_file.specs.Counts.{are_legal, text_entries, count_entries};
+ghost use Rattle.account_file.specs.Texts.{are_legal, text_entries};
 ghost use Rattle.account_file.specs.Faults.{Reads};
-ghost use Rattle.account_file.specs.Setups.{banner_of, texts_of, salt_of, frames_of, counts_of, product_of};
+ghost use Rattle.account_file.specs.Setups.{read_banner, read_texts, read_salt, read_frames, read_counts, product_of};
 
 use crate::fault::{SetupFault, SetupKey, SetupRule, Spot};
-use crate::keys::{entry, number_of, seed_of, text_of, width_of};
+use crate::keys::{entry, read_number, read_seed, read_text, read_width};
 use otp_hash::Seed;
-use policy_model::plain_salt;
+use policy_model::{EVENTS_LIMIT, plain_salt};
 use request_catalogue::Width;
 use toml::Table;
-
-/// The most events that a run may make.
-const EVENTS_MAX: u64 = 1_048_576;
 
 /// The texts of a setup.
 #[derive(Clone, Copy)]
@@ -40,15 +37,15 @@ pub struct Counts {
 }
 
 /// The texts at their keys.
-pub fn texts_of(table: &Table) -> Result<Texts<'_>, SetupFault>
-    ensures read { Reads text_entries result (texts_of (table_view table.now)) }
+pub fn read_texts(table: &Table) -> Result<Texts<'_>, SetupFault>
+    ensures read { Reads text_entries result (read_texts (table_view table.now)) }
     ensures legal { IfOk result (λ t. are_legal t ≡ true) }
 {
-    let socket = text_of(table, "socket", top(SetupKey::Socket), 1, 100)?;
-    let launcher = text_of(table, "launcher", top(SetupKey::Launcher), 1, 255)?;
-    let vault = text_of(table, "vault", top(SetupKey::Vault), 1, 255)?;
-    let words = text_of(table, "words", top(SetupKey::Words), 1, 255)?;
-    let banner = banner_of(table)?;
+    let socket = read_text(table, "socket", top(SetupKey::Socket), 1, 100)?;
+    let launcher = read_text(table, "launcher", top(SetupKey::Launcher), 1, 255)?;
+    let vault = read_text(table, "vault", top(SetupKey::Vault), 1, 255)?;
+    let words = read_text(table, "words", top(SetupKey::Words), 1, 255)?;
+    let banner = read_banner(table)?;
     Ok(Texts {
         socket,
         launcher,
@@ -59,39 +56,39 @@ pub fn texts_of(table: &Table) -> Result<Texts<'_>, SetupFault>
 }
 
 /// The banner, empty where the key isn't there.
-fn banner_of(table: &Table) -> Result<&str, SetupFault>
-    ensures read { Reads (λ s. s.now) result (banner_of (get_member (codes "banner") (table_view table.now))) }
+fn read_banner(table: &Table) -> Result<&str, SetupFault>
+    ensures read { Reads (λ s. s.now) result (read_banner (get_member (codes "banner") (table_view table.now))) }
     ensures legal { IfOk result (λ s. is_text 0 200 s.now ≡ true) }
 {
     match entry(table, "banner") {
         None => Ok(""),
-        Some(_) => text_of(table, "banner", top(SetupKey::Banner), 0, 200),
+        Some(_) => read_text(table, "banner", top(SetupKey::Banner), 0, 200),
     }
 }
 
 /// What decoys are made of, `decoy` where the key isn't there.
-pub fn salt_of(table: &Table) -> Result<Seed, SetupFault>
-    ensures { Reads seed_bytes result (salt_of (get_member (codes "salt") (table_view table.now))) }
+pub fn read_salt(table: &Table) -> Result<Seed, SetupFault>
+    ensures { Reads seed_bytes result (read_salt (get_member (codes "salt") (table_view table.now))) }
 {
     match entry(table, "salt") {
         None => Ok(plain_salt()),
-        Some(_) => seed_of(table, "salt", top(SetupKey::Salt)),
+        Some(_) => read_seed(table, "salt", top(SetupKey::Salt)),
     }
 }
 
 /// How long frames may be, narrow where the key isn't there.
-pub fn frames_of(table: &Table) -> Result<Width, SetupFault>
-    ensures { Reads (λ w. w) result (frames_of (get_member (codes "frames") (table_view table.now))) }
+pub fn read_frames(table: &Table) -> Result<Width, SetupFault>
+    ensures { Reads (λ w. w) result (read_frames (get_member (codes "frames") (table_view table.now))) }
 {
     match entry(table, "frames") {
         None => Ok(Width::Narrow),
-        Some(_) => width_of(table, "frames", top(SetupKey::Frames)),
+        Some(_) => read_width(table, "frames", top(SetupKey::Frames)),
     }
 }
 
 /// The counts at their keys.
-pub fn counts_of(table: &Table) -> Result<Counts, SetupFault>
-    ensures read { Reads count_entries result (counts_of (table_view table.now)) }
+pub fn read_counts(table: &Table) -> Result<Counts, SetupFault>
+    ensures read { Reads (λ c. c) result (read_counts (table_view table.now)) }
     ensures workers { IfOk result (λ c. (1 ≤ c.workers) × (c.workers ≤ 64)) }
     ensures connections { IfOk result (λ c. (1 ≤ c.connections) × (c.connections ≤ 4096)) }
     ensures requests { IfOk result (λ c. (8 ≤ c.requests) × (c.requests ≤ 4096)) }
@@ -99,25 +96,25 @@ pub fn counts_of(table: &Table) -> Result<Counts, SetupFault>
     ensures hold { IfOk result (λ c. (1 ≤ c.hold) × (c.hold ≤ 3600000)) }
 {
     Ok(Counts {
-        workers: number_of(table, "workers", top(SetupKey::Workers), 1, 64)?,
-        connections: number_of(table, "connections", top(SetupKey::Connections), 1, 4_096)?,
-        requests: number_of(table, "requests", top(SetupKey::Requests), 8, 4_096)?,
-        tries: number_of(table, "tries", top(SetupKey::Tries), 1, 10)?,
-        hold: number_of(table, "hold", top(SetupKey::Hold), 1, 3_600_000)?,
+        workers: read_number(table, "workers", top(SetupKey::Workers), 1, 64)?,
+        connections: read_number(table, "connections", top(SetupKey::Connections), 1, 4_096)?,
+        requests: read_number(table, "requests", top(SetupKey::Requests), 8, 4_096)?,
+        tries: read_number(table, "tries", top(SetupKey::Tries), 1, 10)?,
+        hold: read_number(table, "hold", top(SetupKey::Hold), 1, 3_600_000)?,
     })
 }
 
-/// The counts again, where a run makes at most 1,048,576 events by them.
+/// The counts again, where a run makes at most `EVENTS_LIMIT` events by them.
 pub fn check_product(counts: Counts) -> Result<Counts, SetupFault>
     requires workers { counts.workers ≤ 64 }
     requires connections { counts.connections ≤ 4096 }
     requires requests { counts.requests ≤ 4096 }
-    ensures read { Reads count_entries result (product_of (count_entries counts)) }
+    ensures read { Reads (λ c. c) result (product_of counts) }
     ensures same { IfOk result (λ c. c ≡ counts) }
-    ensures few { IfOk result (λ c. c.workers * (c.connections * (c.requests + 3)) ≤ 1048576) }
+    ensures few { IfOk result (λ c. c.workers * (c.connections * (c.requests + 3)) ≤ EVENTS_LIMIT) }
 {
     let quota = u64::from(counts.connections) * (u64::from(counts.requests) + 3);
-    if u64::from(counts.workers) * quota > EVENTS_MAX {
+    if u64::from(counts.workers) * quota > u64::from(EVENTS_LIMIT) {
         return Err(top(SetupKey::Requests).breaks(SetupRule::Product));
     }
     Ok(counts)

@@ -8,6 +8,7 @@ use Rattle.std.proofs.lemmas.Bool.Decides.{nat_tests}
 use Rattle.std.proofs.lemmas.List.{length-map, map-append}
 use Rattle.otp_hash.specs.declared.chain.Algo.{Algo}
 use Rattle.otp_hash.specs.SeedBytes.{seed_bytes}
+use Rattle.request_catalogue.specs.Results.{◌>>=◌}
 use Rattle.request_catalogue.specs.Texts.{is_label, is_name}
 use Rattle.request_catalogue.specs.TextBytes.{label_bytes, name_bytes}
 use Rattle.policy_model.specs.declared.account.Account.{Account}
@@ -17,10 +18,9 @@ use Rattle.toml.specs.Data.{Data, Members, array, get_member}
 use Rattle.toml.specs.View.{items_of}
 use Rattle.account_file.specs.declared.fault.SetupFault.{SetupFault}
 use Rattle.account_file.specs.declared.fault.SetupKey.TheVariants as keys
-use Rattle.account_file.specs.Accounts.{account_behind, account_keys_of, account_of, accounts_of, grant_behind, grant_of, grants_of, new_string_of, spot_in, uid_at, uid_of, uids_of}
+use Rattle.account_file.specs.Accounts.{account_behind, read_account_keys, read_account, read_accounts, grant_behind, read_grant, read_grants, read_new_string, spot_in, uid_at, read_uid, uids_of}
 use Rattle.account_file.specs.Entries.{GrantEntry, account_entry, grant_entry}
-use Rattle.account_file.specs.Faults.{◌>>=◌}
-use Rattle.account_file.specs.Keys.{algo_of, number_of, password_of, seed_of, truth_of}
+use Rattle.account_file.specs.Keys.{read_algo, read_number, read_password, read_seed, read_truth}
 use Rattle.account_file.specs.Setups.{top}
 use Rattle.account_file.specs.Trees.{each, strings_at}
 use Rattle.account_file.proofs.EachLemmas.{after, each_from, read_none}
@@ -45,9 +45,9 @@ grant_names : (gs : List Grant) → strings_at (codes "name") (map grant_data gs
 grant_names [] = refl
 grant_names (g ∷ gs) = ap (λ (names : List (List ℕ)). label_bytes g.name ∷ names) (grant_names gs)
 
-grant_read : (account : ℕ) (names : List (List ℕ)) (g : Grant) → list_any (λ other. bytes_eq other (label_bytes g.name)) names ≡ false → is_number 1 3 g.mode ≡ true → grant_of account names (grant_data g) ≡ Ok (grant_entry g)
+grant_read : (account : ℕ) (names : List (List ℕ)) (g : Grant) → list_any (λ other. bytes_eq other (label_bytes g.name)) names ≡ false → is_number 1 3 g.mode ≡ true → read_grant account names (grant_data g) ≡ Ok (grant_entry g)
 grant_read account names g new legal =
-    ap (λ (r : Result (List ℕ) SetupFault). r >>= (λ name. number_of (spot_in account keys.GrantMode) 1 3 (Some (number g.mode)) >>= (λ mode. Ok (record { name = name; mode = mode })))) (new_string_read (spot_in account keys.GrantName) is_label names (label_bytes g.name) g.name.legal new)
+    ap (λ (r : Result (List ℕ) SetupFault). r >>= (λ name. read_number (spot_in account keys.GrantMode) 1 3 (Some (number g.mode)) >>= (λ mode. Ok (record { name = name; mode = mode })))) (new_string_read (spot_in account keys.GrantName) is_label names (label_bytes g.name) g.name.legal new)
     ∙ ap (λ (r : Result ℕ SetupFault). r >>= (λ mode. Ok (record { name = label_bytes g.name; mode = mode }))) (number_read (spot_in account keys.GrantMode) 1 3 g.mode legal)
 
 grants_from : (account : ℕ) (before rest : List Grant) → list_all (λ (g : Grant). is_number 1 3 g.mode) rest ≡ true → are_distinct (λ (a b : Grant). same_label a.name b.name) (before ++ rest) ≡ true → each_from (grant_behind account) (map grant_data before) (map grant_data rest) ≡ Ok (map grant_entry rest)
@@ -56,12 +56,12 @@ grants_from account before (g ∷ rest) modes apart =
     let parts = and_parts (is_number 1 3 g.mode) (list_all (λ (h : Grant). is_number 1 3 h.mode) rest) modes in
     let names = map (λ (h : Grant). label_bytes h.name) before in
     let new : list_any (λ other. bytes_eq other (label_bytes g.name)) names ≡ false = list_any-map (λ other. bytes_eq other (label_bytes g.name)) (λ (h : Grant). label_bytes h.name) before ∙ new_behind (λ (a b : Grant). same_label a.name b.name) before g rest apart in
-    let here : grant_behind account (map grant_data before) (grant_data g) ≡ Ok (grant_entry g) = ap (λ (others : List (List ℕ)). grant_of account others (grant_data g)) (grant_names before) ∙ grant_read account names g new parts.0 in
+    let here : grant_behind account (map grant_data before) (grant_data g) ≡ Ok (grant_entry g) = ap (λ (others : List (List ℕ)). read_grant account others (grant_data g)) (grant_names before) ∙ grant_read account names g new parts.0 in
     let more : are_distinct (λ (a b : Grant). same_label a.name b.name) ((before ++ g ∷ []) ++ rest) ≡ true = subst (λ (gs : List Grant). are_distinct (λ (a b : Grant). same_label a.name b.name) gs ≡ true) (sym (append_assoc before (g ∷ []) rest)) apart in
     let next : each_from (grant_behind account) (map grant_data before ++ grant_data g ∷ []) (map grant_data rest) ≡ Ok (map grant_entry rest) = ap (λ (ds : List Data). each_from (grant_behind account) ds (map grant_data rest)) (sym (map-append grant_data before (g ∷ []))) ∙ grants_from account (before ++ g ∷ []) rest parts.1 more in
     one_more (grant_behind account) (map grant_data before) (grant_data g) (map grant_data rest) (grant_entry g) (map grant_entry rest) here next
 
-grants_read : (account : ℕ) (gs : List Grant) → are_grants gs ≡ true → grants_of account (Some (array (items_of (map grant_data gs)))) ≡ Ok (map grant_entry gs)
+grants_read : (account : ℕ) (gs : List Grant) → are_grants gs ≡ true → read_grants account (Some (array (items_of (map grant_data gs)))) ≡ Ok (map grant_entry gs)
 grants_read account gs legal =
     let parts = and_parts _ _ legal in
     let first = and_parts _ _ parts.0 in
@@ -94,15 +94,15 @@ account_uids (a ∷ accounts) legal =
 
 -- the keys of an account, one after the other
 keys_by : (n : ℕ) (names : List (List ℕ)) (uids : List ℕ) (ms : Members) (name : List ℕ) (uid : ℕ) (algo : Algo) (seed : List ℕ) (sequence password : ℕ) (enabled : Bool) (grants : List GrantEntry)
-    → new_string_of (spot_in n keys.Name) is_name names (get_member (codes "name") ms) ≡ Ok name
-    → uid_of (spot_in n keys.Uid) uids (get_member (codes "uid") ms) ≡ Ok uid
-    → algo_of (spot_in n keys.Algorithm) (get_member (codes "algorithm") ms) ≡ Ok algo
-    → seed_of (spot_in n keys.Seed) (get_member (codes "seed") ms) ≡ Ok seed
-    → number_of (spot_in n keys.Sequence) 0 9999 (get_member (codes "sequence") ms) ≡ Ok sequence
-    → password_of (spot_in n keys.Password) (get_member (codes "password") ms) ≡ Ok password
-    → truth_of (spot_in n keys.Enabled) (get_member (codes "enabled") ms) ≡ Ok enabled
-    → grants_of n (get_member (codes "grants") ms) ≡ Ok grants
-    → account_keys_of n names uids ms ≡ Ok (record { name = name; uid = uid; algo = algo; seed = seed; sequence = sequence; password = password; enabled = enabled; grants = grants })
+    → read_new_string (spot_in n keys.Name) is_name names (get_member (codes "name") ms) ≡ Ok name
+    → read_uid (spot_in n keys.Uid) uids (get_member (codes "uid") ms) ≡ Ok uid
+    → read_algo (spot_in n keys.Algorithm) (get_member (codes "algorithm") ms) ≡ Ok algo
+    → read_seed (spot_in n keys.Seed) (get_member (codes "seed") ms) ≡ Ok seed
+    → read_number (spot_in n keys.Sequence) 0 9999 (get_member (codes "sequence") ms) ≡ Ok sequence
+    → read_password (spot_in n keys.Password) (get_member (codes "password") ms) ≡ Ok password
+    → read_truth (spot_in n keys.Enabled) (get_member (codes "enabled") ms) ≡ Ok enabled
+    → read_grants n (get_member (codes "grants") ms) ≡ Ok grants
+    → read_account_keys n names uids ms ≡ Ok (record { name = name; uid = uid; algo = algo; seed = seed; sequence = sequence; password = password; enabled = enabled; grants = grants })
 keys_by n names uids ms name uid algo seed sequence password enabled grants name_is uid_is algo_is seed_is sequence_is password_is enabled_is grants_are =
     rw (name_is, uid_is, algo_is, seed_is, sequence_is, password_is, enabled_is, grants_are) refl
 
@@ -112,7 +112,7 @@ writable_parts a is =
     let parts = and_parts (nat_le a.sequence 9999) (nat_lt a.password 18446744073709551616) is in
     (and_from _ _ (le-leb 0 a.sequence (omega arith)) parts.0, grind (arith, nat_tests, parts.1))
 
-account_read : (n : ℕ) (names : List (List ℕ)) (uids : List ℕ) (a : Account) → is_account a ≡ true → is_writable a ≡ true → list_any (λ other. bytes_eq other (name_bytes a.name)) names ≡ false → list_any (λ other. other == a.uid) uids ≡ false → account_of n names uids (account_data a) ≡ Ok (account_entry a)
+account_read : (n : ℕ) (names : List (List ℕ)) (uids : List ℕ) (a : Account) → is_account a ≡ true → is_writable a ≡ true → list_any (λ other. bytes_eq other (name_bytes a.name)) names ≡ false → list_any (λ other. other == a.uid) uids ≡ false → read_account n names uids (account_data a) ≡ Ok (account_entry a)
 account_read n names uids a legal writable new_name new_uid =
     let own = legal_parts a legal in
     let written = writable_parts a writable in
@@ -161,8 +161,8 @@ account_here before a rest are =
     let uids = map (λ (b : Account). b.uid) before in
     let new_name : list_any (λ other. bytes_eq other (name_bytes a.name)) names ≡ false = list_any-map (λ other. bytes_eq other (name_bytes a.name)) (λ (b : Account). name_bytes b.name) before ∙ new_behind (λ (a b : Account). same_name a.name b.name) before a rest are.names in
     let new_uid : list_any (λ other. other == a.uid) uids ≡ false = list_any-map (λ other. other == a.uid) (λ (b : Account). b.uid) before ∙ new_behind (λ (a b : Account). a.uid == b.uid) before a rest are.uids in
-    ap (λ (others : List (List ℕ)). account_of (length earlier + 1) others (uids_of earlier) (account_data a)) (account_names before)
-    ∙ ap (λ (others : List ℕ). account_of (length earlier + 1) names others (account_data a)) (account_uids before are.behind)
+    ap (λ (others : List (List ℕ)). read_account (length earlier + 1) others (uids_of earlier) (account_data a)) (account_names before)
+    ∙ ap (λ (others : List ℕ). read_account (length earlier + 1) names others (account_data a)) (account_uids before are.behind)
     ∙ account_read (length earlier + 1) names uids a (and_parts (is_account a) (list_all is_account rest) are.legal).0 (and_parts (is_writable a) (list_all is_writable rest) are.writable).0 new_name new_uid
 
 accounts_from : (before rest : List Account) → AreWritable before rest → each_from account_behind (map account_data before) (map account_data rest) ≡ Ok (map account_entry rest)
@@ -171,7 +171,7 @@ accounts_from before (a ∷ rest) are =
     let next : each_from account_behind (map account_data before ++ account_data a ∷ []) (map account_data rest) ≡ Ok (map account_entry rest) = ap (λ (ds : List Data). each_from account_behind ds (map account_data rest)) (sym (map-append account_data before (a ∷ []))) ∙ accounts_from (before ++ a ∷ []) rest (next_are before a rest are) in
     one_more account_behind (map account_data before) (account_data a) (map account_data rest) (account_entry a) (map account_entry rest) (account_here before a rest are) next
 
-pub accounts_read : (accounts : List Account) → are_accounts accounts ≡ true → list_all is_writable accounts ≡ true → accounts_of (Some (array (items_of (map account_data accounts)))) ≡ Ok (map account_entry accounts)
+pub accounts_read : (accounts : List Account) → are_accounts accounts ≡ true → list_all is_writable accounts ≡ true → read_accounts (Some (array (items_of (map account_data accounts)))) ≡ Ok (map account_entry accounts)
 accounts_read accounts legal writable =
     let uids = and_parts _ _ legal in
     let names = and_parts _ _ uids.0 in

@@ -22,33 +22,34 @@ use Rattle.otp_hash.specs.Seeds.{is_seed, is_seed_byte, is_seed_text}
 use Rattle.otp_hash.specs.SeedBytes.{seed_bytes}
 use Rattle.request_catalogue.specs.declared.width.Width.{Width}
 use Rattle.request_catalogue.specs.declared.width.Width.TheVariants.{Narrow, Wide}
+use Rattle.request_catalogue.specs.Results.{◌>>=◌}
 use Rattle.policy_model.specs.Settings.{is_text, is_number}
 use Rattle.account_file.specs.declared.fault.SetupFault.{SetupFault}
 use Rattle.account_file.specs.declared.fault.SetupRule.TheVariants as rules
 use Rattle.account_file.specs.declared.fault.Spot.{Spot}
-use Rattle.account_file.specs.Accounts.{new_string_of, uid_of}
-use Rattle.account_file.specs.Faults.{demand, ◌>>=◌}
-use Rattle.account_file.specs.Keys.{text_of, number_of, algo_of, width_of, seed_of, password_of, truth_of}
+use Rattle.account_file.specs.Accounts.{read_new_string, read_uid}
+use Rattle.account_file.specs.Faults.{demand_at}
+use Rattle.account_file.specs.Keys.{read_text, read_number, read_algo, read_width, read_seed, read_password, read_truth}
 use Rattle.account_file.specs.Trees.{data_of}
 use Rattle.account_file.specs.Trees as trees
 use Rattle.otp_hash.specs.Names.{algo_name}
 use Rattle.account_writer.specs.Tables.{width_word, password_text, number}
 
-pub text_read : (spot : Spot) (low high : ℕ) (bytes : List ℕ) → is_text low high bytes ≡ true → text_of spot low high (Some (string bytes)) ≡ Ok bytes
-text_read spot low high bytes legal = ap (λ (b : Bool). demand spot rules.Text (then_some b bytes)) legal
+pub text_read : (spot : Spot) (low high : ℕ) (bytes : List ℕ) → is_text low high bytes ≡ true → read_text spot low high (Some (string bytes)) ≡ Ok bytes
+text_read spot low high bytes legal = ap (λ (b : Bool). demand_at spot rules.Text (then_some b bytes)) legal
 
-pub number_read : (spot : Spot) (low high n : ℕ) → is_number low high n ≡ true → number_of spot low high (Some (number n)) ≡ Ok n
-number_read spot low high n legal = ap (λ (b : Bool). demand spot rules.Range (then_some b n)) legal
+pub number_read : (spot : Spot) (low high n : ℕ) → is_number low high n ≡ true → read_number spot low high (Some (number n)) ≡ Ok n
+number_read spot low high n legal = ap (λ (b : Bool). demand_at spot rules.Range (then_some b n)) legal
 
-pub algo_read : (spot : Spot) (a : Algo) → algo_of spot (Some (string (algo_name a))) ≡ Ok a
+pub algo_read : (spot : Spot) (a : Algo) → read_algo spot (Some (string (algo_name a))) ≡ Ok a
 algo_read spot algos.Md5 = refl
 algo_read spot algos.Sha1 = refl
 
-pub width_read : (spot : Spot) (w : Width) → width_of spot (Some (string (width_word w))) ≡ Ok w
+pub width_read : (spot : Spot) (w : Width) → read_width spot (Some (string (width_word w))) ≡ Ok w
 width_read spot Narrow = refl
 width_read spot Wide = refl
 
-pub truth_read : (spot : Spot) (b : Bool) → truth_of spot (Some (boolean b)) ≡ Ok b
+pub truth_read : (spot : Spot) (b : Bool) → read_truth spot (Some (boolean b)) ≡ Ok b
 truth_read spot b = refl
 
 -- a byte of a seed is a letter or a digit, and in lower case
@@ -71,38 +72,38 @@ seed_text bytes legal =
     let all = seed_bytes_pass bytes parts.1 in
     (and_from _ _ parts.0 all.0, all.1)
 
-pub seed_read : (spot : Spot) (s : Seed) → seed_of spot (Some (string (seed_bytes s))) ≡ Ok (seed_bytes s)
+pub seed_read : (spot : Spot) (s : Seed) → read_seed spot (Some (string (seed_bytes s))) ≡ Ok (seed_bytes s)
 seed_read spot s =
     let is = seed_text (seed_bytes s) s.legal in
-    ap (λ (b : Bool). demand spot rules.Text (then_some b (map to_ascii_lowercase (seed_bytes s)))) is.0
+    ap (λ (b : Bool). demand_at spot rules.Text (then_some b (map to_ascii_lowercase (seed_bytes s)))) is.0
     ∙ ap (λ (bytes : List ℕ). Ok bytes) is.1
 
 -- a word's bytes are bytes
 are_bytes : (n : ℕ) → IsBytes (to_be_bytes w64 n)
 are_bytes n i = search (arith)
 
-pub password_read : (spot : Spot) (password : ℕ) → password < 2 ^ 64 → password_of spot (Some (string (password_text password))) ≡ Ok password
+pub password_read : (spot : Spot) (password : ℕ) → password < 2 ^ 64 → read_password spot (Some (string (password_text password))) ≡ Ok password
 password_read spot password fits =
-    ap (λ (r : Result (List ℕ) FromHexError). demand spot rules.Text (option_map (from_be_bytes w64) (result_ok r))) (decode_sized-encode_lower (to_be_bytes w64 password) 8 refl (are_bytes password))
-    ∙ ap (λ (n : ℕ). demand spot rules.Text (Some n)) (from_be_bytes-to_be_bytes_8 password fits)
+    ap (λ (r : Result (List ℕ) FromHexError). demand_at spot rules.Text (option_map (from_be_bytes w64) (result_ok r))) (decode_sized-encode_lower (to_be_bytes w64 password) 8 refl (are_bytes password))
+    ∙ ap (λ (n : ℕ). demand_at spot rules.Text (Some n)) (from_be_bytes-to_be_bytes_8 password fits)
 
 -- a string that passes a test, and that no other is the same as
-pub new_string_read : (spot : Spot) (test : List ℕ → Bool) (others : List (List ℕ)) (bytes : List ℕ) → test bytes ≡ true → list_any (λ other. bytes_eq other bytes) others ≡ false → new_string_of spot test others (Some (string bytes)) ≡ Ok bytes
+pub new_string_read : (spot : Spot) (test : List ℕ → Bool) (others : List (List ℕ)) (bytes : List ℕ) → test bytes ≡ true → list_any (λ other. bytes_eq other bytes) others ≡ false → read_new_string spot test others (Some (string bytes)) ≡ Ok bytes
 new_string_read spot test others bytes legal new =
-    ap (λ (b : Bool). demand spot rules.Text (then_some b bytes) >>= (λ legal. demand spot rules.Twice (then_some (not (list_any (λ other. bytes_eq other legal) others)) legal))) legal
-    ∙ ap (λ (b : Bool). demand spot rules.Twice (then_some (not b) bytes)) new
+    ap (λ (b : Bool). demand_at spot rules.Text (then_some b bytes) >>= (λ legal. demand_at spot rules.Twice (then_some (not (list_any (λ other. bytes_eq other legal) others)) legal))) legal
+    ∙ ap (λ (b : Bool). demand_at spot rules.Twice (then_some (not b) bytes)) new
 
-pub uid_read : (spot : Spot) (others : List ℕ) (uid : ℕ) → is_number 1 4294967294 uid ≡ true → list_any (λ other. other == uid) others ≡ false → uid_of spot others (Some (number uid)) ≡ Ok uid
+pub uid_read : (spot : Spot) (others : List ℕ) (uid : ℕ) → is_number 1 4294967294 uid ≡ true → list_any (λ other. other == uid) others ≡ false → read_uid spot others (Some (number uid)) ≡ Ok uid
 uid_read spot others uid legal new =
-    ap (λ (r : Result ℕ SetupFault). r >>= (λ n. demand spot rules.Twice (then_some (not (list_any (λ other. other == n) others)) n))) (number_read spot 1 4294967294 uid legal)
-    ∙ ap (λ (b : Bool). demand spot rules.Twice (then_some (not b) uid)) new
+    ap (λ (r : Result ℕ SetupFault). r >>= (λ n. demand_at spot rules.Twice (then_some (not (list_any (λ other. other == n) others)) n))) (number_read spot 1 4294967294 uid legal)
+    ∙ ap (λ (b : Bool). demand_at spot rules.Twice (then_some (not b) uid)) new
 
 -- the items of an array that is written
 pub data_of-items : (ds : List Data) → data_of (items_of ds) ≡ ds
 data_of-items [] = refl
 data_of-items (d ∷ ds) = ap (λ (more : List Data). d ∷ more) (data_of-items ds)
 
-pub items_read : (spot : Spot) (most : ℕ) (ds : List Data) → nat_le (length ds) most ≡ true → trees.items_of spot most (array (items_of ds)) ≡ Ok ds
+pub items_read : (spot : Spot) (most : ℕ) (ds : List Data) → nat_le (length ds) most ≡ true → trees.read_items spot most (array (items_of ds)) ≡ Ok ds
 items_read spot most ds few =
-    ap (λ (all : List Data). demand spot rules.Range (then_some (nat_le (length all) most) all)) (data_of-items ds)
-    ∙ ap (λ (b : Bool). demand spot rules.Range (then_some b ds)) few
+    ap (λ (all : List Data). demand_at spot rules.Range (then_some (nat_le (length all) most) all)) (data_of-items ds)
+    ∙ ap (λ (b : Bool). demand_at spot rules.Range (then_some b ds)) few

@@ -14,17 +14,19 @@ use Rattle.toml.specs.Parse.{parse_document}
 use Rattle.toml.specs.View.{items_of}
 use Rattle.otp_hash.specs.SeedBytes.{seed_bytes}
 use Rattle.request_catalogue.specs.declared.width.Width.{Width}
+use Rattle.request_catalogue.specs.Results.{◌>>=◌}
 use Rattle.policy_model.specs.declared.account.Account.{Account}
 use Rattle.policy_model.specs.declared.account.Grant.{Grant}
 use Rattle.policy_model.specs.Settings.{IsInRange, Settings, are_distinct, are_numbers, is_number}
 use Rattle.account_file.specs.declared.fault.SetupFault.{SetupFault}
 use Rattle.account_file.specs.declared.fault.SetupKey.TheVariants as keys
 use Rattle.account_file.specs.declared.fault.SetupRule.TheVariants as rules
-use Rattle.account_file.specs.Accounts.{accounts_of}
-use Rattle.account_file.specs.Entries.{AccountEntry, CountEntries, SetupEntries, TextEntries, account_entry, entries_of}
-use Rattle.account_file.specs.Faults.{demand, ◌>>=◌}
-use Rattle.account_file.specs.Keys.{number_in, number_of, text_of}
-use Rattle.account_file.specs.Setups.{all_some, banner_of, counts_of, frames_of, info_items, info_of, product_of, salt_of, settings_of, setup_keys, setup_of, texts_of, top}
+use Rattle.account_file.specs.declared.settings.Counts.{Counts}
+use Rattle.account_file.specs.Accounts.{read_accounts}
+use Rattle.account_file.specs.Entries.{AccountEntry, SetupEntries, TextEntries, account_entry, entries_of}
+use Rattle.account_file.specs.Faults.{demand_at}
+use Rattle.account_file.specs.Keys.{number_in, read_number, read_text}
+use Rattle.account_file.specs.Setups.{all_some, read_banner, read_counts, read_frames, info_items, read_info, product_of, read_salt, read_settings, setup_keys, setup_of, read_texts, top}
 use Rattle.account_file.specs.Trees.{are_known}
 use Rattle.account_writer.specs.Tables.{account_data, grant_data, is_writable, number, setup_members}
 use Rattle.account_writer.proofs.AccountReads.{accounts_read}
@@ -33,32 +35,32 @@ use Rattle.account_writer.proofs.KeyReads.{data_of-items, number_read, seed_read
 -- 1. The parts of a setup, one after the other
 
 texts_by : (ms : Members) (socket launcher vault words banner : List ℕ)
-    → text_of (top keys.Socket) 1 100 (get_member (codes "socket") ms) ≡ Ok socket
-    → text_of (top keys.Launcher) 1 255 (get_member (codes "launcher") ms) ≡ Ok launcher
-    → text_of (top keys.Vault) 1 255 (get_member (codes "vault") ms) ≡ Ok vault
-    → text_of (top keys.Words) 1 255 (get_member (codes "words") ms) ≡ Ok words
-    → banner_of (get_member (codes "banner") ms) ≡ Ok banner
-    → texts_of ms ≡ Ok (record { socket = socket; launcher = launcher; vault = vault; words = words; banner = banner })
+    → read_text (top keys.Socket) 1 100 (get_member (codes "socket") ms) ≡ Ok socket
+    → read_text (top keys.Launcher) 1 255 (get_member (codes "launcher") ms) ≡ Ok launcher
+    → read_text (top keys.Vault) 1 255 (get_member (codes "vault") ms) ≡ Ok vault
+    → read_text (top keys.Words) 1 255 (get_member (codes "words") ms) ≡ Ok words
+    → read_banner (get_member (codes "banner") ms) ≡ Ok banner
+    → read_texts ms ≡ Ok (record { socket = socket; launcher = launcher; vault = vault; words = words; banner = banner })
 texts_by ms socket launcher vault words banner a b c d e = rw (a, b, c, d, e) refl
 
 counts_by : (ms : Members) (workers connections requests tries hold : ℕ)
-    → number_of (top keys.Workers) 1 64 (get_member (codes "workers") ms) ≡ Ok workers
-    → number_of (top keys.Connections) 1 4096 (get_member (codes "connections") ms) ≡ Ok connections
-    → number_of (top keys.Requests) 8 4096 (get_member (codes "requests") ms) ≡ Ok requests
-    → number_of (top keys.Tries) 1 10 (get_member (codes "tries") ms) ≡ Ok tries
-    → number_of (top keys.Hold) 1 3600000 (get_member (codes "hold") ms) ≡ Ok hold
-    → counts_of ms ≡ Ok (record { workers = workers; connections = connections; requests = requests; tries = tries; hold = hold })
+    → read_number (top keys.Workers) 1 64 (get_member (codes "workers") ms) ≡ Ok workers
+    → read_number (top keys.Connections) 1 4096 (get_member (codes "connections") ms) ≡ Ok connections
+    → read_number (top keys.Requests) 8 4096 (get_member (codes "requests") ms) ≡ Ok requests
+    → read_number (top keys.Tries) 1 10 (get_member (codes "tries") ms) ≡ Ok tries
+    → read_number (top keys.Hold) 1 3600000 (get_member (codes "hold") ms) ≡ Ok hold
+    → read_counts ms ≡ Ok (record { workers = workers; connections = connections; requests = requests; tries = tries; hold = hold })
 counts_by ms workers connections requests tries hold a b c d e = rw (a, b, c, d, e) refl
 
-settings_by : (ms : Members) (texts : TextEntries) (salt : List ℕ) (frames : Width) (counts : CountEntries) (info : List ℕ) (accounts : List AccountEntry)
-    → texts_of ms ≡ Ok texts
-    → salt_of (get_member (codes "salt") ms) ≡ Ok salt
-    → frames_of (get_member (codes "frames") ms) ≡ Ok frames
-    → counts_of ms ≡ Ok counts
-    → info_of (get_member (codes "info") ms) ≡ Ok info
+settings_by : (ms : Members) (texts : TextEntries) (salt : List ℕ) (frames : Width) (counts : Counts) (info : List ℕ) (accounts : List AccountEntry)
+    → read_texts ms ≡ Ok texts
+    → read_salt (get_member (codes "salt") ms) ≡ Ok salt
+    → read_frames (get_member (codes "frames") ms) ≡ Ok frames
+    → read_counts ms ≡ Ok counts
+    → read_info (get_member (codes "info") ms) ≡ Ok info
     → product_of counts ≡ Ok counts
-    → accounts_of (get_member (codes "account") ms) ≡ Ok accounts
-    → settings_of ms ≡ Ok (record { texts = texts; salt = salt; frames = frames; counts = counts; info = info; accounts = accounts })
+    → read_accounts (get_member (codes "account") ms) ≡ Ok accounts
+    → read_settings ms ≡ Ok (record { texts = texts; salt = salt; frames = frames; counts = counts; info = info; accounts = accounts })
 settings_by ms texts salt frames counts info accounts a b c d e f g = rw (a, b, c, d, e, f, g) refl
 
 -- 2. Numbers of information
@@ -76,12 +78,12 @@ all_there (n ∷ info) legal =
 
 info_by : (items : List Data) (info : List ℕ) → list_all (λ d. is_some (as_integer d)) items ≡ true → nat_le (length items) 32 ≡ true → all_some (λ d. option_and_then (number_in 1 1000) (as_integer d)) items ≡ Some info → are_distinct ◌==◌ info ≡ true → info_items items ≡ Ok info
 info_by items info integers few all distinct =
-    ap (λ (b : Bool). demand (top keys.Info) rules.Kind (then_some b items) >>= (λ integers. demand (top keys.Info) rules.Range (then_some (nat_le (length integers) 32) integers) >>= (λ few. demand (top keys.Info) rules.Range (all_some (λ d. option_and_then (number_in 1 1000) (as_integer d)) few) >>= (λ found. demand (top keys.Info) rules.Twice (then_some (are_distinct ◌==◌ found) found))))) integers
-    ∙ ap (λ (b : Bool). demand (top keys.Info) rules.Range (then_some b items) >>= (λ few. demand (top keys.Info) rules.Range (all_some (λ d. option_and_then (number_in 1 1000) (as_integer d)) few) >>= (λ found. demand (top keys.Info) rules.Twice (then_some (are_distinct ◌==◌ found) found)))) few
-    ∙ ap (λ (o : Option (List ℕ)). demand (top keys.Info) rules.Range o >>= (λ found. demand (top keys.Info) rules.Twice (then_some (are_distinct ◌==◌ found) found))) all
-    ∙ ap (λ (b : Bool). demand (top keys.Info) rules.Twice (then_some b info)) distinct
+    ap (λ (b : Bool). demand_at (top keys.Info) rules.Kind (then_some b items) >>= (λ integers. demand_at (top keys.Info) rules.Range (then_some (nat_le (length integers) 32) integers) >>= (λ few. demand_at (top keys.Info) rules.Range (all_some (λ d. option_and_then (number_in 1 1000) (as_integer d)) few) >>= (λ found. demand_at (top keys.Info) rules.Twice (then_some (are_distinct ◌==◌ found) found))))) integers
+    ∙ ap (λ (b : Bool). demand_at (top keys.Info) rules.Range (then_some b items) >>= (λ few. demand_at (top keys.Info) rules.Range (all_some (λ d. option_and_then (number_in 1 1000) (as_integer d)) few) >>= (λ found. demand_at (top keys.Info) rules.Twice (then_some (are_distinct ◌==◌ found) found)))) few
+    ∙ ap (λ (o : Option (List ℕ)). demand_at (top keys.Info) rules.Range o >>= (λ found. demand_at (top keys.Info) rules.Twice (then_some (are_distinct ◌==◌ found) found))) all
+    ∙ ap (λ (b : Bool). demand_at (top keys.Info) rules.Twice (then_some b info)) distinct
 
-info_read : (info : List ℕ) → are_numbers info ≡ true → info_of (Some (array (items_of (map number info)))) ≡ Ok info
+info_read : (info : List ℕ) → are_numbers info ≡ true → read_info (Some (array (items_of (map number info)))) ≡ Ok info
 info_read info legal =
     let parts = and_parts _ _ legal in
     let first = and_parts _ _ parts.0 in
@@ -93,10 +95,10 @@ info_read info legal =
 within : (low high n : ℕ) → (low ≤ n) × (n ≤ high) → is_number low high n ≡ true
 within low high n h = grind (arith, nat_tests)
 
-product_read : (counts : CountEntries) → counts.workers * (counts.connections * (counts.requests + 3)) ≤ 1048576 → product_of counts ≡ Ok counts
-product_read counts few = ap (λ (b : Bool). demand (top keys.Requests) rules.Product (then_some b counts)) (le-leb _ _ few)
+product_read : (counts : Counts) → counts.workers * (counts.connections * (counts.requests + 3)) ≤ 1048576 → product_of counts ≡ Ok counts
+product_read counts few = ap (λ (b : Bool). demand_at (top keys.Requests) rules.Product (then_some b counts)) (le-leb _ _ few)
 
-pub setup_read : (s : Settings) → IsInRange s → list_all is_writable s.accounts ≡ true → settings_of (setup_members s (map account_data s.accounts)) ≡ Ok (entries_of s)
+pub setup_read : (s : Settings) → IsInRange s → list_all is_writable s.accounts ≡ true → read_settings (setup_members s (map account_data s.accounts)) ≡ Ok (entries_of s)
 setup_read s range writable =
     let ms = setup_members s (map account_data s.accounts) in
     let t4 = and_parts _ _ range.texts in
@@ -112,16 +114,16 @@ keys_known s accounts = refl
 
 -- what follows from a document's entries
 abbrev known_of : Members → Result SetupEntries SetupFault
-known_of entries = demand (top keys.Other) rules.Unknown (then_some (are_known setup_keys entries) entries) >>= settings_of
+known_of entries = demand_at (top keys.Other) rules.Unknown (then_some (are_known setup_keys entries) entries) >>= read_settings
 
 -- a text that parses is the setup of its table
-document_read : (bytes : List ℕ) (ms : Members) (e : SetupEntries) → IsUtf8 bytes → parse_document bytes ≡ Some ms → are_known setup_keys ms ≡ true → settings_of ms ≡ Ok e → setup_of bytes ≡ Ok e
+document_read : (bytes : List ℕ) (ms : Members) (e : SetupEntries) → IsUtf8 bytes → parse_document bytes ≡ Some ms → are_known setup_keys ms ≡ true → read_settings ms ≡ Ok e → setup_of bytes ≡ Ok e
 unfolding setup_of
 document_read bytes ms e utf8 parsed known is =
     let test : (utf8_valid_len bytes == length bytes) ≡ true = eq-eqb (utf8_valid_len bytes) (length bytes) (utf8_valid_len-IsUtf8 bytes utf8) in
-    ap (λ (t : Bool). demand (top keys.File) rules.NotToml (cond t (parse_document bytes) None) >>= known_of) test
-    ∙ ap (λ (o : Option Members). demand (top keys.File) rules.NotToml o >>= known_of) parsed
-    ∙ ap (λ (b : Bool). demand (top keys.Other) rules.Unknown (then_some b ms) >>= settings_of) known
+    ap (λ (t : Bool). demand_at (top keys.File) rules.NotToml (cond t (parse_document bytes) None) >>= known_of) test
+    ∙ ap (λ (o : Option Members). demand_at (top keys.File) rules.NotToml o >>= known_of) parsed
+    ∙ ap (λ (b : Bool). demand_at (top keys.Other) rules.Unknown (then_some b ms) >>= read_settings) known
     ∙ is
 
 pub text_is_setup : (bytes : List ℕ) (s : Settings) → IsUtf8 bytes → parse_document bytes ≡ Some (setup_members s (map account_data s.accounts)) → IsInRange s → list_all is_writable s.accounts ≡ true → setup_of bytes ≡ Ok (entries_of s)

@@ -5,6 +5,7 @@ use Rattle.std.proofs.lemmas.List.{append-nil, length-append, take-append-le}
 use Rattle.std.proofs.Math.Seq.{get_or-append_seam, take-append_seam}
 use Rattle.std.proofs.Math.ListN.{get_or-append}
 use Rattle.policy_model.specs.declared.event.Event.{Event}
+use Rattle.policy_model.specs.declared.ranges.TheConstants.{EVENTS_LIMIT}
 use Rattle.policy_model.specs.Settings.{Settings}
 use Rattle.policy_laws.specs.Strangers.{without_readings}
 use Rattle.decision_log.specs.declared.logged.LineFault.{LineFault}
@@ -13,8 +14,8 @@ use Rattle.decision_log.specs.Reading.{line_read}
 use Rattle.decision_log.specs.Values.{IsLine, line_value, LineValue}
 use Rattle.decision_log.proofs.Lines.{line_back}
 use Rattle.audit_check.specs.Legal.{IsLegalLog, MayFollow}
-use Rattle.audit_check.specs.Said.{AreSaid, IsIllegal, IsLogOf, Says, events_max}
 use Rattle.audit_check.proofs.SameEvents.{same_event}
+use Rattle.audit_check.specs.Said.{AreSaid, IsIllegal, IsLogOf, Says}
 
 -- 1. Legal logs
 
@@ -74,13 +75,13 @@ said_push count (x ∷ events) e said line shown =
 pub record Stands (setup : Settings) (text rest : List ℕ) (events : List Event) : Type 0 where
   pub cut : text ≡ lines_after 0 events ++ rest
   pub legal : IsLegalLog setup events
-  pub few : length events ≤ events_max
+  pub few : length events ≤ EVENTS_LIMIT
   pub said : AreSaid 0 events
 
 pub stands_first : (setup : Settings) (text : List ℕ) → Stands setup text text []
 stands_first setup text = record { cut = refl; legal = legal_none setup; few = omega arith; said = tt }
 
-pub stands_next : (setup : Settings) (text rest line behind : List ℕ) (events : List Event) (e : Event) → Stands setup text rest events → rest ≡ line ++ behind → length events < events_max → Says (length events + 1) line e → MayFollow setup events e → Stands setup text behind (events ++ e ∷ [])
+pub stands_next : (setup : Settings) (text rest line behind : List ℕ) (events : List Event) (e : Event) → Stands setup text rest events → rest ≡ line ++ behind → length events < EVENTS_LIMIT → Says (length events + 1) line e → MayFollow setup events e → Stands setup text behind (events ++ e ∷ [])
 stands_next setup text rest line behind events e st parts few says next =
     let back = line_back line (line_value (length events + 1) e) says.read in
     let place : 0 + length events + 1 ≡ length events + 1 = omega arith in

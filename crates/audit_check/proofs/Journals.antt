@@ -9,6 +9,7 @@ use Rattle.policy_model.specs.declared.event.Ask.{Ask}
 use Rattle.policy_model.specs.declared.event.Ask.TheVariants as asks
 use Rattle.policy_model.specs.declared.event.Decision.{Decision}
 use Rattle.policy_model.specs.declared.event.Event.{Event}
+use Rattle.policy_model.specs.declared.ranges.TheConstants.{EVENTS_LIMIT}
 use Rattle.policy_model.specs.Asks.{is_lost, is_reply, shown_of}
 use Rattle.policy_model.specs.Journal.{has_lost, kept_events, open_session_of}
 use Rattle.policy_model.specs.Legal.{IsLegal, IsNext, session_of}
@@ -23,13 +24,13 @@ use Rattle.decision_log.specs.Log.{line_of, line_text, lines_after, log_text}
 use Rattle.decision_log.specs.Values.{AskValue, IsLine, LineValue, ask_value, line_value}
 use Rattle.audit_check.specs.declared.answer.Audit.{Audit}
 use Rattle.audit_check.specs.declared.answer.Audit.TheVariants as audits
-use Rattle.audit_check.specs.Consequences.{IsJournalOf}
 use Rattle.audit_check.specs.Events.{shown_event}
 use Rattle.audit_check.specs.Legal.{IsDecided, IsLegalLog, MayFollow, is_open, may_be_decided, readings_decide}
-use Rattle.audit_check.specs.Said.{AreSaid, IsLogOf, events_max}
 use Rattle.audit_check.proofs.Alike.{Alike, alike_decide, alike_map, alike_may, alike_open, alike_session, alike_verdict}
 use Rattle.audit_check.proofs.Fronts.{legal_none, legal_push}
 use Rattle.audit_check.proofs.Replies.{given_may, reply_is}
+use Rattle.audit_check.specs.Said.{AreSaid, IsLogOf}
+use Rattle.audit_check.specs.Written.{IsJournalOf}
 use Rattle.decision_log.proofs.Writable.{IsWritable, kept_writable}
 
 -- 1. What is shown of an event
@@ -127,7 +128,7 @@ shown_lines : (count : ℕ) (events : List Event) → lines_after count (map sho
 shown_lines count [] = refl
 shown_lines count (e ∷ events) = ap (λ v. line_text v ++ lines_after (count + 1) (map shown_event events)) (value_line (count + 1) e) ∙ ap (λ t. line_of (count + 1) e ++ t) (shown_lines (count + 1) events)
 
-shown_said : (count : ℕ) (events : List Event) → count + length events ≤ events_max → AllByRecursion IsWritable events → AreSaid count (map shown_event events)
+shown_said : (count : ℕ) (events : List Event) → count + length events ≤ EVENTS_LIMIT → AllByRecursion IsWritable events → AreSaid count (map shown_event events)
 shown_said count [] few all = tt
 shown_said count (e ∷ events) few all =
     let w = all.0 in

@@ -14,6 +14,7 @@ use Rattle.policy_model.specs.declared.event.Decision.TheVariants.{Permit, Deny,
 use Rattle.policy_model.specs.declared.event.Event.{Event}
 use Rattle.policy_model.specs.declared.event.Why.{Why}
 use Rattle.policy_model.specs.declared.event.Why.TheVariants as whys
+use Rattle.policy_model.specs.declared.ranges.TheConstants.{EVENTS_LIMIT}
 use Rattle.policy_model.specs.Settings.{Settings}
 use Rattle.policy_laws.specs.Strangers.{without_readings}
 use Rattle.decision_log.specs.declared.logged.LineFault.{LineFault}
@@ -26,9 +27,9 @@ use Rattle.decision_log.proofs.Lines.{line_forth}
 use Rattle.audit_check.specs.declared.answer.AuditWhy.{AuditWhy}
 use Rattle.audit_check.specs.declared.answer.AuditWhy.TheVariants as reasons
 use Rattle.audit_check.specs.Legal.{IsLegalLog}
-use Rattle.audit_check.specs.Said.{AreSaid, IsFault, IsFirstFault, IsLogOf, Says, events_max, first_line}
 use Rattle.audit_check.proofs.Fronts.{legal_last, legal_push, says_same}
 use Rattle.audit_check.proofs.SameEvents.{same_event}
+use Rattle.audit_check.specs.Said.{AreSaid, IsFault, IsFirstFault, IsLogOf, Says, first_line}
 
 -- 1. No newline stands inside a line
 
@@ -242,7 +243,7 @@ yes_only setup text events given log other =
     ap length (sym (c.whole ∙ ap (λ xs. events ++ xs) (no_more (0 + length events) c.more c.left) ∙ append-nil events))
 
 -- no fault is in a line of a legal log
-pub faultless : (setup : Settings) (events given : List Event) (line : List ℕ) (e : Event) (more : List Event) (why : AuditWhy) → given ≡ events ++ e ∷ more → length given ≤ events_max → IsLegalLog setup given → IsLegalLog setup events → line_read line ≡ Ok (line_value (length events + 1) e) → without_readings e.ask ≡ e.ask → IsFault setup events line why → ⊥
+pub faultless : (setup : Settings) (events given : List Event) (line : List ℕ) (e : Event) (more : List Event) (why : AuditWhy) → given ≡ events ++ e ∷ more → length given ≤ EVENTS_LIMIT → IsLegalLog setup given → IsLegalLog setup events → line_read line ≡ Ok (line_value (length events + 1) e) → without_readings e.ask ≡ e.ask → IsFault setup events line why → ⊥
 faultless setup events given line e more reasons.Text whole few legal front read shown fault = ok_err (line_read line) (line_value (length events + 1) e) fault.1.fault read fault.1.read where
   ok_err : (r : Result LineValue LineFault) (v : LineValue) (f : LineFault) → r ≡ Ok v → r ≡ Err f → ⊥
   ok_err (Ok x) v f h g = absurd cc

@@ -14,7 +14,7 @@ use Rattle.policy_laws.specs.Consequences.{IsLastTaking, IsVerifiedBefore, NoPas
 use Rattle.policy_laws.proofs.Exports.{verified_before_export}
 use Rattle.policy_laws.proofs.Replies.{no_password_twice}
 use Rattle.policy_laws.proofs.Sequences.{one_taker_at_a_time, sequence_falls}
-use Rattle.audit_check.specs.Consequences.{HasConsequences}
+use Rattle.policy_laws.specs.Consequences.{HasConsequences}
 use Rattle.audit_check.specs.Legal.{IsLegalLog}
 use Rattle.audit_check.proofs.Alike.{Alike, alike_challenged, alike_map, alike_password, alike_replies}
 use Rattle.audit_check.proofs.Shown.{accepts_same, exports_same, plain, reply_for_same, reserves_same, user_same, value_plain}

@@ -13,11 +13,12 @@ use Rattle.policy_model.specs.declared.event.Ask.TheVariants as asks
 use Rattle.policy_model.specs.declared.event.Decision.{Decision}
 use Rattle.policy_model.specs.declared.event.Decision.TheVariants.{Permit, Deny, Lost}
 use Rattle.policy_model.specs.declared.event.Event.{Event}
+use Rattle.policy_model.specs.declared.handles.TheConstants.{HANDLE_NUMBERS}
 use Rattle.policy_model.specs.declared.phase.Phase.{Phase}
 use Rattle.policy_model.specs.declared.phase.Phase.TheVariants.{Pre, Challenged, Verified, User, Over}
 use Rattle.policy_model.specs.declared.phase.Row.{Row}
 use Rattle.policy_model.specs.Asks.{accepts, came_by_frame, ends_session, exports, handle_of, is_begin, is_end, is_login_step, is_permit, kind_of, opens, permits_kind, request_number, takes}
-use Rattle.policy_model.specs.Handles.{free_handle_of, handle_numbers, live_handles_of, live_opens}
+use Rattle.policy_model.specs.Handles.{free_handle_of, live_handles_of, live_opens}
 use Rattle.policy_model.specs.Journal.{ask_count, count_of, events_of, has_event, is_own, is_turn_of, last_event, open_session_of, openings_of, session_opened}
 use Rattle.policy_model.specs.Legal.{session_of}
 use Rattle.policy_model.specs.Logins.{challenged_user, user_named, verified_user}
@@ -40,7 +41,7 @@ abbrev opening_in : ℕ → List Event → Option Event
 opening_in handle live = find (λ e. eqb (handle_of e) handle) live
 
 abbrev free_in : List Event → ℕ
-free_in live = unwrap_or (find (λ n. is_none (opening_in n live)) handle_numbers) 0
+free_in live = unwrap_or (find (λ n. is_none (opening_in n live)) HANDLE_NUMBERS) 0
 
 -- 1. Words over two lists with the same events of the session
 

@@ -13,10 +13,11 @@ use Rattle.policy_model.specs.declared.event.Decision.TheVariants.{Permit, Deny,
 use Rattle.policy_model.specs.declared.event.Event.{Event}
 use Rattle.policy_model.specs.declared.phase.Phase.{Phase}
 use Rattle.policy_model.specs.declared.phase.Phase.TheVariants.{Pre, Challenged, Verified, User, Over}
+use Rattle.policy_model.specs.declared.phase.TheConstants.Row as rows
 use Rattle.policy_model.specs.Asks.{came_by_frame, ends_session, is_begin, is_end, is_finish, is_lost, is_permit, is_violation, opens, request_number}
 use Rattle.policy_model.specs.Handles.{handle_opening}
 use Rattle.policy_model.specs.Journal.{ask_count, events_of, is_turn_of, open_session_of, openings_of, session_opened}
-use Rattle.policy_model.specs.Phases.{free_row, phase_of, table_row}
+use Rattle.policy_model.specs.Phases.{phase_of, table_row}
 use Rattle.policy_model.specs.Settings.{Settings}
 use Rattle.policy_model.specs.Verdict.{own_verdict, row_verdict, use_verdict, verdict_of}
 use Rattle.policy_model.proofs.Journals.{open_session_of-push}
@@ -140,28 +141,28 @@ seat_more setup events e worker seat legal may s = go (cases_eq worker e.worker)
 
 -- 5. Common asks
 
-read_row : (phase : Phase) → is_over_phase phase ≡ false → table_row phase kinds.ReadAt ≡ free_row
+read_row : (phase : Phase) → is_over_phase phase ≡ false → table_row phase kinds.ReadAt ≡ rows.FREE
 read_row Over h = absurd cc
 read_row Pre h = refl
 read_row Challenged h = refl
 read_row Verified h = refl
 read_row User h = refl
 
-write_row : (phase : Phase) → is_over_phase phase ≡ false → table_row phase kinds.WriteAt ≡ free_row
+write_row : (phase : Phase) → is_over_phase phase ≡ false → table_row phase kinds.WriteAt ≡ rows.FREE
 write_row Over h = absurd cc
 write_row Pre h = refl
 write_row Challenged h = refl
 write_row Verified h = refl
 write_row User h = refl
 
-note_row : (phase : Phase) → is_over_phase phase ≡ false → table_row phase kinds.Note ≡ free_row
+note_row : (phase : Phase) → is_over_phase phase ≡ false → table_row phase kinds.Note ≡ rows.FREE
 note_row Over h = absurd cc
 note_row Pre h = refl
 note_row Challenged h = refl
 note_row Verified h = refl
 note_row User h = refl
 
-finish_row : (phase : Phase) → is_over_phase phase ≡ false → table_row phase kinds.Finish ≡ free_row
+finish_row : (phase : Phase) → is_over_phase phase ≡ false → table_row phase kinds.Finish ≡ rows.FREE
 finish_row Over h = absurd cc
 finish_row Pre h = refl
 finish_row Challenged h = refl

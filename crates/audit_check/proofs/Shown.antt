@@ -12,10 +12,12 @@ use Rattle.policy_model.specs.declared.event.Ask.TheVariants as asks
 use Rattle.policy_model.specs.declared.event.Decision.{Decision}
 use Rattle.policy_model.specs.declared.event.Decision.TheVariants.{Permit, Deny, Lost}
 use Rattle.policy_model.specs.declared.event.Event.{Event}
+use Rattle.policy_model.specs.declared.handles.TheConstants.{HANDLE_NUMBERS}
 use Rattle.policy_model.specs.declared.phase.Phase.TheVariants.{Pre, Challenged, Verified, User, Over}
 use Rattle.policy_model.specs.declared.phase.Phase.{Phase}
-use Rattle.policy_model.specs.Asks.{accepts, came_by_frame, challenge_name, closes_file, decoys_from, ends_session, exports, gives_up, handle_of, is_abandon, is_begin, is_challenge_for, is_close, is_denied_reply, is_end, is_export, is_finish, is_login_denial, is_login_step, is_lost, is_open, is_permit, is_reply, is_violation, mode_of, moment_of, opens, opens_file, permits_kind, request_number, reserves, shown_of, takes, takes_user, value_of}
-use Rattle.policy_model.specs.Handles.{free_handle_of, handle_numbers, handle_opening, live_handles_of, live_opens}
+use Rattle.policy_model.specs.declared.reading.TheConstants.{DECOYS_FROM}
+use Rattle.policy_model.specs.Asks.{accepts, came_by_frame, challenge_name, closes_file, ends_session, exports, gives_up, handle_of, is_abandon, is_begin, is_challenge_for, is_close, is_denied_reply, is_end, is_export, is_finish, is_login_denial, is_login_step, is_lost, is_open, is_permit, is_reply, is_violation, mode_of, moment_of, opens, opens_file, permits_kind, request_number, reserves, shown_of, takes, takes_user, value_of}
+use Rattle.policy_model.specs.Handles.{free_handle_of, handle_opening, live_handles_of, live_opens}
 use Rattle.policy_model.specs.Journal.{Place, ask_count, count_of, events_of, has_event, is_own, is_turn_of, last_event, open_session_of, openings_of, places_after, places_of, session_opened}
 use Rattle.policy_model.specs.Logins.{challenged_user, holder_by, holder_of, is_decoy, is_user, last_taking_of, replies_of, reply_for, session_taking, user_before, user_named, verified_user, was_decoyed, was_given_up}
 use Rattle.policy_model.specs.Phases.{is_over, is_taking, phase_of}
@@ -148,7 +150,7 @@ pub user_same : (user : Name) → Same (takes_user user)
 user_same user e = two (λ x y. x && y) _ _ _ _ (for_plain user e.ask) (permit_plain e.decision)
 
 pub reserves_same : (user : Name) → Same (reserves user)
-reserves_same user e = two (λ x y. x && y) _ _ _ _ (user_same user e) (ap (λ n. nat_lt n decoys_from) (value_plain e.decision))
+reserves_same user e = two (λ x y. x && y) _ _ _ _ (user_same user e) (ap (λ n. nat_lt n DECOYS_FROM) (value_plain e.decision))
 
 gives_same : Same gives_up
 gives_same e = two (λ x y. x || y) _ _ _ _ (reply_plain e.ask) (two (λ x y. x && y) _ _ _ _ (abandon_plain e.ask) (permit_plain e.decision))
@@ -279,7 +281,7 @@ unfolding was_decoyed
 decoyed_same xs session = ap is_decoy (last_same xs session takes takes_same) ∙ go (last_event xs session takes) where
   go : (o : Option Event) → is_decoy (option_map plain o) ≡ is_decoy o
   go None = refl
-  go (Some e) = ap (nat_le decoys_from) (value_plain e.decision)
+  go (Some e) = ap (nat_le DECOYS_FROM) (value_plain e.decision)
 
 pub last_taking_same : (xs : List Event) (user : Name) → last_taking_of (map plain xs) user ≡ option_map plain (last_taking_of xs user)
 unfolding last_taking_of
@@ -380,7 +382,7 @@ none_same None = refl
 none_same (Some e) = refl
 
 pub free_same : (xs : List Event) (session : ℕ) → free_handle_of (map plain xs) session ≡ free_handle_of xs session
-free_same xs session = ap (λ o. unwrap_or o 0) (go handle_numbers) where
+free_same xs session = ap (λ o. unwrap_or o 0) (go HANDLE_NUMBERS) where
   go : (ns : List ℕ) → find (λ n. is_none (handle_opening (map plain xs) session n)) ns ≡ find (λ n. is_none (handle_opening xs session n)) ns
   go [] = refl
   go (n ∷ ns) =

@@ -1,6 +1,6 @@
 -- Inner: steps of the search through a log.
 use Rattle.std.specs.Prelude.{ℕ, ◌≡◌, ◌≢◌, ◌==◌, ◌&&◌, ◌||◌, not, Bool, true, false, List, [], ◌∷◌, ◌++◌, nat_le, if◌then◌else◌}
-use Rattle.request_catalogue.specs.Rules.{no_match, no_reading, password_used, user_held}
+use Rattle.request_catalogue.specs.declared.rules.TheConstants.{NO_MATCH, NO_READING, PASSWORD_USED, USER_HELD}
 use Rattle.policy_model.specs.declared.event.Ask.{Ask}
 use Rattle.policy_model.specs.declared.event.Ask.TheVariants as asks
 use Rattle.policy_model.specs.declared.event.Decision.{Decision}
@@ -11,17 +11,17 @@ use Rattle.policy_model.specs.Journal.{events_of, is_turn_of, open_session_of}
 -- a decision that may rest on what stands before its session: a permit, or a denial by one of the rules 12 to 16
 abbrev pub rests_on_accounts : Decision → Bool
 rests_on_accounts (Permit value) = true
-rests_on_accounts (Deny rule detail) = nat_le user_held rule && nat_le rule no_match
+rests_on_accounts (Deny rule detail) = nat_le USER_HELD rule && nat_le rule NO_MATCH
 rests_on_accounts Lost = false
 
 -- a denial for want of a reading
 abbrev pub is_no_reading : Decision → Bool
-is_no_reading (Deny rule detail) = rule == no_reading
+is_no_reading (Deny rule detail) = rule == NO_READING
 is_no_reading _ = false
 
 -- a denial that may be one on a reply whose readings decide, behind a challenge that names a decoy or doesn't
 abbrev pub may_be_denied : ℕ → ℕ → Bool → Bool
-may_be_denied rule detail decoyed = detail == 0 && (rule == no_reading || rule == no_match || rule == password_used && not decoyed)
+may_be_denied rule detail decoyed = detail == 0 && (rule == NO_READING || rule == NO_MATCH || rule == PASSWORD_USED && not decoyed)
 
 -- an ask whose verdict rests on its own session alone, and not on a user's logins or on how many sessions were opened
 abbrev pub is_local : Ask → Bool

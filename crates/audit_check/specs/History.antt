@@ -4,8 +4,8 @@ use Rattle.std.specs.List.{last_or, list_any}
 use Rattle.std.specs.Option.{option_to_list}
 use Rattle.otp_hash.specs.Hashing.{hash_of}
 use Rattle.std.proofs.Common.{Vec, Global}
+use Rattle.request_catalogue.specs.declared.rules.TheConstants.{HOLD_LOST, NO_READING, USER_HELD}
 use Rattle.request_catalogue.specs.declared.texts.Name.{Name}
-use Rattle.request_catalogue.specs.Rules.{hold_lost, no_reading, user_held}
 use Rattle.policy_model.specs.declared.account.Account.{Account}
 use Rattle.policy_model.specs.declared.event.Decision.{Decision}
 use Rattle.policy_model.specs.declared.event.Decision.TheVariants.{Permit, Deny}
@@ -103,12 +103,12 @@ standing_by events account = record { enabled = account.enabled; sequence = curr
 abbrev pub challenge_by : Settings → Name → ℕ → ℕ → Standing → Decision
 challenge_by setup user session now standing =
     if not (standing.enabled && not (standing.sequence == 0)) then decoy_challenge setup user
-    else (if is_other session standing.hold.holder && nat_lt now (standing.hold.moment + setup.hold) then Deny user_held standing.hold.taker
+    else (if is_other session standing.hold.holder && nat_lt now (standing.hold.moment + setup.hold) then Deny USER_HELD standing.hold.taker
     else Permit (standing.sequence - 1))
 
 -- a REPLY without readings of a session for a user with this hold
 abbrev pub silent_by : ℕ → Hold → Decision
-silent_by session hold = if is_holder session hold.holder then Deny no_reading 0 else Deny hold_lost hold.taker
+silent_by session hold = if is_holder session hold.holder then Deny NO_READING 0 else Deny HOLD_LOST hold.taker
 
 -- a password is the next one of an account with these replies
 abbrev pub is_next_by : Account → List ℕ → ℕ → Bool

@@ -1,7 +1,7 @@
 -- Believed: a legal log. Each event is of a worker that the setup has, and has the session and the decision that the policy gives over the events before it. Only where a reply's readings decide, which the log doesn't show, more than one decision may stand.
 use Rattle.std.specs.Prelude.{ℕ, ◌≡◌, ◌<◌, ◌==◌, ◌&&◌, ◌||◌, Bool, true, false, not, List, length, take, slice_index_or, Option, Some, None}
+use Rattle.request_catalogue.specs.declared.rules.TheConstants.{NO_MATCH, NO_READING, PASSWORD_USED}
 use Rattle.request_catalogue.specs.declared.texts.Name.{Name}
-use Rattle.request_catalogue.specs.Rules.{no_match, no_reading, password_used}
 use Rattle.policy_model.specs.declared.account.Account.{Account}
 use Rattle.policy_model.specs.declared.event.Decision.{Decision}
 use Rattle.policy_model.specs.declared.event.Decision.TheVariants.{Permit, Deny, Lost}
@@ -39,7 +39,7 @@ is_password_of before (Some account) password = is_next_password before account 
 -- what may be decided on a reply whose readings decide: a permit of a password only where it is the next one of the session's user and the challenge was no decoy; a denial by rule 14 or 16, or by 15 behind a challenge that was no decoy
 abbrev pub may_be_decided : Settings → List Event → ℕ → Decision → Bool
 may_be_decided setup before session (Permit password) = not (was_decoyed before session) && is_password_of before (account_named setup (challenged_user before session)) password
-may_be_decided setup before session (Deny rule detail) = detail == 0 && (rule == no_reading || rule == no_match || rule == password_used && not (was_decoyed before session))
+may_be_decided setup before session (Deny rule detail) = detail == 0 && (rule == NO_READING || rule == NO_MATCH || rule == PASSWORD_USED && not (was_decoyed before session))
 may_be_decided setup before session Lost = false
 
 -- it is a reply whose readings decide

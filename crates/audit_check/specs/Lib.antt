@@ -2,6 +2,6 @@ pub mod Events
 pub mod Legal
 pub mod Said
 pub mod Following
-pub mod Consequences
+pub mod Written
 pub mod Seats
 pub mod History

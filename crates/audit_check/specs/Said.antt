@@ -2,6 +2,7 @@
 use Rattle.std.specs.Prelude.{ℕ, ◌≡◌, ◌≢◌, ◌≤◌, ◌<◌, ◌+◌, ◌⊎◌, ◌==◌, List, [], ◌∷◌, ◌++◌, length, take, Ok, Err}
 use Rattle.std.specs.List.{position_or_len}
 use Rattle.policy_model.specs.declared.event.Event.{Event}
+use Rattle.policy_model.specs.declared.ranges.TheConstants.{EVENTS_LIMIT}
 use Rattle.policy_model.specs.Settings.{Settings}
 use Rattle.policy_laws.specs.Strangers.{without_readings}
 use Rattle.decision_log.specs.declared.logged.LineFault.{LineFault}
@@ -13,10 +14,6 @@ use Rattle.audit_check.specs.declared.answer.Audit.TheVariants as audits
 use Rattle.audit_check.specs.declared.answer.AuditWhy.{AuditWhy}
 use Rattle.audit_check.specs.declared.answer.AuditWhy.TheVariants as whys
 use Rattle.audit_check.specs.Legal.{IsLegalLog}
-
--- the events that a run makes at most
-abbrev pub events_max : ℕ
-events_max = 1048576
 
 -- the first line of a text: with its newline, and all of the text where it has none
 abbrev pub first_line : List ℕ → List ℕ
@@ -36,7 +33,7 @@ AreSaid count (e ∷ events) = IsLine (line_value (count + 1) e) × (without_rea
 pub record IsLogOf (setup : Settings) (text : List ℕ) (events : List Event) : Type 0 where
   pub spelled : text ≡ lines_after 0 events
   pub legal : IsLegalLog setup events
-  pub few : length events ≤ events_max
+  pub few : length events ≤ EVENTS_LIMIT
   pub said : AreSaid 0 events
 
 -- a text is a legal log of so many events
@@ -63,9 +60,9 @@ pub record IsIllegal (setup : Settings) (events : List Event) (line : List ℕ) 
 
 -- the first that applies of a line behind these events: more lines than a run makes events; no line that reads; another number than its place; an event that makes no legal log
 abbrev pub IsFault : Settings → List Event → List ℕ → AuditWhy → Type 0
-IsFault setup events line whys.Text = (length events < events_max) × IsUnreadable line
-IsFault setup events line whys.Count = (events_max ≤ length events) ⊎ IsMiscounted line (length events + 1)
-IsFault setup events line whys.Event = (length events < events_max) × IsIllegal setup events line (length events + 1)
+IsFault setup events line whys.Text = (length events < EVENTS_LIMIT) × IsUnreadable line
+IsFault setup events line whys.Count = (EVENTS_LIMIT ≤ length events) ⊎ IsMiscounted line (length events + 1)
+IsFault setup events line whys.Event = (length events < EVENTS_LIMIT) × IsIllegal setup events line (length events + 1)
 
 -- the lines before this one are a legal log, and in it is the first fault
 pub record IsFirstFault (setup : Settings) (text : List ℕ) (place : ℕ) (why : AuditWhy) : Type 0 where

@@ -1,6 +1,6 @@
 -- Inner: what is kept of a worker's open session, and what it decides.
 use Rattle.std.specs.Prelude.{ℕ, ◌≡◌, ◌≢◌, ◌<◌, ◌≤◌, ◌+◌, ◌==◌, ◌||◌, Bool, true, false, List, length, slice_index_or, Option, Some, None, if◌then◌else◌}
-use Rattle.request_catalogue.specs.Rules.{asks_spent, not_in_phase}
+use Rattle.request_catalogue.specs.declared.rules.TheConstants.{ASKS_SPENT, NOT_IN_PHASE}
 use Rattle.policy_model.specs.declared.event.Ask.{Ask}
 use Rattle.policy_model.specs.declared.event.Ask.TheVariants as asks
 use Rattle.policy_model.specs.declared.event.Decision.{Decision}
@@ -49,8 +49,8 @@ is_common _ = false
 -- the verdict on an ask that came by a frame, where what its session has come to decides it
 abbrev pub frame_verdict : ℕ → Seat → Ask → Option Decision
 frame_verdict requests seat ask =
-    if seat.session == 0 || seat.over then Some (Deny not_in_phase (request_number ask))
-    else (if seat.asks == requests then Some (Deny asks_spent requests)
+    if seat.session == 0 || seat.over then Some (Deny NOT_IN_PHASE (request_number ask))
+    else (if seat.asks == requests then Some (Deny ASKS_SPENT requests)
     else (if is_common ask then Some (Permit 0)
     else None))
 

@@ -5,10 +5,10 @@ ghost use Rattle.std.specs.List.{position_or_len};
 ghost use Rattle.policy_model.specs.declared.event.Event.{Event};
 ghost use Rattle.policy_model.specs.Journal.{kept_events};
 ghost use Rattle.decision_log.specs.Log.{log_text};
-ghost use Rattle.audit_check.specs.Consequences.{IsJournalOf};
+ghost use Rattle.audit_check.specs.Written.{IsJournalOf};
 ghost use Rattle.audit_check.specs.History.{HasLog, IsKept};
 ghost use Rattle.audit_check.specs.Legal.{MayFollow};
-ghost use Rattle.audit_check.specs.Said.{IsAnswer, IsFault, Says, events_max, first_line};
+ghost use Rattle.audit_check.specs.Said.{IsAnswer, IsFault, Says, first_line};
 
 use crate::answer::{Audit, AuditWhy};
 use crate::following::may_follow;
@@ -16,11 +16,8 @@ use crate::history::History;
 use crate::said::event_said;
 use decision_log::read_line;
 use memchr::memchr;
-use policy_model::{Event, Setup};
+use policy_model::{EVENTS_LIMIT, Event, Setup};
 use std::alloc::{AllocError, Global};
-
-/// The events that a run makes at most.
-const EVENTS_MAX: u32 = 1_048_576;
 
 /// Where the first newline of a text stands, or the text's length.
 fn newline_at(text: &[u8]) -> usize
@@ -47,11 +44,11 @@ fn line_len(text: &[u8]) -> usize
 fn next_event(setup: &Setup, history: &History, line: &[u8]) -> Result<Event, AuditWhy>
     requires { HasLog setup.now history.now }
     ensures { MatchResult result
-        (λ e. (history.now.count < events_max) × Says (history.now.count + 1) line.now e
+        (λ e. (history.now.count < EVENTS_LIMIT) × Says (history.now.count + 1) line.now e
         × ((events : List Event) → IsKept setup.now events history.now → MayFollow setup.now events e))
         (λ why. (events : List Event) → IsKept setup.now events history.now → IsFault setup.now events line.now why) }
 {
-    if history.count >= EVENTS_MAX {
+    if history.count >= EVENTS_LIMIT {
         return Err(AuditWhy::Count);
     }
     let Ok(logged) = read_line(line) else {

@@ -3,7 +3,7 @@
 ghost use Rattle.std.specs.Prelude.{List};
 ghost use Rattle.policy_model.specs.declared.event.Event.{Event};
 ghost use Rattle.policy_model.specs.Settings.{Settings};
-ghost use Rattle.audit_check.specs.Consequences.{HasConsequences};
+ghost use Rattle.policy_laws.specs.Consequences.{HasConsequences};
 ghost use Rattle.audit_check.specs.Legal.{IsLegalLog};
 
 /// The policy's consequences hold of a legal log.

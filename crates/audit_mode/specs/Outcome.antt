@@ -14,8 +14,8 @@ use Rattle.setup_reading.specs.Read.{IsSetupError, IsSetupIn}
 use Rattle.decision_log.specs.Log.{log_text}
 use Rattle.audit_check.specs.declared.answer.Audit.{Audit}
 use Rattle.audit_check.specs.declared.answer.Audit.TheVariants.{Yes, No}
-use Rattle.audit_check.specs.Consequences.{IsJournalOf}
 use Rattle.audit_check.specs.Said.{IsAnswer}
+use Rattle.audit_check.specs.Written.{IsJournalOf}
 use Rattle.audit_mode.specs.declared.error.AuditError.{AuditError}
 use Rattle.audit_mode.specs.declared.error.AuditError.TheVariants as errors
 use Rattle.audit_mode.specs.Lines.{answer_line}

@@ -1,5 +1,6 @@
 //! The mode `audit`: an operator asks whether a log is one that a monitor with this setup could have
-//! written. Believe `specs/Words.antt`, `specs/Outcome.antt` and the files that these name.
+//! written. Believe `specs/Words.antt`, `specs/Outcome.antt` and the files that these name. The top
+//! call stands above.
 #![tactic(auto)]
 
 mod command;

@@ -1,4 +1,5 @@
-//! The mode `check`: an operator asks whether a setup file and its word list are right.
+//! The mode `check`: an operator asks whether a setup file and its word list are right. Believe
+//! `specs/Words.antt`, `specs/Outcome.antt` and the files that these name; the top call stands above.
 #![tactic(auto)]
 
 mod command;

@@ -1,5 +1,6 @@
-//! The keeper of a session's children: the one before the login, and the user's, which is started
-//! by a ticket alone. A ticket is made from a permitted EXPORT, and is spent by the start.
+//! The keeper of a session's children: the one before the login, and the user's, which is started by a
+//! ticket alone. A ticket is made from a permitted EXPORT, and is spent by the start. Nothing here need
+//! be believed; the session loop stands above.
 #![tactic(auto)]
 
 mod fault;

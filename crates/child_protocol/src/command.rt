@@ -2,7 +2,7 @@
 
 ghost use Rattle.std.specs.Prelude.{◌≡◌, ◌≤◌, true, length, is_some, IfSome};
 ghost use Rattle.fixed_list.specs.FixedList.{list_of};
-ghost use Rattle.request_catalogue.specs.Texts.{is_name, is_reply};
+ghost use Rattle.request_catalogue.specs.Texts.{is_name, is_typed_reply};
 ghost use Rattle.request_catalogue.specs.Catalogue.{value_of, IsInRange};
 ghost use Rattle.child_protocol.specs.Commands.{IsLegal, Terminal, User, Respond, legal, is_terminal, pre_command};
 ghost use Rattle.child_protocol.specs.Pre.{say, pre_request};
@@ -12,7 +12,7 @@ ghost use Rattle.child_protocol.specs.Places.{place_by};
 
 use crate::place::Place;
 use fixed_list::FixedList;
-use request_catalogue::{Name, Request, are_printable, is_reply};
+use request_catalogue::{Name, Request, are_printable, is_typed_reply};
 
 /// The most bytes of a terminal's name.
 const TERMINAL_MAX: usize = 64;
@@ -75,10 +75,10 @@ fn user_of(name: &[u8]) -> Command<'_>
 }
 
 fn respond_of(text: &[u8]) -> Command<'_>
-    ensures value { command_value result ≡ legal (is_reply text.now) (Respond text.now) }
+    ensures value { command_value result ≡ legal (is_typed_reply text.now) (Respond text.now) }
     ensures legal { IsLegal (command_value result) }
 {
-    if is_reply(text) {
+    if is_typed_reply(text) {
         Command::Respond { text }
     } else {
         Command::Other

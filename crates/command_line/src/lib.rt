@@ -1,4 +1,4 @@
-//! The words of a command line, read by `clap`.
+//! The words of a command line, read by `clap`. Believe `specs/Words.antt`; the top call stands above.
 //!
 //! A command line is a mode and any number of words behind it. A word that begins with `-` is
 //! refused before `clap` sees it, so there are no options, and no help.

@@ -2,13 +2,14 @@
 use Rattle.std.proofs.Common.{◌≡◌, ℕ, ◌^◌, ◌<◌, ◌≤◌, true, List, ◌∷◌, ◌++◌, codes, Result, Ok, refl, sym, ap, subst, ◌∙◌, append_assoc, lit≤, lit<}
 use Rattle.std.specs.Fmt.{decimal}
 use Rattle.hex.specs.Hex.{encode_lower}
+use Rattle.request_catalogue.specs.Results.{◌>>=◌}
 use Rattle.request_catalogue.specs.Texts.{is_label, is_name, is_note}
 use Rattle.policy_model.specs.declared.event.Why.{Why}
 use Rattle.decision_log.specs.declared.logged.LineFault.{LineFault}
 use Rattle.decision_log.specs.declared.words.AskWord.{AskWord}
 use Rattle.decision_log.specs.declared.words.AskWord.TheVariants as ask_
 use Rattle.decision_log.specs.Log.{ask_text, why_text}
-use Rattle.decision_log.specs.Parts.{Read, hex_in, name_in, next, number_below, rule_in, ◌>>=◌}
+use Rattle.decision_log.specs.Parts.{Read, hex_in, name_in, next, number_below, rule_in}
 use Rattle.decision_log.specs.Reading.{ask_behind, ask_read, ask_word_in, why_read}
 use Rattle.decision_log.specs.Values.{AskValue, Begin, Banner, Challenge, Reply, Abandon, Export, Import, ReadAt, WriteAt, OpenFile, CloseFile, Info, Note, Finish, Bad, End, IsAsk}
 use Rattle.decision_log.specs.Words.{ask_word}

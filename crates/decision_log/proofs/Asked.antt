@@ -2,10 +2,11 @@
 use Rattle.std.proofs.Common.{◌≡◌, List, ℕ, Option, Some, Result, Ok, sym, ap, subst, ◌∙◌}
 use Rattle.std.specs.Prelude.{find}
 use Rattle.std.specs.Str.{bytes_eq}
+use Rattle.request_catalogue.specs.Results.{demand, ◌>>=◌}
 use Rattle.decision_log.specs.declared.logged.LineFault.{LineFault}
 use Rattle.decision_log.specs.declared.logged.LineFault.TheVariants as faults
 use Rattle.decision_log.specs.declared.words.AskWord.{AskWord}
-use Rattle.decision_log.specs.Parts.{Gives, Read, behind_part, behind_space, demand, first_part, ◌>>=◌}
+use Rattle.decision_log.specs.Parts.{Gives, Read, behind_part, behind_space, first_part}
 use Rattle.decision_log.specs.Reading.{ask_behind, ask_read}
 use Rattle.decision_log.specs.Values.{AskValue}
 use Rattle.decision_log.specs.Words.{ask_word, ask_words}

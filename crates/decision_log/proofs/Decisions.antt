@@ -2,6 +2,7 @@
 use Rattle.std.proofs.Common.{◌≡◌, ℕ, ◌^◌, ◌<◌, ◌≤◌, List, ◌∷◌, ◌++◌, codes, Result, Ok, refl, sym, ap, subst, ◌∙◌, append_assoc, lit≤, lit<}
 use Rattle.std.specs.Fmt.{decimal}
 use Rattle.std.specs.Int.{w64, to_be_bytes}
+use Rattle.request_catalogue.specs.Results.{◌>>=◌}
 use Rattle.hex.specs.Hex.{encode_lower}
 use Rattle.policy_model.specs.declared.event.Decision.{Decision}
 use Rattle.policy_model.specs.declared.event.Decision.TheVariants as decisions
@@ -9,7 +10,7 @@ use Rattle.decision_log.specs.declared.logged.LineFault.{LineFault}
 use Rattle.decision_log.specs.declared.words.DecisionWord.{DecisionWord}
 use Rattle.decision_log.specs.declared.words.DecisionWord.TheVariants as decision_
 use Rattle.decision_log.specs.Log.{decision_text, value_text}
-use Rattle.decision_log.specs.Parts.{Read, next, number_below, one, password_in, rule_in, ◌>>=◌}
+use Rattle.decision_log.specs.Parts.{Read, next, number_below, one, password_in, rule_in}
 use Rattle.decision_log.specs.Reading.{decision_behind, decision_read, decision_word_in, value_behind}
 use Rattle.decision_log.specs.Values.{AskValue, Begin, Banner, Challenge, Reply, Abandon, Export, Import, ReadAt, WriteAt, OpenFile, CloseFile, Info, Note, Finish, Bad, End, IsShown, IsValue}
 use Rattle.decision_log.specs.Words.{decision_word}

@@ -5,8 +5,9 @@ use Rattle.std.proofs.lemmas.Bool.{eqb-true}
 use Rattle.std.proofs.lemmas.List.{get_or_append_left, get_or_at, length-append, take_at, drop_at, take-append-drop}
 use Rattle.std.proofs.lemmas.List.Folds.{list_all_at}
 use Rattle.std.proofs.lemmas.List.Sums.{position_or_len_is}
+use Rattle.request_catalogue.specs.Results.{◌>>=◌}
 use Rattle.decision_log.specs.declared.logged.LineFault.{LineFault}
-use Rattle.decision_log.specs.Parts.{Read, behind_part, ends_part, first_part, next, part, ◌>>=◌}
+use Rattle.decision_log.specs.Parts.{Read, behind_part, ends_part, first_part, next, part}
 
 -- bytes of one part: some, and none of them ends it
 pub record IsWhole (bytes : List ℕ) : Type 0 where

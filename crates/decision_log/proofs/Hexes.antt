@@ -10,9 +10,10 @@ use Rattle.hex.specs.declared.error.FromHexError.{FromHexError}
 use Rattle.hex.specs.Hex.{decode_of, decode_sized, encode_lower, lower_digits}
 use Rattle.hex.proofs.HexLemmas.{decode_sized-twice, length-encode_with}
 use Rattle.std.proofs.lemmas.Bool.{and_parts, leb-true}
+use Rattle.request_catalogue.specs.Results.{demand, ◌>>=◌}
 use Rattle.request_catalogue.specs.Texts.{continues_label, is_label, is_lowercase, is_note, is_printable}
 use Rattle.decision_log.specs.declared.logged.LineFault.TheVariants.{Hex}
-use Rattle.decision_log.specs.Parts.{IsNoHex, demand, hex_in, hex_of, spelled_again, ◌>>=◌}
+use Rattle.decision_log.specs.Parts.{IsNoHex, hex_in, hex_of, spelled_again}
 
 -- by what is decoded
 spelled_by : (digits bytes : List ℕ) (o : Option (List ℕ)) → spelled_again digits o ≡ Some bytes → (o ≡ Some bytes) × (encode_lower bytes ≡ digits)

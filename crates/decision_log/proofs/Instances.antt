@@ -15,17 +15,18 @@ use Rattle.std.proofs.lemmas.List.Folds.{list_all-append}
 use Rattle.std.proofs.lemmas.Nat.{be_bytes_8, from_be_bytes-to_be_bytes_8}
 use Rattle.hex.specs.Hex.{IsBytes, encode_lower, encode_with, lower_digits}
 use Rattle.hex.proofs.HexLemmas.{decode_of-encode_lower, decode_of-ok, length-encode_with}
+use Rattle.request_catalogue.specs.Results.{demand, ◌>>=◌}
 use Rattle.request_catalogue.specs.Texts.{begins_name, continues_label, continues_name, is_label, is_lowercase, is_name, is_note, is_printable}
 use Rattle.decision_log.specs.declared.logged.LineFault.{LineFault}
 use Rattle.decision_log.specs.declared.logged.LineFault.TheVariants as faults
 use Rattle.text_line.specs.Reading.{decimal_of}
-use Rattle.decision_log.specs.Parts.{demand, ends_part, hex_in, hex_of, lettered, name_in, number_below, password_in, rule_in, ◌>>=◌}
 use Rattle.decision_log.specs.declared.words.AskWord.{AskWord}
 use Rattle.decision_log.specs.declared.words.AskWord.TheVariants as ask_
 use Rattle.decision_log.specs.declared.words.DecisionWord.{DecisionWord}
 use Rattle.decision_log.specs.declared.words.DecisionWord.TheVariants as decision_
 use Rattle.decision_log.specs.declared.words.WhyWord.{WhyWord}
 use Rattle.decision_log.specs.declared.words.WhyWord.TheVariants as why_
+use Rattle.decision_log.specs.Parts.{ends_part, hex_in, hex_of, lettered, name_in, number_below, password_in, rule_in}
 use Rattle.decision_log.specs.Reading.{ask_word_in, decision_word_in, why_word_in}
 use Rattle.decision_log.specs.Words.{ask_word, ask_words, decision_word, decision_words, why_word, why_words}
 use Rattle.text_line.proofs.Readings.{decimal_of-decimal, decimal_of-ok}

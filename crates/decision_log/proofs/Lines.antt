@@ -6,13 +6,14 @@ use Rattle.std.specs.Fmt.{decimal}
 use Rattle.std.specs.Str.{bytes_eq}
 use Rattle.std.proofs.lemmas.List.{take_at}
 use Rattle.std.proofs.lemmas.Slice.Eq.{bytes_eq-Decides}
+use Rattle.request_catalogue.specs.Results.{demand, ◌>>=◌}
 use Rattle.policy_model.specs.declared.event.Decision.{Decision}
 use Rattle.decision_log.specs.declared.logged.Logged.{Logged}
 use Rattle.decision_log.specs.declared.logged.LineFault.{LineFault}
 use Rattle.decision_log.specs.declared.logged.LineFault.TheVariants as faults
 use Rattle.decision_log.specs.Log.{ask_text, decision_text, line_text}
-use Rattle.decision_log.specs.Parts.{Gives, Read, demand, lettered, next, number_below, part, ◌>>=◌}
 use Rattle.decision_log.specs.Logged.{logged_value}
+use Rattle.decision_log.specs.Parts.{Gives, Read, lettered, next, number_below, part}
 use Rattle.decision_log.specs.Reading.{ask_read, decision_read, line_read}
 use Rattle.decision_log.specs.Values.{AskValue, IsLine, LineValue}
 use Rattle.decision_log.proofs.AskLines.{ask_back, ask_forth}

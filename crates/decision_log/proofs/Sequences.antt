@@ -1,8 +1,9 @@
 -- One, two and three parts, read and written.
 use Rattle.std.proofs.Common.{◌≡◌, ℕ, List, ◌∷◌, ◌++◌, Result, Ok, refl, sym, ap, ◌∙◌}
+use Rattle.request_catalogue.specs.Results.{◌>>=◌}
 use Rattle.decision_log.specs.declared.logged.LineFault.{LineFault}
-use Rattle.decision_log.specs.Parts.{Read, next, one, three, two, ◌>>=◌}
 use Rattle.decision_log.proofs.Grammar.{Ends, IsReader, bound, next_back, next_forth}
+use Rattle.decision_log.specs.Parts.{Read, next, one, three, two}
 
 -- a space, and what is written behind it, and then the rest
 abbrev pub spaced_by : {A : Type 0} → (A → List ℕ) → A → List ℕ → List ℕ

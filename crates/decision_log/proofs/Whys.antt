@@ -1,13 +1,14 @@
 -- Why a session ended, read and written.
 use Rattle.std.proofs.Common.{◌≡◌, ℕ, ◌^◌, ◌<◌, ◌≤◌, List, ◌∷◌, ◌++◌, Result, Ok, refl, sym, ap, subst, ◌∙◌, lit≤, lit<}
 use Rattle.std.specs.Fmt.{decimal}
+use Rattle.request_catalogue.specs.Results.{◌>>=◌}
 use Rattle.policy_model.specs.declared.event.Why.{Why}
 use Rattle.policy_model.specs.declared.event.Why.TheVariants as whys
 use Rattle.decision_log.specs.declared.logged.LineFault.{LineFault}
 use Rattle.decision_log.specs.declared.words.WhyWord.{WhyWord}
 use Rattle.decision_log.specs.declared.words.WhyWord.TheVariants as why_
 use Rattle.decision_log.specs.Log.{why_text}
-use Rattle.decision_log.specs.Parts.{Read, next, number_below, rule_in, ◌>>=◌}
+use Rattle.decision_log.specs.Parts.{Read, next, number_below, rule_in}
 use Rattle.decision_log.specs.Reading.{why_behind, why_read, why_word_in}
 use Rattle.decision_log.specs.Values.{IsWhy}
 use Rattle.decision_log.specs.Words.{why_word}

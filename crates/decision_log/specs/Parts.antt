@@ -7,20 +7,10 @@ use Rattle.std.specs.Result.{result_ok}
 use Rattle.std.specs.Str.{bytes_eq}
 use Rattle.hex.specs.Hex.{decode_of, encode_lower}
 use Rattle.text_line.specs.Reading.{decimal_of}
+use Rattle.request_catalogue.specs.Results.{demand, ◌>>=◌}
 use Rattle.request_catalogue.specs.Texts.{is_name}
 use Rattle.decision_log.specs.declared.logged.LineFault.{LineFault}
 use Rattle.decision_log.specs.declared.logged.LineFault.TheVariants.{Hex, Number, Rule, Word}
-
--- what is there, or else the fault
-abbrev pub demand : {A : Type 0} → LineFault → Option A → Result A LineFault
-demand fault (Some a) = Ok a
-demand fault None = Err fault
-
--- the left fault first, then what follows from the value
-infixl 10 ◌>>=◌
-abbrev pub ◌>>=◌ : {A B : Type 0} → Result A LineFault → (A → Result B LineFault) → Result B LineFault
-Ok a >>= next = next a
-Err fault >>= next = Err fault
 
 -- a space or a newline
 abbrev pub ends_part : ℕ → Bool

@@ -2,6 +2,7 @@
 use Rattle.std.specs.Prelude.{ℕ, ◌^◌, List, codes, Result, Ok, find}
 use Rattle.std.specs.Bool.{then_some}
 use Rattle.std.specs.Str.{bytes_eq}
+use Rattle.request_catalogue.specs.Results.{demand, ◌>>=◌}
 use Rattle.request_catalogue.specs.Texts.{is_label, is_note}
 use Rattle.policy_model.specs.declared.event.Decision.{Decision}
 use Rattle.policy_model.specs.declared.event.Decision.TheVariants as decisions
@@ -15,7 +16,7 @@ use Rattle.decision_log.specs.declared.words.DecisionWord.{DecisionWord}
 use Rattle.decision_log.specs.declared.words.DecisionWord.TheVariants as decision_
 use Rattle.decision_log.specs.declared.words.WhyWord.{WhyWord}
 use Rattle.decision_log.specs.declared.words.WhyWord.TheVariants as why_
-use Rattle.decision_log.specs.Parts.{Read, demand, hex_in, lettered, name_in, next, number_below, one, part, password_in, rule_in, three, two, ◌>>=◌}
+use Rattle.decision_log.specs.Parts.{Read, hex_in, lettered, name_in, next, number_below, one, part, password_in, rule_in, three, two}
 use Rattle.decision_log.specs.Values.{AskValue, Begin, Banner, Challenge, Reply, Abandon, Export, Import, ReadAt, WriteAt, OpenFile, CloseFile, Info, Note, Finish, Bad, End, LineValue}
 use Rattle.decision_log.specs.Words.{ask_word, ask_words, decision_word, decision_words, why_word, why_words}
 

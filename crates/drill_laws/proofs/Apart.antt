@@ -21,11 +21,12 @@ use Rattle.policy_model.specs.declared.event.Ask.TheVariants as asks
 use Rattle.policy_model.specs.declared.event.Event.{Event}
 use Rattle.policy_model.specs.declared.event.Why.{Why}
 use Rattle.policy_model.specs.declared.event.Why.TheVariants as whys
-use Rattle.policy_model.specs.Asks.{decoys_from, is_challenge_for, is_permit, reserves, takes_user, value_of}
+use Rattle.policy_model.specs.declared.reading.TheConstants.{DECOYS_FROM}
+use Rattle.policy_model.specs.Asks.{is_challenge_for, is_permit, reserves, takes_user, value_of}
 use Rattle.policy_model.specs.Journal.{Place}
 use Rattle.session_laws.proofs.Permits.{same_from_same_name}
 use Rattle.service_model.specs.Parts.{HandsOver, EndsSession, IsPart, IsRequestStep, Part, requests_of, step_bytes}
-use Rattle.service_model.specs.Places.{Step, place_of, places_after, step_places}
+use Rattle.service_model.specs.Places.{Step, place_of, step_places, worker_places_after}
 use Rattle.service_model.specs.Service.{Service}
 use Rattle.service_model.specs.Sittings.{AreParts, EndsFirst, Follows, IsSitting, Sitting, all_steps}
 use Rattle.service_model.specs.Stories.{ArePlanned, IsPlanned}
@@ -73,13 +74,13 @@ pub record IsOwn (worker : ℕ) (e : Event) : Type 0 where
 
 no_challenge : (worker : ℕ) (e : Event) → ((user : Name) → is_challenge_for user e.ask ≡ false) → IsOwn worker e
 no_challenge worker e none = record {
-  own = λ other user lt named reserved. absurd (false≢true (sym (none user) ∙ (and_parts (is_challenge_for user e.ask) (is_permit e.decision) (and_parts (takes_user user e) (nat_lt (value_of e.decision) decoys_from) reserved).0).0));
+  own = λ other user lt named reserved. absurd (false≢true (sym (none user) ∙ (and_parts (is_challenge_for user e.ask) (is_permit e.decision) (and_parts (takes_user user e) (nat_lt (value_of e.decision) DECOYS_FROM) reserved).0).0));
 }
 
 own_request : (worker : ℕ) (request : RequestValue) (e : Event) → worker < 4 → NamesOwn worker request → IsAskFor request e.ask → IsOwn worker e
 own_request worker (requests.Challenge name) e below names is = record {
   own = λ other user lt named reserved.
-      let challenged = (and_parts (is_challenge_for user e.ask) (is_permit e.decision) (and_parts (takes_user user e) (nat_lt (value_of e.decision) decoys_from) reserved).0).0 in
+      let challenged = (and_parts (is_challenge_for user e.ask) (is_permit e.decision) (and_parts (takes_user user e) (nat_lt (value_of e.decision) DECOYS_FROM) reserved).0).0 in
       let same : is.0 ≡ user = same_from_same_name is.0 user (sym (ap (is_challenge_for user) is.3) ∙ challenged) in
       let bytes : name ≡ own_name other = sym is.2 ∙ ap name_bytes same ∙ named in
       elim names [ inl mine ↦ same_worker worker other below lt (sym mine ∙ bytes) | inr nobody ↦ absurd (no_worker other (sym nobody ∙ bytes)) ];
@@ -190,12 +191,12 @@ behind_first : (worker : ℕ) (b : Bool) (p : Place) (places : List Place) → O
 behind_first worker true p places all = all.1
 behind_first worker false p places all = all
 
-pub all_apart : (events before : List Event) → ((worker : ℕ) → worker < 4 → OwnPlaces worker (places_after worker before events)) → AllByRecursion (λ (e : Event). e.worker < 4) events → AllByRecursion IsApart events
+pub all_apart : (events before : List Event) → ((worker : ℕ) → worker < 4 → OwnPlaces worker (worker_places_after worker before events)) → AllByRecursion (λ (e : Event). e.worker < 4) events → AllByRecursion IsApart events
 all_apart [] before own below = tt
 all_apart (e ∷ events) before own below =
     let mine = own e.worker below.0 in
-    let first : OwnPlaces e.worker (place_of before e ∷ places_after e.worker (before ++ e ∷ []) events) =
-    subst (λ (b : Bool). OwnPlaces e.worker (cond b (place_of before e ∷ []) [] ++ places_after e.worker (before ++ e ∷ []) events)) (eq-eqb e.worker e.worker refl) mine in (
+    let first : OwnPlaces e.worker (place_of before e ∷ worker_places_after e.worker (before ++ e ∷ []) events) =
+    subst (λ (b : Bool). OwnPlaces e.worker (cond b (place_of before e ∷ []) [] ++ worker_places_after e.worker (before ++ e ∷ []) events)) (eq-eqb e.worker e.worker refl) mine in (
       record { own = first.0.own },
-      all_apart events (before ++ e ∷ []) (λ worker lt. behind_first worker (eqb e.worker worker) (place_of before e) (places_after worker (before ++ e ∷ []) events) (own worker lt)) below.1,
+      all_apart events (before ++ e ∷ []) (λ worker lt. behind_first worker (eqb e.worker worker) (place_of before e) (worker_places_after worker (before ++ e ∷ []) events) (own worker lt)) below.1,
     )

@@ -11,7 +11,8 @@ use Rattle.policy_model.specs.declared.event.Decision.{Decision}
 use Rattle.policy_model.specs.declared.event.Event.{Event}
 use Rattle.policy_model.specs.declared.phase.Phase.{Phase}
 use Rattle.policy_model.specs.declared.phase.Phase.TheVariants.{Challenged, Over}
-use Rattle.policy_model.specs.Asks.{came_by_frame, decoys_from, ends_session, gives_up, is_begin, is_challenge_for, is_end, is_finish, is_lost, is_permit, is_violation, leaves, opens, reserves, takes_user, value_of}
+use Rattle.policy_model.specs.declared.reading.TheConstants.{DECOYS_FROM}
+use Rattle.policy_model.specs.Asks.{came_by_frame, ends_session, gives_up, is_begin, is_challenge_for, is_end, is_finish, is_lost, is_permit, is_violation, leaves, opens, reserves, takes_user, value_of}
 use Rattle.policy_model.specs.Journal.{is_own, open_session_of}
 use Rattle.policy_model.specs.Legal.{IsLegal, session_of}
 use Rattle.policy_model.specs.Logins.{holder_of}
@@ -43,7 +44,7 @@ came_from user _ is = absurd cc
 
 framed : (user : Name) (e : Event) → reserves user e ≡ true → came_by_frame e.ask ≡ true
 framed user e reserved =
-    let takes = and_parts (takes_user user e) (nat_lt (value_of e.decision) decoys_from) reserved in
+    let takes = and_parts (takes_user user e) (nat_lt (value_of e.decision) DECOYS_FROM) reserved in
     came_from user e.ask (and_parts (is_challenge_for user e.ask) (is_permit e.decision) takes.0).0
 
 no_opening : (e : Event) → came_by_frame e.ask ≡ true → opens e ≡ false

@@ -1,6 +1,6 @@
 -- What a child's bytes are, that are requests of a drill one behind the other: what it asked of them.
 use Rattle.std.proofs.Common.{◌≡◌, ℕ, ◌+◌, ◌^◌, ◌<◌, ◌≤◌, List, [], ◌∷◌, ◌++◌, length, Option, Some, None, Result, Ok, Err, refl, sym, ap, subst, ◌∙◌, append_assoc, arith, lit<, lit≤, Bool, true, false, ◌&&◌}
-use Rattle.std.specs.Prelude.{IsTrue, MatchResult, nat_le}
+use Rattle.std.specs.Prelude.{IsSomeAnd, IsTrue, MatchResult, nat_le}
 use Rattle.std.specs.List.{AllByRecursion, flat_map, list_all}
 use Rattle.std.proofs.lemmas.Bool.{and_parts, false≢true, leb-true}
 use Rattle.std.proofs.lemmas.List.{length-append}
@@ -12,7 +12,7 @@ use Rattle.request_catalogue.specs.Catalogue.{IsInRange, IsRequest, RequestValue
 use Rattle.request_catalogue.specs.Catalogue as requests
 use Rattle.request_catalogue.specs.Kinds.{kind_number}
 use Rattle.request_catalogue.specs.Reading.{request_of}
-use Rattle.request_catalogue.specs.Texts.{begins_name, continues_label, continues_name, is_label, is_lowercase, is_name, is_reply, is_typed, is_word}
+use Rattle.request_catalogue.specs.Texts.{begins_name, continues_label, continues_name, is_label, is_lowercase, is_name, is_typed, is_typed_reply, is_word}
 use Rattle.request_catalogue.specs.Widths.{frame_max}
 use Rattle.otp_words.specs.Candidates.{AreCandidatesOf}
 use Rattle.request_catalogue.proofs.Messages.{IsRequest-request_of}
@@ -21,7 +21,7 @@ use Rattle.imsg_frame.proofs.Fronts.{FitsFields-composed}
 use Rattle.imsg_frame.proofs.Spelling.{length-spelling_of, one_message}
 use Rattle.policy_model.specs.declared.event.Ask.{Ask}
 use Rattle.policy_model.specs.declared.event.Ask.TheVariants as asks
-use Rattle.service_model.specs.Parts.{CameByMessage, IsRequestStep, message_bytes, step_bytes}
+use Rattle.service_model.specs.Parts.{IsRequestStep, message_bytes, step_bytes}
 use Rattle.service_model.specs.Places.{Step}
 use Rattle.service_model.specs.Requests.{Asks, CameBy, IsAskOf}
 use Rattle.service_model.specs.Service.{Service}
@@ -40,7 +40,7 @@ IsSent request = IsInRange Narrow request
 in_range : (request : RequestValue) → IsSent request → IsInRange Narrow request
 in_range requests.Banner is = is
 in_range (requests.Challenge user) is = is
-in_range (requests.Reply text) is = ap is_reply is.1 ∙ is_password_text is.0
+in_range (requests.Reply text) is = ap is_typed_reply is.1 ∙ is_password_text is.0
 in_range requests.Abandon is = is
 in_range (requests.Export state) is = is
 in_range requests.Import is = is
@@ -76,8 +76,8 @@ word_short most begins continues [] is = absurd (false≢true is)
 word_short most begins continues (c ∷ cs) is =
     leb-true (length (c ∷ cs)) most (and_parts (nat_le (length (c ∷ cs)) most) (begins c) (and_parts (nat_le (length (c ∷ cs)) most && begins c) (list_all continues cs) is).0).0
 
-reply_short : (text : List ℕ) → is_reply text ≡ true → length text ≤ 256
-unfolding is_reply
+reply_short : (text : List ℕ) → is_typed_reply text ≡ true → length text ≤ 256
+unfolding is_typed_reply
 reply_short text is = leb-true (length text) 256 (and_parts (nat_le 1 (length text)) (nat_le (length text) 256) (and_parts (nat_le 1 (length text) && nat_le (length text) 256) (list_all is_typed text) is).0).1
 
 name_short : (user : List ℕ) → is_name user ≡ true → length user ≤ 32
@@ -153,11 +153,11 @@ pub said : (service : Service) (all : List RequestValue) (tail : List ℕ) (step
     → step_bytes Narrow steps ++ behind ≡ requests_bytes all ++ tail → Said all tail steps behind
 said service all tail [] behind narrow sent short each same = record { left = all; asked = refl; sent = sent; behind_is = same }
 said service [] tail (step ∷ steps) behind narrow sent short each same = by_message step.message each.0.came same where
-  by_message : (message : Option Message) → CameByMessage service message step.place.event.ask → (message_bytes Narrow message ++ step_bytes Narrow steps) ++ behind ≡ tail → Said [] tail (step ∷ steps) behind
+  by_message : (message : Option Message) → IsSomeAnd message (λ m. CameBy service m step.place.event.ask) → (message_bytes Narrow message ++ step_bytes Narrow steps) ++ behind ≡ tail → Said [] tail (step ∷ steps) behind
   by_message None came same' = absurd came
   by_message (Some message) came same' = absurd (first_bytes message (step_bytes Narrow steps) behind tail short same')
 said service (request ∷ all) tail (step ∷ steps) behind narrow sent short each same = by_message (said service all tail steps behind narrow sent.1 short each.1) step.message each.0.came same where
-  by_message : (step_bytes Narrow steps ++ behind ≡ requests_bytes all ++ tail → Said all tail steps behind) → (message : Option Message) → CameByMessage service message step.place.event.ask
+  by_message : (step_bytes Narrow steps ++ behind ≡ requests_bytes all ++ tail → Said all tail steps behind) → (message : Option Message) → IsSomeAnd message (λ m. CameBy service m step.place.event.ask)
       → (message_bytes Narrow message ++ step_bytes Narrow steps) ++ behind ≡ (request_bytes request ++ requests_bytes all) ++ tail → Said (request ∷ all) tail (step ∷ steps) behind
   by_message others None came same' = absurd came
   by_message others (Some message) came same' =

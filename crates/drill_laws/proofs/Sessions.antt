@@ -1,6 +1,6 @@
 -- One session of a drill: what it asked and how it ended.
 use Rattle.std.proofs.Common.{◌≡◌, ◌≢◌, ℕ, ◌+◌, ◌*◌, ◌<◌, ◌≤◌, Bool, true, false, ◌&&◌, ◌||◌, List, [], ◌∷◌, ◌++◌, length, map, Option, Some, None, option_to_list, refl, sym, ap, subst, ◌∙◌, append_assoc, arith, inl, inr, lit<, lit≤}
-use Rattle.std.specs.Prelude.{codes, slice_get}
+use Rattle.std.specs.Prelude.{IsSomeAnd, codes, slice_get}
 use Rattle.std.specs.List.{AllByRecursion, flat_map, list_any}
 use Rattle.std.proofs.lemmas.Bool.{and_parts, false≢true}
 use Rattle.std.proofs.lemmas.List.{append-nil, map-append}
@@ -34,7 +34,7 @@ use Rattle.session_laws.proofs.Permits.{permit_value, permitted_export}
 use Rattle.service_model.specs.Parts.{EndsSession, EndsSo, GoesOn, HandsOver, IsPart, Part, by_link, exported_by, requests_of}
 use Rattle.service_model.specs.Places.{Step, step_places}
 use Rattle.service_model.specs.Service.{Service}
-use Rattle.service_model.specs.Sittings.{AreParts, ChangesUser, EndsFirst, IsUserOf}
+use Rattle.service_model.specs.Sittings.{AreParts, ChangesUser, EndsFirst}
 use Rattle.service_model.specs.Users.{role_of, user_at, user_role}
 use Rattle.drill_plan.specs.declared.class.Class.{Class}
 use Rattle.drill_plan.specs.declared.class.Class.TheVariants.{LogsIn, Repeats, Exports, BreaksOff}
@@ -213,7 +213,7 @@ module _ (service : Service) (n worker session k : ℕ) (journal : List Event) (
       ap (λ ps. ps ++ rest) (places-append (pre.served ++ step ∷ []) (requests_of user')) ∙ append_assoc (step_places (pre.served ++ step ∷ [])) (step_places (requests_of user')) rest in
       let there = reach pre.served step before (step_places (requests_of user') ++ rest) at.legal (subst (λ ps. Stands journal worker before ps) split stands') in
       let child = user_child service.setup step.place there.holds there.comes exported in
-      let verified : user'.role ≡ user_role service.setup step.place = subst (λ f. IsUserOf service.setup f user'.role) is change.verified in
+      let verified : user'.role ≡ user_role service.setup step.place = subst (λ f. IsSomeAnd f (λ s. user'.role ≡ user_role service.setup s.place)) is change.verified in
       let said_first = said_part service pre (early class) (broken_header class) narrow (sent_early (own_name worker) current right class (is_own_name worker below)) (broken_short class) change.first.each change.first.taken (by_role pre (roles.Pre opening.place.event.session) planned role) in
       let asked = subst (λ f. AsksFirst (early class) (pre.served ++ option_to_list f) said_first.left) is said_first.asked in
       let heard = heard_part service (exported_by pre.final) why user' (user_requests_by class) [] narrow (sent_user class) (lit< tt) nl change.second

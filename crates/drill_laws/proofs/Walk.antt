@@ -5,6 +5,7 @@ use Rattle.std.proofs.lemmas.Bool.{eqb-true}
 use Rattle.std.proofs.lemmas.Bool.Decides.{nat_tests}
 use Rattle.std.proofs.lemmas.List.{take_at, length-append}
 use Rattle.std.proofs.Math.Seq.{get_or-append_seam}
+use Rattle.service_model.specs.Places.{place_of, worker_places_after}
 use Rattle.request_catalogue.specs.declared.kind.Kind.{Kind}
 use Rattle.policy_model.specs.declared.event.Ask.{Ask}
 use Rattle.policy_model.specs.declared.event.Ask.TheVariants as asks
@@ -23,7 +24,6 @@ use Rattle.session_laws.proofs.Opened.{fresh}
 use Rattle.session_laws.proofs.Openings.{legal_apart, legal_numbered, not_of_other, open_session-opened, open_session-other, session_new, session_own}
 use Rattle.session_laws.proofs.PhaseLemmas.{phase_of-other, phase_of-own}
 use Rattle.session_laws.proofs.SessionEvents.{ask_count-other, ask_count-own, count_of-other, count_of-own, has_event-other, has_event-own}
-use Rattle.service_model.specs.Places.{place_of, places_after}
 
 -- ---- where a session stands
 
@@ -122,7 +122,7 @@ stays setup worker session s before e comes other at =
 pub record Stands (journal : List Event) (worker : ℕ) (before : List Event) (places : List Place) : Type 0 where
   pub rest : List Event
   pub parts : journal ≡ before ++ rest
-  pub are : places_after worker before rest ≡ places
+  pub are : worker_places_after worker before rest ≡ places
 
 -- the next place of the worker
 pub record Next (setup : Settings) (journal : List Event) (worker : ℕ) (P : List Event → Type 0) (p : Place) (places : List Place) : Type 0 where
@@ -149,7 +149,7 @@ all_kept (x ∷ before) rest e none = all_kept before rest e (second (is_lost x.
 
 -- what others leave holds at the worker's next place
 module _ (setup : Settings) (journal : List Event) (worker : ℕ) (legal : IsLegal setup journal) (none : has_lost journal ≡ false) (P : List Event → Type 0) (left : (before : List Event) (e : Event) → Comes setup before e → e.worker ≢ worker → P before → P (before ++ e ∷ [])) where
-  walk : (rest before : List Event) (p : Place) (places : List Place) → P before → journal ≡ before ++ rest → places_after worker before rest ≡ p ∷ places → Next setup journal worker P p places
+  walk : (rest before : List Event) (p : Place) (places : List Place) → P before → journal ≡ before ++ rest → worker_places_after worker before rest ≡ p ∷ places → Next setup journal worker P p places
   walk [] before p places holds parts are = absurd cc
   walk (e ∷ rest) before p places holds parts are = by_worker (eqb e.worker worker) refl are (λ other. walk rest (before ++ e ∷ []) p places (left before e comes other holds) longer) where
     comes : Comes setup before e
@@ -158,11 +158,11 @@ module _ (setup : Settings) (journal : List Event) (worker : ℕ) (legal : IsLeg
     longer : journal ≡ (before ++ e ∷ []) ++ rest
     longer = parts ∙ sym (append_assoc before (e ∷ []) rest)
 
-    by_worker : (b : Bool) → eqb e.worker worker ≡ b → cond b (place_of before e ∷ []) [] ++ places_after worker (before ++ e ∷ []) rest ≡ p ∷ places
-        → (e.worker ≢ worker → places_after worker (before ++ e ∷ []) rest ≡ p ∷ places → Next setup journal worker P p places) → Next setup journal worker P p places
+    by_worker : (b : Bool) → eqb e.worker worker ≡ b → cond b (place_of before e ∷ []) [] ++ worker_places_after worker (before ++ e ∷ []) rest ≡ p ∷ places
+        → (e.worker ≢ worker → worker_places_after worker (before ++ e ∷ []) rest ≡ p ∷ places → Next setup journal worker P p places) → Next setup journal worker P p places
     by_worker true its are' others =
         let here : place_of before e ≡ p = cc in
-        let behind : places_after worker (before ++ e ∷ []) rest ≡ places = cc in
+        let behind : worker_places_after worker (before ++ e ∷ []) rest ≡ places = cc in
         subst (λ q. Next setup journal worker P q places) here (record {
           holds = holds;
           comes = comes;

@@ -28,7 +28,7 @@ use Rattle.session_laws.proofs.ByEvents.{by_legal_events}
 use Rattle.session_laws.proofs.Holders.{holder_of-none}
 use Rattle.service_model.specs.Ends.{is_fault_end}
 use Rattle.service_model.specs.Parts.{IsRequestStep, Part, requests_of}
-use Rattle.service_model.specs.Places.{Step, place_of, places_after, step_places, worker_places}
+use Rattle.service_model.specs.Places.{Step, place_of, step_places, worker_places, worker_places_after}
 use Rattle.service_model.specs.Service.{Service}
 use Rattle.service_model.specs.Sittings.{Follows, IsOpening, IsSitting, Sitting, all_steps}
 use Rattle.service_model.specs.Stories.{ArePlanned, IsPlanned}
@@ -164,11 +164,11 @@ module _ (service : Service) (n worker : ℕ) (journal : List Event) (legal : Is
 
 -- ---- a worker's events are those of its sessions
 
-filter_places : (worker : ℕ) (before events : List Event) → filter (λ (e : Event). eqb e.worker worker) events ≡ map (λ (p : Place). p.event) (places_after worker before events)
+filter_places : (worker : ℕ) (before events : List Event) → filter (λ (e : Event). eqb e.worker worker) events ≡ map (λ (p : Place). p.event) (worker_places_after worker before events)
 filter_places worker before [] = refl
 filter_places worker before (e ∷ events) = by_test (eqb e.worker worker) (filter_places worker (before ++ e ∷ []) events) where
-  by_test : (b : Bool) → filter (λ (x : Event). eqb x.worker worker) events ≡ map (λ (p : Place). p.event) (places_after worker (before ++ e ∷ []) events)
-      → cond b (e ∷ filter (λ (x : Event). eqb x.worker worker) events) (filter (λ (x : Event). eqb x.worker worker) events) ≡ map (λ (p : Place). p.event) (cond b (place_of before e ∷ []) [] ++ places_after worker (before ++ e ∷ []) events)
+  by_test : (b : Bool) → filter (λ (x : Event). eqb x.worker worker) events ≡ map (λ (p : Place). p.event) (worker_places_after worker (before ++ e ∷ []) events)
+      → cond b (e ∷ filter (λ (x : Event). eqb x.worker worker) events) (filter (λ (x : Event). eqb x.worker worker) events) ≡ map (λ (p : Place). p.event) (cond b (place_of before e ∷ []) [] ++ worker_places_after worker (before ++ e ∷ []) events)
   by_test true more = ap (λ (es : List Event). e ∷ es) more
   by_test false more = more
 
@@ -227,7 +227,7 @@ module _ (n : ℕ) (service : Service) (journal : List Event) (is : IsDrillSetup
       let none_lost = ap (λ (ps : List Place). count_by (λ (x : Place). is_lost x.event.decision) ps) (sym p.served.places) ∙ sym (count_of-places (λ (e : Event). is_lost e.decision) worker journal) ∙ none_counted worker journal none in
       sym (all_opened service p.sittings p.served.each none_lost) ∙ ap (λ (ps : List Place). count_by (λ (x : Place). opens x.event) ps) (sym p.served.places) ∙ sym (count_of-places opens worker journal) ∙ p.opened
 
-  own_worker : (worker : ℕ) → worker < 4 → OwnPlaces worker (places_after worker [] journal)
+  own_worker : (worker : ℕ) → worker < 4 → OwnPlaces worker (worker_places_after worker [] journal)
   own_worker worker lt =
       let p = played worker lt in
       let few : 0 + length p.sittings ≤ session_count n = omega (arith, as_many worker p) in

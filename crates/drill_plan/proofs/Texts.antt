@@ -7,7 +7,7 @@ use Rattle.std.proofs.lemmas.List.{append-nil}
 use Rattle.std.proofs.lemmas.List.Concat.{flat_map-append}
 use Rattle.hex.specs.Hex.{encode_lower, encode_with, lower_digits}
 use Rattle.request_catalogue.specs.Catalogue.{RequestValue}
-use Rattle.request_catalogue.specs.Texts.{is_reply, is_typed}
+use Rattle.request_catalogue.specs.Texts.{is_typed, is_typed_reply}
 use Rattle.drill_plan.specs.Plan.{request_bytes, requests_bytes}
 use Rattle.drill_plan.specs.Requests.{password_text}
 
@@ -34,8 +34,8 @@ byte_typed : (t : List ℕ) (b : ℕ) → b < 256 → list_all is_typed t ≡ tr
 byte_typed t b lt h =
     and_from (is_typed (slice_index lower_digits (b / 16))) _ (digit_typed (b / 16) (omega (arith, lt))) (and_from (is_typed (slice_index lower_digits (b % 16))) (list_all is_typed t) (digit_typed (b % 16) (omega arith)) h)
 
-eight_typed : (a b c d e f g h : ℕ) → a < 256 → b < 256 → c < 256 → d < 256 → e < 256 → f < 256 → g < 256 → h < 256 → is_reply (encode_lower (a ∷ b ∷ c ∷ d ∷ e ∷ f ∷ g ∷ h ∷ [])) ≡ true
-unfolding is_reply encode_with
+eight_typed : (a b c d e f g h : ℕ) → a < 256 → b < 256 → c < 256 → d < 256 → e < 256 → f < 256 → g < 256 → h < 256 → is_typed_reply (encode_lower (a ∷ b ∷ c ∷ d ∷ e ∷ f ∷ g ∷ h ∷ [])) ≡ true
+unfolding is_typed_reply encode_with
 eight_typed a b c d e f g h la lb lc ld le lf lg lh =
     byte_typed (encode_lower (b ∷ c ∷ d ∷ e ∷ f ∷ g ∷ h ∷ [])) a la
     (byte_typed (encode_lower (c ∷ d ∷ e ∷ f ∷ g ∷ h ∷ [])) b lb
@@ -46,7 +46,7 @@ eight_typed a b c d e f g h la lb lc ld le lf lg lh =
     (byte_typed (encode_lower (h ∷ [])) g lg (byte_typed [] h lh refl)))))))
 
 -- a password's digits may be sent as a reply
-pub is_password_text : (password : ℕ) → is_reply (password_text password) ≡ true
+pub is_password_text : (password : ℕ) → is_typed_reply (password_text password) ≡ true
 is_password_text password = eight_typed _ _ _ _ _ _ _ _ (omega arith) (omega arith) (omega arith) (omega arith) (omega arith) (omega arith) (omega arith) (omega arith)
 
 -- one request more

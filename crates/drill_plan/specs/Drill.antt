@@ -1,8 +1,8 @@
 -- Believed: which journals are a drill's.
 use Rattle.std.specs.Prelude.{◌≡◌, ℕ, ◌<◌, ◌≤◌, ◌==◌, Bool, true, false, List, [], ◌∷◌, ◌++◌, filter, length, slice_get, Some, MatchBool}
 use Rattle.std.specs.List.{flat_map, list_any}
+use Rattle.request_catalogue.specs.declared.rules.TheConstants.{NOT_IN_PHASE}
 use Rattle.request_catalogue.specs.Catalogue.{RequestValue}
-use Rattle.request_catalogue.specs.Rules.{not_in_phase}
 use Rattle.policy_model.specs.declared.event.Ask.TheVariants as asks
 use Rattle.policy_model.specs.declared.event.Event.{Event}
 use Rattle.policy_model.specs.declared.event.Why.{Why}
@@ -23,9 +23,9 @@ AreAsked (request ∷ requests) (e ∷ events) = IsAskFor request e.ask × Match
 -- why a session of a class ends, where its reply was accepted and where it wasn't
 abbrev pub drill_end : Class → Bool → Why
 drill_end LogsIn true = Finished
-drill_end LogsIn false = Violation not_in_phase
+drill_end LogsIn false = Violation NOT_IN_PHASE
 drill_end Repeats accepted = Finished
-drill_end Exports accepted = Violation not_in_phase
+drill_end Exports accepted = Violation NOT_IN_PHASE
 drill_end BreaksOff accepted = Truncated
 
 -- the events of a worker's session: its permitted opening, what it asked, and its permitted end

@@ -1,4 +1,5 @@
-//! Files that are read up to a limit, and the word lists that stand in them.
+//! Files that are read up to a limit, and the word lists that stand in them. Believe
+//! `specs/Lists.antt`; all that reads files whole stands above.
 #![tactic(auto)]
 
 mod front;

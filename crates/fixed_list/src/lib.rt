@@ -1,4 +1,5 @@
-//! A short list of bytes that is copied as a number is.
+//! A short list of bytes that is copied as a number is. Believe `specs/FixedList.antt`; names, labels,
+//! notes and seeds stand above.
 #![tactic(auto)]
 
 ghost use Rattle.std.specs.Prelude.{◌≡◌, ℕ, ◌-◌, ◌^◌, ◌<◌, ◌≤◌, ◌==◌, length, drop, replicate, slice_index};

@@ -1,5 +1,5 @@
 //! The image of no records, with which a durable log begins, and whether a file holds it. Believe
-//! `specs/Fresh.antt`.
+//! `specs/Fresh.antt`. The modes `serve` and `recover` stand above.
 #![tactic(auto)]
 
 ghost use Rattle.std.specs.Prelude.{◌≡◌, ◌↔◌, ◌≤◌, [], IfOk, IfSome, IsTrue, OnErr};

@@ -1,5 +1,5 @@
 //! What a journal comes to, in numbers: how many of its events are sessions, permits, denials by each
-//! rule, ends of each kind, and the text that says so.
+//! rule, ends of each kind, and the text that says so. Believe `specs/`; the mode `drill` stands above.
 #![tactic(auto)]
 
 mod counted;

@@ -11,7 +11,8 @@ use Rattle.std.proofs.lemmas.Option.{get_or_from_slice_get, slice_get-map}
 use Rattle.request_catalogue.specs.TextBytes.{name_bytes}
 use Rattle.policy_model.specs.declared.account.Account.{Account}
 use Rattle.policy_model.specs.declared.event.Event.{Event}
-use Rattle.policy_model.specs.Asks.{accepts, decoys_from, value_of}
+use Rattle.policy_model.specs.declared.reading.TheConstants.{DECOYS_FROM}
+use Rattle.policy_model.specs.Asks.{accepts, value_of}
 use Rattle.policy_model.specs.Logins.{account_after, current_password, replies_of}
 use Rattle.policy_model.specs.Settings.{Settings}
 use Rattle.policy_model.proofs.LoginLemmas.{last_or-some}
@@ -138,7 +139,7 @@ module _ (first setup : Settings) (journal : List Event) (after : setup.accounts
 
   taken_alike : (o : Option LineValue) → account_taken setup o ≡ account_taken first o
   taken_alike None = refl
-  taken_alike (Some v) = ap (λ a. cond (nat_lt (value_of v.decision) decoys_from) a None) (named_same v.ask)
+  taken_alike (Some v) = ap (λ a. cond (nat_lt (value_of v.decision) DECOYS_FROM) a None) (named_same v.ask)
 
   logins_alike : (before lines : List LineValue) → logins_after setup before lines ≡ logins_after first before lines
   logins_alike before [] = refl

@@ -13,8 +13,9 @@ use Rattle.policy_model.specs.declared.account.Account.{Account}
 use Rattle.policy_model.specs.declared.event.Ask.{Ask}
 use Rattle.policy_model.specs.declared.event.Ask.TheVariants as asks
 use Rattle.policy_model.specs.declared.event.Event.{Event}
-use Rattle.policy_model.specs.Asks.{accepts, challenge_name, decoys_from, is_permit, takes, value_of}
+use Rattle.policy_model.specs.declared.reading.TheConstants.{DECOYS_FROM}
 use Rattle.policy_model.specs.Asks as policy
+use Rattle.policy_model.specs.Asks.{accepts, challenge_name, is_permit, takes, value_of}
 use Rattle.policy_model.specs.Journal.{is_own, last_event}
 use Rattle.policy_model.specs.Legal.{IsLegal, IsNext}
 use Rattle.policy_model.specs.Logins.{challenged_user, current_password, is_decoy, is_user, replies_of, reply_for, user_named, was_accepted, was_decoyed}
@@ -81,7 +82,7 @@ accepts_same number e = ap (λ b. b && is_permit e.decision) (shows_reply e.ask)
 
 taken_by_event : Settings → Option Event → Option ℕ
 taken_by_event setup None = None
-taken_by_event setup (Some e) = cond (nat_lt (value_of e.decision) decoys_from) (account_named setup (ask_value e.ask)) None
+taken_by_event setup (Some e) = cond (nat_lt (value_of e.decision) DECOYS_FROM) (account_named setup (ask_value e.ask)) None
 
 taken_same : (setup : Settings) (session count : ℕ) (events : List Event) (o : Option LineValue) (p : Option Event) → account_taken setup o ≡ taken_by_event setup p → account_taken setup (last_or o (filter (takes_for session) (values_after count events))) ≡ taken_by_event setup (last_or p (filter (is_own session takes) events))
 unfolding taken_by_event
@@ -122,7 +123,7 @@ event_account : (setup : Settings) (o : Option Event) (user : Name) (number : �
 unfolding taken_by_event
 event_account setup None user number named decoy is = absurd cc
 event_account setup (Some t) user number named decoy is =
-    let low : nat_lt (value_of t.decision) decoys_from ≡ true = grind (arith, nat_tests, decoy) in
+    let low : nat_lt (value_of t.decision) DECOYS_FROM ≡ true = grind (arith, nat_tests, decoy) in
     ap (λ b. cond b (account_named setup (ask_value t.ask)) None) low ∙ named_by_user setup t.ask user named ∙ is
 
 -- the account of a session that was challenged for a user by no decoy

@@ -11,7 +11,9 @@ use Rattle.std.proofs.lemmas.List.{append-nil}
 use Rattle.std.proofs.lemmas.Option.{slice_get_within}
 use Rattle.request_catalogue.specs.declared.texts.Name.{Name}
 use Rattle.policy_model.specs.declared.event.Decision.TheVariants.{Permit}
-use Rattle.policy_model.specs.Asks.{decoys_from, is_permit, value_of}
+use Rattle.policy_model.specs.declared.ranges.TheConstants.{EVENTS_LIMIT}
+use Rattle.policy_model.specs.declared.reading.TheConstants.{DECOYS_FROM}
+use Rattle.policy_model.specs.Asks.{is_permit, value_of}
 use Rattle.policy_model.specs.Settings.{Settings, account_number}
 use Rattle.policy_model.proofs.Lists.{last_or-filter_push}
 use Rattle.decision_log.specs.declared.logged.Logged.{Logged}
@@ -24,7 +26,7 @@ use Rattle.ledger_journal.specs.declared.reading.Log.{Log}
 use Rattle.ledger_journal.specs.Lines.{line_at, lines_after, lines_of}
 use Rattle.ledger_journal.specs.Logins.{accepts_reply, account_named, account_taken, is_challenge, last_taking, login_by, login_in, logins_after, takes_for}
 use Rattle.ledger_journal.specs.Reads.{IsFirstBad, IsRead, IsTaken, IsWithin, bad_after, taken}
-use Rattle.ledger_journal.specs.Recovering.{IsNoLine, lines_max}
+use Rattle.ledger_journal.specs.Recovering.{IsNoLine}
 
 -- 1. The lines and the replies of one record more
 
@@ -75,7 +77,7 @@ get_last [] x = refl
 get_last (a ∷ xs) x = get_last xs x
 
 abbrev Fault : ℕ → List ℕ → Type 0
-Fault number bytes = (lines_max < number) ⊎ (line_at number bytes ≡ None)
+Fault number bytes = (EVENTS_LIMIT < number) ⊎ (line_at number bytes ≡ None)
 
 no_line_cases : (records : List (List ℕ)) (bytes : List ℕ) (number : ℕ) → IsNoLine (records ++ bytes ∷ []) number → IsNoLine records number ⊎ ((number ≡ length records + 1) × Fault number bytes)
 no_line_cases records bytes number h =
@@ -104,7 +106,7 @@ first_bad_push records bytes (Some b) h = (no_line_front records bytes b h.0, ea
         | inl there ↦ h.1 k lt there
         | inr here ↦ let le = no_line_within records b h.0 in let e = here.0 in absurd (omega (arith, le, lt, e))
       ]
-first_bad_push records bytes None h = go (nat_lt lines_max (length records + 1)) (line_at (length records + 1) bytes) refl refl where
+first_bad_push records bytes None h = go (nat_lt EVENTS_LIMIT (length records + 1)) (line_at (length records + 1) bytes) refl refl where
   earlier : (k : ℕ) → k < length records + 1 → IsNoLine (records ++ bytes ∷ []) k → ⊥
   earlier k lt n =
       elim (no_line_cases records bytes k n) [
@@ -119,11 +121,11 @@ first_bad_push records bytes None h = go (nat_lt lines_max (length records + 1))
         | inr here ↦ none (subst (λ m. Fault m bytes) here.0 here.1)
       ]
 
-  go : (far : Bool) (o : Option LineValue) → nat_lt lines_max (length records + 1) ≡ far → line_at (length records + 1) bytes ≡ o → IsFirstBad (records ++ bytes ∷ []) (cond (far || not (is_some o)) (Some (length records + 1)) None)
+  go : (far : Bool) (o : Option LineValue) → nat_lt EVENTS_LIMIT (length records + 1) ≡ far → line_at (length records + 1) bytes ≡ o → IsFirstBad (records ++ bytes ∷ []) (cond (far || not (is_some o)) (Some (length records + 1)) None)
   go true o is line = (no_line_last records bytes (inl (grind (arith, nat_tests, is))), earlier)
   go false None is line = (no_line_last records bytes (inr line), earlier)
   go false (Some v) is line =
-      let near : length records + 1 ≤ lines_max = grind (arith, nat_tests, is) in
+      let near : length records + 1 ≤ EVENTS_LIMIT = grind (arith, nat_tests, is) in
       (omega (arith, near, length-append records (bytes ∷ [])), last (λ fault. elim fault [ inl far ↦ absurd (omega (arith, far, near)) | inr none ↦ absurd (let e = sym line ∙ none in cc) ]))
 
 -- 3. What is kept
@@ -235,7 +237,7 @@ and_true : (b : Bool) → (b && (true && true)) ≡ b
 and_true true = refl
 and_true false = refl
 
-pub taken_by : (setup : Settings) (line : Logged) (user : Name) (now value : ℕ) (account : Option ℕ) (old new : BTreeMap ℕ (Option ℕ)) → line.what ≡ logged.Challenge user now → line.decision ≡ Permit value → account ≡ cond (nat_lt value decoys_from) (account_number setup user) None → ((q : ℕ) → get nat_cmp new q ≡ cond (is_at (nat_cmp line.session) q) (Some account) (get nat_cmp old q)) → IsTaken setup (logged_value line) old new
+pub taken_by : (setup : Settings) (line : Logged) (user : Name) (now value : ℕ) (account : Option ℕ) (old new : BTreeMap ℕ (Option ℕ)) → line.what ≡ logged.Challenge user now → line.decision ≡ Permit value → account ≡ cond (nat_lt value DECOYS_FROM) (account_number setup user) None → ((q : ℕ) → get nat_cmp new q ≡ cond (is_at (nat_cmp line.session) q) (Some account) (get nat_cmp old q)) → IsTaken setup (logged_value line) old new
 taken_by setup line user now value account old new what decision account_is updates = record { each = each } where
   takes : (session : ℕ) → takes_for session (logged_value line) ≡ nat_eq line.session session
   takes session =
@@ -245,8 +247,8 @@ taken_by setup line user now value account old new what decision account_is upda
 
   taken_is : account_taken setup (Some (logged_value line)) ≡ account
   taken_is =
-      ap (λ a. cond (nat_lt (value_of line.decision) decoys_from) (account_named setup (logged_ask a)) None) what
-      ∙ ap (λ d. cond (nat_lt (value_of d) decoys_from) (account_number setup user) None) decision
+      ap (λ a. cond (nat_lt (value_of line.decision) DECOYS_FROM) (account_named setup (logged_ask a)) None) what
+      ∙ ap (λ d. cond (nat_lt (value_of d) DECOYS_FROM) (account_number setup user) None) decision
       ∙ sym account_is
 
   both : (session : ℕ) (b : Bool) → taken (cond b (Some account) (get nat_cmp old session)) ≡ cond b account (taken (get nat_cmp old session))

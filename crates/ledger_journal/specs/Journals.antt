@@ -3,6 +3,7 @@ use Rattle.std.specs.Prelude.{ℕ, ◌≡◌, ◌≤◌, ◌<◌, ◌+◌, ◌^�
 use Rattle.std.specs.List.{AllByRecursion, list_any}
 use Rattle.policy_model.specs.declared.account.Account.{Account}
 use Rattle.policy_model.specs.declared.event.Event.{Event}
+use Rattle.policy_model.specs.declared.ranges.TheConstants.{EVENTS_LIMIT}
 use Rattle.policy_model.specs.Asks.{accepts}
 use Rattle.policy_model.specs.Journal.{has_lost}
 use Rattle.policy_model.specs.Legal.{IsLegal}
@@ -15,7 +16,7 @@ use Rattle.otp_ledger.specs.Accounts.{AccountState, current_of}
 use Rattle.ledger_journal.specs.declared.answer.Recovered.{Recovered}
 use Rattle.ledger_journal.specs.declared.answer.RecoverError.{RecoverError}
 use Rattle.ledger_journal.specs.declared.answer.RecoverError.TheVariants as errors
-use Rattle.ledger_journal.specs.Recovering.{IsOwn, lines_max}
+use Rattle.ledger_journal.specs.Recovering.{IsOwn}
 
 -- the journal of a run with a setup of which nothing was lost: it is legal, its asks are proper, it has at most as many events as a run makes, and they are in the ranges of their types
 pub record IsWhole (setup : Settings) (journal : List Event) : Type 0 where
@@ -23,7 +24,7 @@ pub record IsWhole (setup : Settings) (journal : List Event) : Type 0 where
   pub legal : IsLegal setup journal
   pub proper : AllByRecursion IsProperEvent journal
   pub kept : has_lost journal ≡ false
-  pub few : length journal ≤ lines_max
+  pub few : length journal ≤ EVENTS_LIMIT
   pub typed : AllByRecursion IsTyped journal
 
 -- the lines of events, a record each, where so many stand before them

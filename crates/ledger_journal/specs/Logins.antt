@@ -5,7 +5,8 @@ use Rattle.std.specs.Option.{option_to_list}
 use Rattle.std.specs.Str.{bytes_eq}
 use Rattle.request_catalogue.specs.TextBytes.{name_bytes}
 use Rattle.policy_model.specs.declared.account.Account.{Account}
-use Rattle.policy_model.specs.Asks.{decoys_from, is_permit, value_of}
+use Rattle.policy_model.specs.declared.reading.TheConstants.{DECOYS_FROM}
+use Rattle.policy_model.specs.Asks.{is_permit, value_of}
 use Rattle.policy_model.specs.Settings.{Settings}
 use Rattle.decision_log.specs.Values.{AskValue, Challenge, LineValue, Reply}
 use Rattle.otp_ledger.specs.Accounts.{AccountState, IsNextPassword}
@@ -40,7 +41,7 @@ account_named setup _ = None
 -- the number of the account that is taken by a permitted CHALLENGE: by a decoy none
 abbrev pub account_taken : Settings → Option LineValue → Option ℕ
 account_taken setup None = None
-account_taken setup (Some v) = if nat_lt (value_of v.decision) decoys_from then account_named setup v.ask else None
+account_taken setup (Some v) = if nat_lt (value_of v.decision) DECOYS_FROM then account_named setup v.ask else None
 
 -- the reply that a line accepts, where its session took this account last
 abbrev pub login_by : Option ℕ → LineValue → Option Login

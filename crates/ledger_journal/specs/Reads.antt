@@ -3,6 +3,7 @@ use Rattle.std.specs.Prelude.{ℕ, ◌≡◌, ◌≤◌, ◌<◌, ◌^◌, ◌||
 use Rattle.std.specs.BTreeMap.{BTreeMap, get}
 use Rattle.std.specs.Ordering.{nat_cmp}
 use Rattle.std.specs.List.{list_any, AllByRecursion}
+use Rattle.policy_model.specs.declared.ranges.TheConstants.{EVENTS_LIMIT}
 use Rattle.policy_model.specs.Settings.{Settings}
 use Rattle.decision_log.specs.Values.{LineValue}
 use Rattle.durable_log.specs.Records.{HasRecords, opened}
@@ -13,7 +14,7 @@ use Rattle.ledger_journal.specs.declared.reading.Log.{Log}
 use Rattle.ledger_journal.specs.Images.{IsNoLog}
 use Rattle.ledger_journal.specs.Lines.{lines_of}
 use Rattle.ledger_journal.specs.Logins.{account_taken, is_stored, last_taking, logins_of, takes_for}
-use Rattle.ledger_journal.specs.Recovering.{IsNoLine, lines_max}
+use Rattle.ledger_journal.specs.Recovering.{IsNoLine}
 
 -- the account that a session took: none where nothing is kept of it
 abbrev pub taken : Option (Option ℕ) → Option ℕ
@@ -22,13 +23,13 @@ taken (Some account) = account
 
 -- the first place of a record that is no line, or none
 abbrev pub IsFirstBad : List (List ℕ) → Option ℕ → Type 0
-IsFirstBad records None = (length records ≤ lines_max) × ((number : ℕ) → IsNoLine records number → ⊥)
+IsFirstBad records None = (length records ≤ EVENTS_LIMIT) × ((number : ℕ) → IsNoLine records number → ⊥)
 IsFirstBad records (Some bad) = IsNoLine records bad × ((earlier : ℕ) → earlier < bad → IsNoLine records earlier → ⊥)
 
 -- the first bad place of records behind which this one stands
 abbrev pub bad_after : Option ℕ → ℕ → Bool → Option ℕ
 bad_after (Some bad) place is_line = Some bad
-bad_after None place is_line = if nat_lt lines_max place || not is_line then Some place else None
+bad_after None place is_line = if nat_lt EVENTS_LIMIT place || not is_line then Some place else None
 
 -- a line is taken note of: the account of its session is the one that it takes, where it is a permitted CHALLENGE
 pub record IsTaken (setup : Settings) (v : LineValue) (old new : BTreeMap ℕ (Option ℕ)) : Type 0 where

@@ -1,6 +1,7 @@
 -- Believed: what recovery answers, by the setup and the records of an image.
 use Rattle.std.specs.Prelude.{ℕ, ◌≡◌, ◌<◌, ◌+◌, ◌⊎◌, ◌&&◌, Bool, true, false, not, List, [], ◌∷◌, ◌++◌, length, map, slice_get, Some, None, Result, Ok, Err}
 use Rattle.policy_model.specs.declared.account.Account.{Account}
+use Rattle.policy_model.specs.declared.ranges.TheConstants.{EVENTS_LIMIT}
 use Rattle.policy_model.specs.Settings.{Settings}
 use Rattle.durable_log.specs.Records.{HasRecords}
 use Rattle.otp_ledger.specs.Accounts.{LedgerParts, new_state, state_at}
@@ -11,17 +12,13 @@ use Rattle.ledger_journal.specs.declared.login.Login.{Login}
 use Rattle.ledger_journal.specs.Lines.{line_at}
 use Rattle.ledger_journal.specs.Logins.{Verifies, left_of, logins_of, state_after}
 
--- the lines that a run makes at most
-abbrev pub lines_max : ℕ
-lines_max = 1048576
-
 -- the record at this place, counted from 1, stands behind more lines than a run makes, or isn't a line with its place as its number
 pub record IsNoLine (records : List (List ℕ)) (number : ℕ) : Type 0 where
   pub place : ℕ
   pub bytes : List ℕ
   pub stands : slice_get records place ≡ Some bytes
   pub counted : number ≡ place + 1
-  pub fault : (lines_max < number) ⊎ (line_at number bytes ≡ None)
+  pub fault : (EVENTS_LIMIT < number) ⊎ (line_at number bytes ≡ None)
 
 -- of the replies that have to be spent in order, the one of this line doesn't verify behind those before it
 pub record IsRefused (setup : Settings) (left : List Login) (number : ℕ) : Type 0 where

@@ -4,25 +4,20 @@ ghost use Rattle.std.specs.Prelude.{◌≡◌, ◌≤◌, ◌<◌, ◌+◌, ◌^
 ghost use Rattle.std.specs.BTreeMap.{get};
 ghost use Rattle.std.specs.Option.{option_to_list};
 ghost use Rattle.std.specs.Ordering.{nat_cmp};
-ghost use Rattle.policy_model.specs.Asks.{decoys_from};
 ghost use Rattle.policy_model.specs.Settings.{Settings, account_number};
 ghost use Rattle.decision_log.specs.Logged.{logged_value};
 ghost use Rattle.ledger_journal.specs.Lines.{line_at};
 ghost use Rattle.ledger_journal.specs.Logins.{login_by};
 ghost use Rattle.ledger_journal.specs.Reads.{IsLogOf, IsRead, IsReadError, IsTaken, bad_after, taken};
-ghost use Rattle.ledger_journal.specs.Recovering.{lines_max};
 
 use crate::answer::RecoverError;
 use crate::login::Login;
 use crate::records::{Next, next_record};
 use decision_log::{Logged, LoggedAsk, read_line};
-use policy_model::{DECOYS_FROM, Decision, Setup};
+use policy_model::{DECOYS_FROM, Decision, EVENTS_LIMIT, Setup};
 use request_catalogue::Name;
 use std::alloc::{AllocError, Global};
 use std::collections::BTreeMap;
-
-/// The lines that a run makes at most.
-const LINES_MAX: usize = 1_048_576;
 
 /// What is kept of the records that were read.
 #[derive(Drop)]
@@ -50,18 +45,18 @@ fn line_at(place: usize, bytes: &[u8]) -> Option<Logged>
 
 /// The first bad place of records, where one more stands behind them.
 fn first_bad(bad: Option<u32>, place: usize, is_line: bool) -> Option<u32>
-    requires { MatchOption bad (place ≤ lines_max + 1) (λ _. Unit {0}) }
+    requires { MatchOption bad (place ≤ EVENTS_LIMIT + 1) (λ _. Unit {0}) }
     ensures { result ≡ bad_after bad place is_line }
 {
     match bad {
-        None if place > LINES_MAX || !is_line => Some(place as u32),
+        None if place > EVENTS_LIMIT as usize || !is_line => Some(place as u32),
         _ => bad,
     }
 }
 
 /// The number of the account that a permitted CHALLENGE with this value takes.
 fn account_taken(setup: &Setup, user: &Name, value: u64) -> Option<u32>
-    ensures taken { result ≡ (if nat_lt value decoys_from then account_number setup.now user.now else None) }
+    ensures taken { result ≡ (if nat_lt value DECOYS_FROM then account_number setup.now user.now else None) }
     ensures within { IfSome result (λ n. n < length setup.now.accounts) }
 {
     if value < DECOYS_FROM {
@@ -148,7 +143,7 @@ impl Log {
     /// One record more is read.
     fn read(&mut self, setup: &Setup, bytes: &[u8]) -> Result<(), AllocError>
         requires fits { self.old.count < 2 ^ 63 }
-        requires bad { MatchOption self.old.bad (self.old.count ≤ lines_max) (λ _. Unit {0}) }
+        requires bad { MatchOption self.old.bad (self.old.count ≤ EVENTS_LIMIT) (λ _. Unit {0}) }
         ensures { (records : List (List ℕ)) → IsRead setup.now records self.old → IfOk result (λ _. IsRead setup.now (records ++ bytes.now ∷ []) self.new) }
     {
         let place = self.count + 1;

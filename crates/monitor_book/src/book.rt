@@ -4,7 +4,8 @@ ghost use Rattle.std.specs.Prelude.{◌≡◌, ◌≤◌, [], IfErr, IfOk, false
 ghost use Rattle.monitor_book.specs.Kept.{IsBook, book_parts};
 ghost use Rattle.policy_model.specs.Settings.{events_max};
 ghost use Rattle.session_core.specs.Parts.{setup_of};
-ghost use Rattle.session_core.specs.Replayed.{HasConsequences};
+ghost use Rattle.policy_laws.specs.Consequences.{HasConsequences};
+ghost use Rattle.policy_laws.specs.Strangers.{StrangersAreToldAlike};
 ghost use Rattle.session_core.specs.Standing.{Stands};
 
 use crate::entering::{event_of, settle};
@@ -81,6 +82,7 @@ impl<K: Sink> Book<K> {
         ensures kept { IsBook self }
         ensures few { length self.journal ≤ 1048576 }
         ensures consequences { HasConsequences (setup_of self.core) self.journal }
+        ensures alike { StrangersAreToldAlike (setup_of self.core) self.journal }
     {
         let Book {
             core,

@@ -7,6 +7,7 @@ use Rattle.outside.specs.declared.faults.Faults.{Faults}
 use Rattle.outside.specs.Scene.{Scene}
 use Rattle.outside.specs.Told.{Rose}
 use Rattle.policy_laws.proofs.Alike.{strangers_see_no_accounts}
+use Rattle.policy_laws.proofs.Strangers.{strangers_are_told_alike}
 use Rattle.policy_model.specs.declared.event.Event.{Event}
 use Rattle.policy_model.specs.Journal.{has_lost}
 use Rattle.policy_model.specs.Runs.{IsRun}
@@ -47,6 +48,7 @@ run_promises service failed journal posts scene faults held_old held_new log_old
       conversations = conversations;
       log = says.lines;
       consequences = consequences service.setup journal says.run.legal;
+      alike = strangers_are_told_alike service.setup journal says.run.legal;
       unseen = record { alike = λ other_setup other same legal. strangers_see_no_accounts service.setup other_setup journal other (sym same) says.run.legal legal };
       quota = runs_to_quota service failed journal posts scene faults ended;
       fault_ends = fault_ends_are_counted service failed journal posts scene faults ended few;

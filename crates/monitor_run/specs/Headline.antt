@@ -1,14 +1,16 @@
 -- Believed: what is promised of a run, in its parts.
 use Rattle.std.specs.Prelude.{◌≡◌, ℕ, ◌<◌, ◌≤◌, Bool, true, false, ◌&&◌, ◌==◌, List, [], length, count_by, slice_get, Option, Some, None, IfSome}
 use Rattle.std.specs.List.{AllByRecursion, last_or, list_any}
+use Rattle.policy_laws.specs.Consequences.{HasConsequences}
+use Rattle.policy_laws.specs.Strangers.{StrangersAreToldAlike, StrangersSeeNoAccounts}
 use Rattle.monitor_book.specs.Lines.{LogMatches}
 use Rattle.outside.specs.Told.{Rose}
 use Rattle.outside.specs.declared.faults.Faults.{Faults}
 use Rattle.outside.specs.Scene.{CountsAsTold, Scene, is_failed_accept}
 use Rattle.outside.specs.declared.act.Act.{Act}
-use Rattle.policy_laws.specs.Strangers.{StrangersSeeNoAccounts}
 use Rattle.policy_model.specs.declared.event.Ask.{Ask}
 use Rattle.policy_model.specs.declared.event.Event.{Event}
+use Rattle.policy_model.specs.declared.ranges.TheConstants.{EVENTS_LIMIT}
 use Rattle.policy_model.specs.Asks.{is_lost, opens}
 use Rattle.policy_model.specs.Journal.{has_lost}
 use Rattle.policy_model.specs.Legal.{IsLegal}
@@ -18,7 +20,6 @@ use Rattle.service_model.specs.Ends.{is_fault_end, is_keeper_end, is_link_end}
 use Rattle.service_model.specs.Service.{Service}
 use Rattle.service_model.specs.Sittings.{AreAnswered, AreSittingsOf, Sitting}
 use Rattle.service_model.specs.Stories.{IsStory, LastAccept, NoAcceptBehindLoss, is_stop, story_acts}
-use Rattle.session_core.specs.Replayed.{HasConsequences}
 
 -- ---- the journal is legal
 
@@ -27,7 +28,7 @@ pub record JournalIsLegal (setup : Settings) (journal : List Event) : Type 0 whe
   pub legal : IsLegal setup journal
   pub proper : AllByRecursion IsProperEvent journal
   pub workers : AllByRecursion (IsOfWorker setup) journal
-  pub few : length journal ≤ 1048576
+  pub few : length journal ≤ EVENTS_LIMIT
 
 -- a worker's events are its sessions, one after the other; at most one lost opening stands behind them
 pub record SessionsInOrder (service : Service) (journal : List Event) : Type 0 where
@@ -127,6 +128,7 @@ pub record RunPromises {P : Type 0} (service : Service) (failed : Bool) (journal
   pub conversations : ConversationsMatch service scene journal posts
   pub log : LogMatches service.setup journal held_old held_new
   pub consequences : HasConsequences service.setup journal
+  pub alike : StrangersAreToldAlike service.setup journal
   pub unseen : ShowsNoAccounts service.setup journal
   pub quota : RunsToQuota service.setup scene journal posts
   pub fault_ends : FaultEndsAreCounted faults journal posts

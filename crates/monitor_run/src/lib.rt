@@ -1,5 +1,6 @@
 //! A run: the workers of a setup, each in a thread of its own, at one cell over one book. Believe
-//! `specs/Headline.antt`, what is promised of a whole run; read `running.rt` first.
+//! `specs/Headline.antt`, what is promised of a whole run; read `running.rt` first. The modes `serve`
+//! and `drill` stand above.
 #![tactic(auto)]
 
 mod counting;

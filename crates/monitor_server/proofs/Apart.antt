@@ -6,11 +6,11 @@ use Rattle.std.specs.Char.{to_ascii_lowercase}
 use Rattle.std.specs.Str.{bytes_eq}
 use Rattle.std.proofs.lemmas.Bool.{and_parts, leb-true}
 use Rattle.std.proofs.lemmas.Slice.Eq.{bytes_eq-Decides}
+use Rattle.otp_mode.specs.Words.{OtpParts, otp_command, parts_of}
+use Rattle.otp_words.specs.Challenges.{decimal_value, is_number_text}
 use Rattle.command_line.specs.Words.{words_without_hyphen}
 use Rattle.otp_hash.specs.Names.{algo_named}
 use Rattle.otp_hash.specs.Seeds.{is_seed_text}
-use Rattle.otp_words.specs.Challenges.{decimal_value}
-use Rattle.otp_mode.specs.Words.{OtpParts, is_number_word, otp_command, parts_of}
 use Rattle.check_mode.specs.Words.{check_command}
 use Rattle.child_mode.specs.Words.{ChildParts, child_command}
 use Rattle.audit_mode.specs.Words.{AuditParts, audit_command}
@@ -94,8 +94,8 @@ serve_mode_of (mode ∷ name ∷ log ∷ more ∷ rest) source asked = none-some
 
 otp_parts_mode : (mode algo number seed : List ℕ) (list : Option (List ℕ)) (rest : List (List ℕ)) (parts : OtpParts) → parts_of mode algo number seed list ≡ Some parts → mode_of (mode ∷ rest) ≡ Some Otp
 otp_parts_mode mode algo number seed list rest parts asked =
-    let both = cond_true (bytes_eq mode (codes "otp") && is_number_word number && is_seed_text seed) (option_map (λ a. record { algo = a; number = decimal_value number; seed = map to_ascii_lowercase seed; list = list }) (algo_named algo)) parts asked in
-    begins mode (codes "otp") rest Otp (first_true (bytes_eq mode (codes "otp")) (is_number_word number) (first_true (bytes_eq mode (codes "otp") && is_number_word number) (is_seed_text seed) both)) refl
+    let both = cond_true (bytes_eq mode (codes "otp") && is_number_text number && is_seed_text seed) (option_map (λ a. record { algo = a; number = decimal_value number; seed = map to_ascii_lowercase seed; list = list }) (algo_named algo)) parts asked in
+    begins mode (codes "otp") rest Otp (first_true (bytes_eq mode (codes "otp")) (is_number_text number) (first_true (bytes_eq mode (codes "otp") && is_number_text number) (is_seed_text seed) both)) refl
 
 otp_mode_of : (words : List (List ℕ)) (parts : OtpParts) → otp_command words ≡ Some parts → mode_of words ≡ Some Otp
 otp_mode_of [] parts asked = none-some (otp_command []) parts refl asked

@@ -1,4 +1,5 @@
-//! The monitor: what it promises of a whole run stands on its top call.
+//! The monitor: what it promises of a whole run stands on its top call. Believe `specs/` but for
+//! `Whole.antt`; the program stands above.
 #![tactic(auto)]
 
 mod command;

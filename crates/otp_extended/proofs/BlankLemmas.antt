@@ -1,13 +1,13 @@
 -- Texts that are cut at spaces and tabs.
-use Rattle.std.proofs.Common.{◌≡◌, ℕ, ◌≤◌, true, false, not, ◌&&◌, List, [], ◌∷◌, ◌++◌, length, take, drop, refl, sym, ap, subst, ◌∙◌, arith}
-use Rattle.std.specs.Prelude.{map, nat_le}
+use Rattle.std.proofs.Common.{◌≡◌, ℕ, ◌≤◌, true, false, not, List, [], ◌∷◌, ◌++◌, length, take, drop, refl, sym, ap, subst, ◌∙◌}
+use Rattle.std.specs.Prelude.{map}
 use Rattle.std.specs.Char.{is_ascii_digit, is_ascii_alphanumeric, to_ascii_lowercase}
 use Rattle.std.specs.List.{list_all, prefix_len}
 use Rattle.std.proofs.lemmas.Bool.{and_parts}
-use Rattle.std.proofs.lemmas.Bool.Decides.{nat_tests}
 use Rattle.otp_hash.specs.declared.chain.Algo.{Algo}
 use Rattle.otp_hash.specs.declared.chain.Algo.TheVariants as algos
 use Rattle.otp_hash.specs.Seeds.{is_seed_text}
+use Rattle.otp_words.proofs.ReadingLemmas.{is_blank-alphanumeric, is_blank-digit, number_parts, seed_text_parts}
 use Rattle.otp_words.specs.Blanks.{is_blank, is_no_blank}
 use Rattle.otp_words.specs.Challenges.{IsNumber}
 use Rattle.otp_words.specs.Inner.{IsLongestFront}
@@ -15,12 +15,6 @@ use Rattle.otp_words.proofs.RunLemmas.{run_cut, run_exact, stops_at}
 use Rattle.otp_extended.specs.Inner.{AreWords, HasPieces, IsCutAtBlanks}
 use Rattle.otp_hash.specs.Names.{algo_name}
 use Rattle.otp_extended.specs.Responses.{AreParams}
-
-is_blank-digit : (c : ℕ) → is_ascii_digit c ≡ true → is_blank c ≡ false
-is_blank-digit c e = grind (arith, nat_tests)
-
-is_blank-alphanumeric : (c : ℕ) → is_ascii_alphanumeric c ≡ true → is_blank c ≡ false
-is_blank-alphanumeric c e = grind (arith, nat_tests)
 
 -- digits are no blanks
 plain_digits : (digits : List ℕ) → list_all is_ascii_digit digits ≡ true → list_all is_no_blank digits ≡ true
@@ -32,13 +26,6 @@ plain_digits (c ∷ cs) e =
 plain_word : (algo : Algo) → list_all is_no_blank (algo_name algo) ≡ true
 plain_word algos.Md5 = refl
 plain_word algos.Sha1 = refl
-
-seed_text_parts : (name : List ℕ) → is_seed_text name ≡ true → (1 ≤ length name) × (list_all is_ascii_alphanumeric name ≡ true)
-unfolding is_seed_text
-seed_text_parts name e =
-    let parts = and_parts (nat_le 1 (length name) && nat_le (length name) 16) (list_all is_ascii_alphanumeric name) e in
-    let bounds = and_parts (nat_le 1 (length name)) (nat_le (length name) 16) parts.0 in
-    (grind (arith, nat_tests), parts.1)
 
 nil : (xs : List ℕ) → xs ++ [] ≡ xs
 nil [] = refl
@@ -57,14 +44,14 @@ first_cut text algo sequence seed is = record {
   spelled = is.spelled;
   plain = plain_word algo;
   parted = is.parted;
-  stops = stops_at is_blank is_ascii_digit is.digits (is.second_gap ++ is.name) is_blank-digit is.number.some is.number.legal;
+  stops = stops_at is_blank is_ascii_digit is.digits (is.second_gap ++ is.name) is_blank-digit (number_parts is.digits is.number.legal).0 (number_parts is.digits is.number.legal).1;
 }
 
 pub second_cut : (text : List ℕ) (algo : Algo) (sequence : ℕ) (seed : List ℕ) (is : AreParams text algo sequence seed) → IsCutAtBlanks (is.digits ++ (is.second_gap ++ is.name)) is.digits is.name
 second_cut text algo sequence seed is = record {
   gap = is.second_gap;
   spelled = refl;
-  plain = plain_digits is.digits is.number.legal;
+  plain = plain_digits is.digits (number_parts is.digits is.number.legal).1;
   parted = is.parted_again;
   stops = seed_stops is.name is.legal;
 }

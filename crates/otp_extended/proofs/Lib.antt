@@ -1,5 +1,4 @@
 mod BlankLemmas
-mod LineLemmas
 mod OnlyLemmas
 mod PartLemmas
 mod RenewalLemmas

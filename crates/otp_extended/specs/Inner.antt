@@ -1,5 +1,5 @@
 -- Inner: what the clauses of functions inside the crate cite.
-use Rattle.std.specs.Prelude.{ℕ, ◌≡◌, ◌≤◌, ◌==◌, Bool, true, not, List, [], ◌++◌, length, map}
+use Rattle.std.specs.Prelude.{ℕ, ◌≡◌, ◌≤◌, ◌==◌, Bool, true, not, List, ◌++◌, map}
 use Rattle.std.specs.Char.{to_ascii_lowercase}
 use Rattle.std.specs.List.{list_all, prefix_len}
 use Rattle.otp_hash.specs.declared.chain.Algo.{Algo}
@@ -8,8 +8,6 @@ use Rattle.otp_hash.specs.Seeds.{is_seed_text}
 use Rattle.otp_words.specs.Challenges.{IsNumber}
 use Rattle.otp_words.specs.Blanks.{IsGap, is_blank, is_no_blank}
 use Rattle.otp_extended.specs.declared.params.Params.{Params}
-use Rattle.outside.specs.Link.{Exchanged, Link}
-use Rattle.otp_extended.specs.Lines.{line_of}
 use Rattle.otp_hash.specs.Names.{algo_name}
 
 -- a text is cut at its first run of spaces and tabs
@@ -45,9 +43,3 @@ pub record AreWords (word digits name : List ℕ) (algo : Algo) (sequence : ℕ)
 
 abbrev pub AreWordsOf : List ℕ → List ℕ → List ℕ → Params → Type 0
 AreWordsOf word digits name p = AreWords word digits name p.algo p.sequence (seed_bytes p.seed)
-
--- these bytes were received, and they have the line that the whole input has
-pub record ReceivedLine (received : List ℕ) (before after : Link) : Type 0 where
-  pub passed : Exchanged received [] before after
-  pub few : length received ≤ 4096
-  pub enough : line_of before.left ≡ line_of received

@@ -9,7 +9,7 @@ use Rattle.otp_extended.specs.declared.renewal.Renewed.{Renewed}
 use Rattle.otp_extended.specs.declared.run.Renewal.{Renewal}
 use Rattle.otp_extended.specs.declared.run.RenewalFault.{RenewalFault}
 use Rattle.otp_extended.specs.declared.run.RenewalFault.TheVariants as faults
-use Rattle.otp_extended.specs.Lines.{line_of}
+use Rattle.otp_mode.specs.Lines.{line_of}
 use Rattle.otp_mode.specs.Outcome.{OnlyReceived}
 use Rattle.otp_extended.specs.Parts.{parts_of}
 use Rattle.otp_extended.specs.Renewals.{IsRenewed, renewal_of, spent_of}

@@ -1,10 +1,10 @@
 //! Responses of RFC 2243, and the renewal of a user's chain of passwords offline. Believe
 //! `specs/Responses.antt`, `specs/Renewals.antt`, `specs/Outcome.antt` and the files that these name.
+//! The mode `renew` stands above.
 #![tactic(auto)]
 
 mod command;
 mod cutting;
-mod line;
 mod params;
 mod renewal;
 mod response;

@@ -1,21 +1,16 @@
 //! The parameters of a new chain.
 
-ghost use Rattle.std.specs.Prelude.{◌≡◌, ◌≤◌, IfSome, List, Some, ℕ, length, true};
-ghost use Rattle.std.specs.Char.{is_ascii_digit};
-ghost use Rattle.std.specs.List.{list_all};
+ghost use Rattle.std.specs.Prelude.{◌≡◌, ◌≤◌, IfSome, List, Some, ℕ};
 ghost use Rattle.std.specs.Option.{IsSomeAnd};
 ghost use Rattle.otp_hash.specs.declared.chain.Algo.{Algo};
 ghost use Rattle.otp_hash.specs.SeedBytes.{seed_bytes};
-ghost use Rattle.otp_words.specs.Challenges.{IsNumber, decimal_value};
+ghost use Rattle.otp_words.specs.Challenges.{IsNumber};
 ghost use Rattle.otp_extended.specs.Responses.{AreParams};
 ghost use Rattle.otp_extended.specs.Inner.{AreWords, AreWordsOf, HasParams};
 
 use crate::cutting::cut_at_blanks;
 use otp_hash::{Algo, Seed, algo_named};
-use otp_mode::are_digits;
-
-/// The most digits of a number.
-const DIGITS_MAX: usize = 4;
+use otp_words::read_number;
 
 /// The parameters of a new chain.
 #[derive(Clone, Copy)]
@@ -73,26 +68,5 @@ fn sequence_of(digits: &[u8]) -> Option<u16>
     ensures only { (n : ℕ) → IsNumber digits.now n → 1 ≤ n → result ≡ Some n }
     ensures within { IfSome result (λ n. n ≤ 9999) }
 {
-    if digits.is_empty() || digits.len() > DIGITS_MAX || !are_digits(digits) {
-        return None;
-    }
-    let number = number_of(digits);
-    if number == 0 {
-        return None;
-    }
-    Some(number)
-}
-
-/// The number of at most four decimal digits.
-fn number_of(digits: &[u8]) -> u16
-    requires few { length digits.now ≤ 4 }
-    requires digits { list_all is_ascii_digit digits.now ≡ true }
-    ensures value { result ≡ decimal_value digits.now }
-    ensures within { result ≤ 9999 }
-{
-    let mut number = 0;
-    for digit in digits {
-        number = number * 10 + u16::from(*digit - b'0');
-    }
-    number
+    read_number(digits).filter(|number| *number != 0)
 }

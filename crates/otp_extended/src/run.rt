@@ -3,16 +3,16 @@
 ghost use Rattle.std.specs.Prelude.{◌≡◌, ◌≤◌, IfOk, Ok, Result};
 ghost use Rattle.outside.specs.Told.{Goes, Rose};
 ghost use Rattle.otp_extended.specs.declared.run.RenewalFault.TheVariants.{OutOfMemory};
-ghost use Rattle.otp_extended.specs.Lines.{line_of};
+ghost use Rattle.otp_mode.specs.Lines.{line_of};
 ghost use Rattle.otp_extended.specs.Outcome.{ComesOf, IsMade, IsOutcome};
 ghost use Rattle.otp_extended.specs.Parts.{parts_of};
 ghost use Rattle.otp_extended.specs.Renewals.{IsSequenced};
 ghost use Rattle.otp_extended.specs.Responses.{IsReading};
 
-use crate::line::{LINE_MAX, line_in, receive_line};
 use crate::renewal::{RenewFault, Renewed, renew};
 use crate::response::{Response, ResponseFault, read_response};
 use crate::setup::renewed;
+use otp_mode::{LINE_MAX, line_in, receive_line};
 use otp_words::Dictionary;
 use outside::{Failed, Stream};
 use policy_model::Setup;

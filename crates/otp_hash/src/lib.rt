@@ -1,5 +1,5 @@
-//! The one-time passwords of RFC 2289: the hash step, the seeds, the chains of passwords, and the
-//! names of the algorithms.
+//! The one-time passwords of RFC 2289: the hash step, the seeds, the chains of passwords, and the names
+//! of the algorithms. Believe `specs/`; the spellings, the policy and the ledger stand above.
 #![tactic(auto)]
 
 mod chain;

@@ -2,8 +2,8 @@
 use Rattle.std.proofs.Common.{◌≡◌, ℕ, Bool, true, false, not, ◌&&◌, ◌==◌, cond, List, [], ◌∷◌, length, Option, Some, None, refl, subst}
 use Rattle.std.specs.List.{find, list_any}
 use Rattle.std.proofs.lemmas.Bool.{eqb-true}
+use Rattle.request_catalogue.specs.declared.rules.TheConstants.{HOLD_LOST, NO_MATCH, NO_READING, PASSWORD_USED}
 use Rattle.otp_hash.specs.Hashing.{hash_of}
-use Rattle.request_catalogue.specs.Rules.{hold_lost, no_match, no_reading, password_used}
 use Rattle.policy_model.specs.declared.event.Decision.TheVariants.{Deny}
 use Rattle.policy_model.specs.Verdict.{is_holder}
 use Rattle.otp_ledger.specs.Accounts.{AccountState, IsNextPassword, current_of, was_accepted}
@@ -25,7 +25,7 @@ found_passes p (y ∷ ys) x h = go (p y) refl h (found_passes p ys x) where
 
 pub permits_next : (state : AccountState) (session : ℕ) (passwords : List ℕ) → PermitsNext state (reply_decision state session passwords)
 permits_next state session passwords = held (not (is_holder session state.holder)) where
-  denied : (b : Bool) → PermitsNext state (cond b (Deny password_used 0) (Deny no_match 0))
+  denied : (b : Bool) → PermitsNext state (cond b (Deny PASSWORD_USED 0) (Deny NO_MATCH 0))
   denied true = tt
   denied false = tt
 
@@ -33,10 +33,10 @@ permits_next state session passwords = held (not (is_holder session state.holder
   found (Some password) h = next_password state password (found_passes (is_next state) passwords password h)
   found None h = denied (list_any (was_accepted state) passwords)
 
-  read : (b : Bool) → PermitsNext state (cond b (Deny no_reading 0) (matched state passwords (find (is_next state) passwords)))
+  read : (b : Bool) → PermitsNext state (cond b (Deny NO_READING 0) (matched state passwords (find (is_next state) passwords)))
   read true = tt
   read false = found (find (is_next state) passwords) refl
 
-  held : (b : Bool) → PermitsNext state (cond b (Deny hold_lost state.taker) (cond (length passwords == 0) (Deny no_reading 0) (matched state passwords (find (is_next state) passwords))))
+  held : (b : Bool) → PermitsNext state (cond b (Deny HOLD_LOST state.taker) (cond (length passwords == 0) (Deny NO_READING 0) (matched state passwords (find (is_next state) passwords))))
   held true = tt
   held false = read (length passwords == 0)

@@ -14,7 +14,8 @@ use Rattle.policy_model.specs.declared.event.Ask.TheVariants as asks
 use Rattle.policy_model.specs.declared.event.Decision.{Decision}
 use Rattle.policy_model.specs.declared.event.Decision.TheVariants.{Permit, Deny, Lost}
 use Rattle.policy_model.specs.declared.event.Event.{Event}
-use Rattle.policy_model.specs.Asks.{accepts, decoys_from, ends_session, gives_up, is_abandon, is_begin, is_challenge_for, is_end, is_finish, is_lost, is_permit, is_reply, is_violation, moment_of, opens, reserves, value_of}
+use Rattle.policy_model.specs.declared.reading.TheConstants.{DECOYS_FROM}
+use Rattle.policy_model.specs.Asks.{accepts, ends_session, gives_up, is_abandon, is_begin, is_challenge_for, is_end, is_finish, is_lost, is_permit, is_reply, is_violation, moment_of, opens, reserves, value_of}
 use Rattle.policy_model.specs.Journal.{events_of, is_own}
 use Rattle.policy_model.specs.Logins.{challenged_user, holder_by, holder_of, is_user, last_taking_of, replies_of, reply_for, session_taking, was_given_up}
 use Rattle.policy_model.specs.Phases.{is_over}
@@ -80,21 +81,21 @@ no_true false c h = absurd cc
 
 pub quiet : (user : Name) (e : Event) → reserves user e ≡ true → IsQuiet e
 quiet user e h = record { opens_none = opening e.ask e.decision h; goes_on = ending e.ask e.decision h; gives_none = giving e.ask e.decision h; accepts_none = accepting_none e.ask e.decision h } where
-  opening : (ask : Ask) (d : Decision) → ((is_challenge_for user ask && is_permit d) && nat_lt (value_of d) decoys_from) ≡ true → (is_begin ask && is_permit d) ≡ false
+  opening : (ask : Ask) (d : Decision) → ((is_challenge_for user ask && is_permit d) && nat_lt (value_of d) DECOYS_FROM) ≡ true → (is_begin ask && is_permit d) ≡ false
   opening (asks.Challenge name now) d h = refl
   opening _ d h = absurd cc
 
-  ending : (ask : Ask) (d : Decision) → ((is_challenge_for user ask && is_permit d) && nat_lt (value_of d) decoys_from) ≡ true → (is_end ask || is_finish ask && is_permit d || is_violation d || is_lost d) ≡ false
+  ending : (ask : Ask) (d : Decision) → ((is_challenge_for user ask && is_permit d) && nat_lt (value_of d) DECOYS_FROM) ≡ true → (is_end ask || is_finish ask && is_permit d || is_violation d || is_lost d) ≡ false
   ending (asks.Challenge name now) (Permit value) h = refl
-  ending (asks.Challenge name now) (Deny rule detail) h = absurd (no_true (is_challenge_for user (asks.Challenge name now)) (nat_lt 0 decoys_from) h)
-  ending (asks.Challenge name now) Lost h = absurd (no_true (is_challenge_for user (asks.Challenge name now)) (nat_lt 0 decoys_from) h)
+  ending (asks.Challenge name now) (Deny rule detail) h = absurd (no_true (is_challenge_for user (asks.Challenge name now)) (nat_lt 0 DECOYS_FROM) h)
+  ending (asks.Challenge name now) Lost h = absurd (no_true (is_challenge_for user (asks.Challenge name now)) (nat_lt 0 DECOYS_FROM) h)
   ending _ d h = absurd cc
 
-  giving : (ask : Ask) (d : Decision) → ((is_challenge_for user ask && is_permit d) && nat_lt (value_of d) decoys_from) ≡ true → (is_reply ask || is_abandon ask && is_permit d) ≡ false
+  giving : (ask : Ask) (d : Decision) → ((is_challenge_for user ask && is_permit d) && nat_lt (value_of d) DECOYS_FROM) ≡ true → (is_reply ask || is_abandon ask && is_permit d) ≡ false
   giving (asks.Challenge name now) d h = refl
   giving _ d h = absurd cc
 
-  accepting_none : (ask : Ask) (d : Decision) → ((is_challenge_for user ask && is_permit d) && nat_lt (value_of d) decoys_from) ≡ true → (is_reply ask && is_permit d) ≡ false
+  accepting_none : (ask : Ask) (d : Decision) → ((is_challenge_for user ask && is_permit d) && nat_lt (value_of d) DECOYS_FROM) ≡ true → (is_reply ask && is_permit d) ≡ false
   accepting_none (asks.Challenge name now) d h = refl
   accepting_none _ d h = absurd cc
 

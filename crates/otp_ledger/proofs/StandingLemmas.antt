@@ -7,9 +7,9 @@ use Rattle.std.proofs.lemmas.Bool.Decides.{nat_tests}
 use Rattle.std.proofs.lemmas.List.Folds.{find_at}
 use Rattle.std.proofs.lemmas.Slice.Eq.{bytes_eq-Decides}
 use Rattle.request_catalogue.proofs.TextLemmas.{same_from_name_bytes}
+use Rattle.request_catalogue.specs.declared.rules.TheConstants.{HOLD_LOST, NO_READING}
 use Rattle.request_catalogue.specs.declared.texts.Name.{Name}
 use Rattle.request_catalogue.specs.TextBytes.{name_bytes}
-use Rattle.request_catalogue.specs.Rules.{hold_lost, no_reading}
 use Rattle.policy_model.specs.declared.account.Account.{Account}
 use Rattle.policy_model.specs.declared.event.Decision.TheVariants.{Deny}
 use Rattle.policy_model.specs.declared.event.Event.{Event}
@@ -92,8 +92,8 @@ pub reply_stands : (l : LedgerParts) (journal : List Event) (user : Name) (accou
 reply_stands l journal user account session passwords st number =
     let a = numbered l.setup user account number in
     ap (λ s. reply_decision s session passwords) (stands_at l journal account a.account st a.place)
-    ∙ subst (λ (u : Name). reply_decision (state_by journal a.account) session passwords ≡ cond (not (is_holder session (holder_of journal u))) (Deny hold_lost (session_taking (last_taking_of journal u))) (cond (length passwords == 0) (Deny no_reading 0) (readings_verdict journal passwords (Some a.account)))) a.name refl
-    ∙ ap (λ o. cond (not (is_holder session (holder_of journal user))) (Deny hold_lost (session_taking (last_taking_of journal user))) (cond (length passwords == 0) (Deny no_reading 0) (readings_verdict journal passwords o))) (sym a.found)
+    ∙ subst (λ (u : Name). reply_decision (state_by journal a.account) session passwords ≡ cond (not (is_holder session (holder_of journal u))) (Deny HOLD_LOST (session_taking (last_taking_of journal u))) (cond (length passwords == 0) (Deny NO_READING 0) (readings_verdict journal passwords (Some a.account)))) a.name refl
+    ∙ ap (λ o. cond (not (is_holder session (holder_of journal user))) (Deny HOLD_LOST (session_taking (last_taking_of journal user))) (cond (length passwords == 0) (Deny NO_READING 0) (readings_verdict journal passwords o))) (sym a.found)
 
 -- before the first event
 new_by : (a : Account) → new_state a ≡ state_by [] a

@@ -2,8 +2,8 @@
 use Rattle.std.specs.Prelude.{ℕ, ◌+◌, ◌-◌, nat_lt, Bool, not, ◌&&◌, ◌==◌, List, length, Option, Some, None, if◌then◌else◌}
 use Rattle.std.specs.List.{find, list_any}
 use Rattle.otp_hash.specs.Hashing.{hash_of}
+use Rattle.request_catalogue.specs.declared.rules.TheConstants.{USER_HELD, HOLD_LOST, NO_READING, PASSWORD_USED, NO_MATCH}
 use Rattle.request_catalogue.specs.declared.texts.Name.{Name}
-use Rattle.request_catalogue.specs.Rules.{user_held, hold_lost, no_reading, password_used, no_match}
 use Rattle.policy_model.specs.declared.event.Decision.{Decision}
 use Rattle.policy_model.specs.declared.event.Decision.TheVariants.{Permit, Deny}
 use Rattle.policy_model.specs.Settings.{Settings, account_number}
@@ -14,7 +14,7 @@ use Rattle.otp_ledger.specs.Accounts.{AccountState, IsNextPassword, LedgerParts,
 abbrev pub state_decision : Settings → Name → ℕ → ℕ → AccountState → Decision
 state_decision setup user session now state =
     if not (state.enabled && not (state.sequence == 0)) then decoy_challenge setup user
-    else (if is_other session state.holder && nat_lt now (state.moment + setup.hold) then Deny user_held state.taker
+    else (if is_other session state.holder && nat_lt now (state.moment + setup.hold) then Deny USER_HELD state.taker
     else Permit (state.sequence - 1))
 
 abbrev pub numbered_decision : LedgerParts → Name → ℕ → ℕ → Option ℕ → Decision
@@ -30,7 +30,7 @@ abbrev pub is_next : AccountState → ℕ → Bool
 is_next state password = hash_of state.algo password == current_of state && not (was_accepted state password)
 
 abbrev pub refused : AccountState → List ℕ → Decision
-refused state passwords = if list_any (was_accepted state) passwords then Deny password_used 0 else Deny no_match 0
+refused state passwords = if list_any (was_accepted state) passwords then Deny PASSWORD_USED 0 else Deny NO_MATCH 0
 
 abbrev pub matched : AccountState → List ℕ → Option ℕ → Decision
 matched state passwords (Some password) = Permit password
@@ -43,8 +43,8 @@ readings_decision state passwords = matched state passwords (find (is_next state
 -- a REPLY of a session for the user of an account, with its readings
 abbrev pub reply_decision : AccountState → ℕ → List ℕ → Decision
 reply_decision state session passwords =
-    if not (is_holder session state.holder) then Deny hold_lost state.taker
-    else (if length passwords == 0 then Deny no_reading 0
+    if not (is_holder session state.holder) then Deny HOLD_LOST state.taker
+    else (if length passwords == 0 then Deny NO_READING 0
     else readings_decision state passwords)
 
 -- what is permitted is a password that may be spent

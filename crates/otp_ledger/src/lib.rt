@@ -1,6 +1,7 @@
 //! The ledger: what the policy knows of each account between events, in memory that is taken once.
-//! Contracts see each account's accepted passwords in the order of acceptance, its sequence, who took it
-//! last and when, and who holds it. Accepted passwords and names are found by halves.
+//! Contracts see each account's accepted passwords in the order of acceptance, its sequence, who took
+//! it last and when, and who holds it. Accepted passwords and names are found by halves. Believe
+//! `specs/Accounts.antt`; the core, recovery and the account writer stand above.
 #![tactic(auto)]
 
 mod judging;

@@ -1,4 +1,5 @@
 mod Exactness
+mod LineLemmas
 mod OutcomeLemmas
 mod PhraseLemmas
 mod TextLemmas

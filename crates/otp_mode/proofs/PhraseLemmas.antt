@@ -1,26 +1,20 @@
-use Rattle.std.proofs.Common.{◌≡◌, ℕ, suc, ◌+◌, ◌<◌, ◌≤◌, Bool, true, false, cond, eqb, ltb, List, [], ◌∷◌, ◌++◌, length, take, Option, Some, None, IfSome, refl, sym, ap, ◌∙◌, arith, append-nil, length-append}
-use Rattle.std.proofs.Math.Seq.{take-append-add}
+-- The phrase of an input is that of its first line.
+use Rattle.std.proofs.Common.{◌≡◌, ℕ, suc, ◌≤◌, Bool, true, false, cond, List, length, take, Option, Some, None, Err, refl, sym, ap, subst, ◌∙◌, arith}
 use Rattle.std.proofs.lemmas.Grind.{common_steps}
-use Rattle.std.proofs.lemmas.List.{length-take-le, take-append-le}
-use Rattle.std.proofs.lemmas.List.Folds.{prefix_len-append}
+use Rattle.std.proofs.lemmas.List.{length-take-le}
 use Rattle.std.proofs.lemmas.List.Sums.{prefix_len-le-length}
-use Rattle.std.specs.Prelude.{◌==◌, ◌||◌, nat_le, nat_lt, not}
-use Rattle.std.specs.List.{list_any, position_or_len, prefix_len}
+use Rattle.std.specs.Prelude.{◌==◌, IfOk, nat_le, nat_lt, not, ok_or, option_map}
 use Rattle.std.specs.Bool.{then_some}
 use Rattle.std.specs.Str.Lines.{strip_carriage_return}
-use Rattle.outside.specs.Link.{Exchanged, Link}
+use Rattle.outside.specs.Link.{Link}
 use Rattle.outside.specs.Told.{Goes}
-use Rattle.otp_mode.specs.Phrase.{first_line, is_phrase, line_to, phrase_of}
-use Rattle.otp_mode.specs.Inner.{ReceivedLine}
-
--- a newline's place, or the length
-abbrev newline_or_len : List ℕ → ℕ
-newline_or_len xs = position_or_len (λ c. c == 10) xs
-
--- bytes put behind the first ones stand behind them
-pub take-joined : (a n : ℕ) (xs ys zs : List ℕ) → a ≤ length xs → n ≤ length ys → take (a + n) (take a xs ++ (ys ++ zs)) ≡ take a xs ++ take n ys
-take-joined a n xs ys zs within short =
-    ap (λ k. take (k + n) (take a xs ++ (ys ++ zs))) (sym (length-take-le a xs within)) ∙ take-append-add (take a xs) (ys ++ zs) n ∙ ap (λ w. take a xs ++ w) (take-append-le n ys zs short)
+use Rattle.otp_mode.specs.declared.fault.OtpFault.{OtpFault}
+use Rattle.otp_mode.specs.declared.fault.OtpFault.TheVariants as faults
+use Rattle.otp_mode.specs.Inner.{Accepted, IsPhraseFault, ReceivedLine}
+use Rattle.otp_mode.specs.Lines.{first_line, line_of, line_to}
+use Rattle.otp_mode.specs.Outcome.{RefusedPhrase}
+use Rattle.otp_mode.specs.Phrase.{is_phrase, phrase_of}
+use Rattle.otp_mode.proofs.LineLemmas.{newline_or_len}
 
 -- a line loses at most one byte
 length-strip : (line : List ℕ) → length line ≤ suc (length (strip_carriage_return line))
@@ -39,82 +33,41 @@ length-first_line xs =
     let within = prefix_len-le-length (λ c. not (c == 10)) xs in
     length-line_to (nat_lt (newline_or_len xs) (length xs)) (newline_or_len xs) xs (λ _. within) (λ _. within)
 
--- a newline stays where it is
-newline_or_len-append : (xs ys : List ℕ) → newline_or_len xs < length xs → newline_or_len (xs ++ ys) ≡ newline_or_len xs
-newline_or_len-append xs ys has =
-    let differs : eqb (newline_or_len xs) (length xs) ≡ false = grind arith in
-    prefix_len-append (λ c. not (c == 10)) xs ys ∙ rw differs refl
-
--- without one the next may stand only behind
-newline_or_len-behind : (xs ys : List ℕ) → length xs ≤ newline_or_len xs → length xs ≤ newline_or_len (xs ++ ys)
-newline_or_len-behind xs ys none =
-    let all : newline_or_len xs ≡ length xs = omega (arith, none, prefix_len-le-length (λ c. not (c == 10)) xs) in
-    rw prefix_len-append (grind arith)
-
--- the first line where there is a newline
-first_line-is : (xs : List ℕ) → newline_or_len xs < length xs → first_line xs ≡ strip_carriage_return (take (newline_or_len xs) xs)
-first_line-is xs has =
-    let some : nat_lt (newline_or_len xs) (length xs) ≡ true = grind arith in
-    rw some refl
-
--- what stands behind a newline doesn't change the first line
-first_line-append : (xs ys : List ℕ) → newline_or_len xs < length xs → first_line (xs ++ ys) ≡ first_line xs
-first_line-append xs ys has =
-    let same = newline_or_len-append xs ys has in
-    let has' : newline_or_len (xs ++ ys) < length (xs ++ ys) = omega (arith, has, same, length-append xs ys) in
-    let taken : take (newline_or_len (xs ++ ys)) (xs ++ ys) ≡ take (newline_or_len xs) xs = rw same (take-append-le (newline_or_len xs) xs ys (omega arith)) in
-    first_line-is (xs ++ ys) has' ∙ ap strip_carriage_return taken ∙ sym (first_line-is xs has)
-
--- a line of more than 63 bytes is no phrase
-phrase_of-long : (xs : List ℕ) → 64 ≤ length (first_line xs) → phrase_of xs ≡ None
+-- a line whose end lies beyond is no phrase
+phrase_of-long : (xs : List ℕ) → nat_lt (newline_or_len xs) 4096 ≡ false → phrase_of xs ≡ None
 unfolding phrase_of is_phrase
-phrase_of-long xs long =
+phrase_of-long xs past =
+    let far : 4096 ≤ newline_or_len xs = grind arith in
+    let long : 64 ≤ length (first_line xs) = omega (arith, far, length-first_line xs) in
     let short : nat_le (length (first_line xs)) 63 ≡ false = grind arith in
     rw short (grind arith)
 
--- what was received has the phrase of the whole input: it has a newline, or is too long, or is all
-phrase_of-newline : (xs ys : List ℕ) → newline_or_len xs < length xs → phrase_of (xs ++ ys) ≡ phrase_of xs
-unfolding phrase_of
-phrase_of-newline xs ys has = ap (λ l. then_some (is_phrase l) l) (first_line-append xs ys has)
+-- inputs with one line have one phrase
+phrase_by_line : (xs ys : List ℕ) → line_of xs ≡ line_of ys → phrase_of xs ≡ phrase_of ys
+unfolding line_of phrase_of
+phrase_by_line xs ys same = go (nat_lt (newline_or_len xs) 4096) (nat_lt (newline_or_len ys) 4096) refl refl same where
+  go : (a b : Bool) → nat_lt (newline_or_len xs) 4096 ≡ a → nat_lt (newline_or_len ys) 4096 ≡ b → then_some a (first_line xs) ≡ then_some b (first_line ys) → phrase_of xs ≡ phrase_of ys
+  go true true p q e = let line : first_line xs ≡ first_line ys = cc in ap (λ l. then_some (is_phrase l) l) line
+  go true false p q e = absurd cc
+  go false true p q e = absurd cc
+  go false false p q e = phrase_of-long xs p ∙ sym (phrase_of-long ys q)
 
-phrase_of-full : (xs ys : List ℕ) → 4096 ≤ length xs → phrase_of (xs ++ ys) ≡ phrase_of xs
-phrase_of-full xs ys full =
-    full-or (ltb (newline_or_len xs) (length xs)) refl
-  where
-    full-or : (has : Bool) → ltb (newline_or_len xs) (length xs) ≡ has → phrase_of (xs ++ ys) ≡ phrase_of xs
-    full-or true e = phrase_of-newline xs ys (grind arith)
-    full-or false e =
-        let none : length xs ≤ newline_or_len xs = grind arith in
-        let own : 64 ≤ length (first_line xs) = omega (arith, full, none, length-first_line xs) in
-        let whole : 64 ≤ length (first_line (xs ++ ys)) = omega (arith, full, newline_or_len-behind xs ys none, length-first_line (xs ++ ys)) in
-        phrase_of-long (xs ++ ys) whole ∙ sym (phrase_of-long xs own)
+-- where that is a phrase it is accepted
+pub phrase_accepted : {A : Type 0} (view : A → List ℕ) (got : List ℕ) (before after : Option Link) (o : Option A) → Goes (ReceivedLine got) before after → option_map view o ≡ phrase_of got → IfOk (ok_or o faults.PhraseRefused) (λ phrase. Goes (Accepted (view phrase)) before after)
+phrase_accepted view got before after None received is = tt
+phrase_accepted view got before None (Some phrase) received is = tt
+phrase_accepted view got None (Some after) (Some phrase) received is = received
+phrase_accepted view got (Some before) (Some after) (Some phrase) received is =
+    record { accepted = phrase_by_line before.left got received.enough ∙ sym is; received = got; few = received.few; passed = received.passed }
 
--- the same of streams that may cease to tell
-abbrev Passed : List ℕ → Option Link → Option Link → Type 0
-Passed got before after = Goes (Exchanged got []) before after
-
-pub received-full : (got : List ℕ) (before after : Option Link) → 4096 ≤ length got → length got ≤ 4096 → Passed got before after → Goes (ReceivedLine got) before after
-received-full got before None full few passed = tt
-received-full got None (Some after) full few passed = absurd passed
-received-full got (Some before) (Some after) full few passed =
-    record { passed = passed; few = few; enough = ap phrase_of passed.left ∙ phrase_of-full got after.left full }
-
-pub received-newline : (got : List ℕ) (before after : Option Link) → newline_or_len got < length got → length got ≤ 4096 → Passed got before after → Goes (ReceivedLine got) before after
-received-newline got before None has few passed = tt
-received-newline got None (Some after) has few passed = absurd passed
-received-newline got (Some before) (Some after) has few passed =
-    record { passed = passed; few = few; enough = ap phrase_of passed.left ∙ phrase_of-newline got after.left has }
-
-pub received-all : (got : List ℕ) (before after : Option Link) → IfSome after (λ l. l.left ≡ []) → length got ≤ 4096 → Passed got before after → Goes (ReceivedLine got) before after
-received-all got before None ended few passed = tt
-received-all got None (Some after) ended few passed = absurd passed
-received-all got (Some before) (Some after) ended few passed =
-    record { passed = passed; few = few; enough = ap phrase_of (passed.left ∙ ap (λ w. got ++ w) ended ∙ append-nil got) }
-
--- a newline that is found is within the bytes
-pub newline-within : (xs : List ℕ) → list_any (λ c. c == 10) xs ≡ true → newline_or_len xs < length xs
-newline-within [] h = cc
-newline-within (x ∷ xs) h =
-    let rest = prefix_len (λ c. not (c == 10)) xs in
-    let at = newline-within xs in
-    elim (x == 10) as (λ b. ((b || list_any (λ c. c == 10) xs) ≡ true) → cond (not b) (1 + rest) 0 < length (x ∷ xs)) [ true ↦ λ _. omega arith | false ↦ λ e. omega (arith, at e) ] h
+-- and else refused
+pub phrase_refused : {A : Type 0} (view : A → List ℕ) (got : List ℕ) (before after : Option Link) (EndsFailed : Type 0) (o : Option A) (fault : OtpFault) → Goes (ReceivedLine got) before after → option_map view o ≡ phrase_of got → ok_or o faults.PhraseRefused ≡ Err fault → IsPhraseFault before after EndsFailed fault
+phrase_refused view got before after EndsFailed (Some phrase) fault received is e = absurd cc
+phrase_refused view got before after EndsFailed None fault received is e =
+    let same : faults.PhraseRefused ≡ fault = cc in
+    subst (IsPhraseFault before after EndsFailed) same (refused before after received) where
+      refused : (before after : Option Link) → Goes (ReceivedLine got) before after → Goes RefusedPhrase before after
+      refused before None received = tt
+      refused None (Some after) received = received
+      refused (Some before) (Some after) received =
+          record { refused = phrase_by_line before.left got received.enough ∙ sym is; received = got; few = received.few; passed = received.passed }

@@ -5,13 +5,14 @@ use Rattle.outside.specs.Told.{Goes}
 use Rattle.otp_mode.specs.declared.fault.OtpFault.{OtpFault}
 use Rattle.otp_mode.specs.declared.fault.OtpFault.TheVariants as faults
 use Rattle.otp_mode.specs.Outcome.{OnlyReceived, RefusedPhrase}
+use Rattle.otp_mode.specs.Lines.{line_of}
 use Rattle.otp_mode.specs.Phrase.{phrase_of}
 
--- these bytes were received, and they have the phrase that the whole input has
+-- these bytes were received, and they have the line that the whole input has
 pub record ReceivedLine (received : List ℕ) (before after : Link) : Type 0 where
   pub passed : Exchanged received [] before after
   pub few : length received ≤ 4096
-  pub enough : phrase_of before.left ≡ phrase_of received
+  pub enough : line_of before.left ≡ line_of received
 
 -- the input has this phrase, and nothing was sent
 pub record Accepted (phrase : List ℕ) (before after : Link) : Type 0 where

@@ -1,6 +1,7 @@
 pub mod Words
 pub mod Command
 pub mod Faults
+pub mod Lines
 pub mod Phrase
 pub mod Output
 pub mod Outcome

@@ -1,19 +1,9 @@
 -- Believed: the pass phrase in an input.
-use Rattle.std.specs.Prelude.{ℕ, Bool, nat_le, ◌==◌, ◌&&◌, List, length, take, Option, Some, None}
+use Rattle.std.specs.Prelude.{ℕ, Bool, nat_le, ◌&&◌, List, length, Option}
 use Rattle.std.specs.Bool.{then_some}
-use Rattle.std.specs.List.{list_all, position}
-use Rattle.std.specs.Str.Lines.{strip_carriage_return}
+use Rattle.std.specs.List.{list_all}
 use Rattle.request_catalogue.specs.Texts.{is_printable}
-
--- the line that ends at a newline's place, without a carriage return at its end; the whole input
--- where there is no newline
-abbrev pub line_to : Option ℕ → List ℕ → List ℕ
-line_to None input = input
-line_to (Some place) input = strip_carriage_return (take place input)
-
--- the first line of an input
-abbrev pub first_line : List ℕ → List ℕ
-first_line input = line_to (position (λ c. c == 10) input) input
+use Rattle.otp_mode.specs.Lines.{first_line}
 
 -- a pass phrase: 10 to 63 bytes of printable ASCII (RFC 2289, section 6.0, of which 63 is the upper
 -- bound of this program)

@@ -1,12 +1,11 @@
 -- Believed: the words of the mode `otp`.
-use Rattle.std.specs.Prelude.{ℕ, Bool, nat_le, ◌&&◌, if◌then◌else◌, List, [], ◌∷◌, length, map, codes, Option, Some, None, option_map}
-use Rattle.std.specs.Char.{is_ascii_digit, to_ascii_lowercase}
-use Rattle.std.specs.List.{list_all}
+use Rattle.std.specs.Prelude.{ℕ, ◌&&◌, if◌then◌else◌, List, [], ◌∷◌, map, codes, Option, Some, None, option_map}
+use Rattle.std.specs.Char.{to_ascii_lowercase}
 use Rattle.std.specs.Str.{bytes_eq}
+use Rattle.otp_words.specs.Challenges.{decimal_value, is_number_text}
 use Rattle.otp_hash.specs.declared.chain.Algo.{Algo}
 use Rattle.otp_hash.specs.Names.{algo_named}
 use Rattle.otp_hash.specs.Seeds.{is_seed_text}
-use Rattle.otp_words.specs.Challenges.{decimal_value}
 
 -- what the words ask for: the password of this number in the chain of this seed, by this algorithm,
 -- and the file of a word list, if one is named
@@ -16,14 +15,10 @@ pub record OtpParts : Type 0 where
   pub seed : List ℕ
   pub list : Option (List ℕ)
 
--- a number's word: one to four decimal digits
-unfoldable pub is_number_word : List ℕ → Bool
-is_number_word word = nat_le 1 (length word) && nat_le (length word) 4 && list_all is_ascii_digit word
-
 -- what four words, and perhaps a fifth, ask for
 abbrev pub parts_of : List ℕ → List ℕ → List ℕ → List ℕ → Option (List ℕ) → Option OtpParts
 parts_of mode algo number seed list =
-    if bytes_eq mode (codes "otp") && is_number_word number && is_seed_text seed
+    if bytes_eq mode (codes "otp") && is_number_text number && is_seed_text seed
     then option_map (λ a. record { algo = a; number = decimal_value number; seed = map to_ascii_lowercase seed; list = list }) (algo_named algo)
     else None
 

@@ -1,18 +1,12 @@
 //! The words of the mode.
 
-ghost use Rattle.std.specs.Prelude.{◌≡◌, ◌≤◌, ◌∷◌, IfSome, length, map, option_map};
-ghost use Rattle.std.specs.Bool.{then_some};
-ghost use Rattle.std.specs.Char.{is_ascii_digit};
-ghost use Rattle.std.specs.List.{list_all};
+ghost use Rattle.std.specs.Prelude.{◌≡◌, ◌∷◌, map, option_map};
 ghost use Rattle.std.specs.Option.{option_copied};
-ghost use Rattle.otp_words.specs.Challenges.{decimal_value};
 ghost use Rattle.otp_mode.specs.Command.{command_parts};
-ghost use Rattle.otp_mode.specs.Words.{is_number_word, otp_command, parts_of};
+ghost use Rattle.otp_mode.specs.Words.{otp_command, parts_of};
 
 use otp_hash::{Algo, Seed, algo_named};
-
-/// The most digits of a number.
-const NUMBER_MAX: usize = 4;
+use otp_words::read_number;
 
 /// A command `otp ALGO N SEED` or `otp ALGO N SEED WORDS`.
 #[derive(Clone, Copy)]
@@ -64,35 +58,4 @@ fn command_of<'a>(
         seed,
         list,
     })
-}
-
-/// The number of one to four decimal digits.
-#[tactic(auto, unfolding(crate::specs::Words::is_number_word))]
-fn read_number(word: &[u8]) -> Option<u16>
-    ensures value { result ≡ then_some (is_number_word word.now) (decimal_value word.now) }
-    ensures within { IfSome result (λ n. n ≤ 9999) }
-{
-    if !is_number_word(word) {
-        return None;
-    }
-    let mut number = 0;
-    for digit in word {
-        number = number * 10 + u16::from(*digit - b'0');
-    }
-    Some(number)
-}
-
-/// Whether a word is one to four decimal digits.
-#[tactic(auto, unfolding(crate::specs::Words::is_number_word))]
-fn is_number_word(word: &[u8]) -> bool
-    ensures { result ≡ is_number_word word.now }
-{
-    !word.is_empty() && word.len() <= NUMBER_MAX && are_digits(word)
-}
-
-/// Whether all bytes are ASCII digits.
-pub fn are_digits(word: &[u8]) -> bool
-    ensures { result ≡ list_all is_ascii_digit word.now }
-{
-    word.iter().all(|byte| byte.is_ascii_digit())
 }

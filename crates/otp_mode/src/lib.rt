@@ -1,15 +1,17 @@
-//! The mode `otp`: a user computes a one-time password of RFC 2289 from a pass phrase.
+//! The mode `otp`: a user computes a one-time password of RFC 2289 from a pass phrase. Believe
+//! `specs/Words.antt`, `specs/Outcome.antt` and the files that these name; the top call stands above.
 #![tactic(auto)]
 
 mod command;
 mod fault;
+mod line;
 mod phrase;
 mod printing;
 mod run;
 
-pub use command::{OtpCommand, are_digits, read_otp_command};
+pub use command::{OtpCommand, read_otp_command};
 pub use fault::OtpFault;
-pub use phrase::first_line;
+pub use line::{LINE_MAX, line_in, receive_line};
 pub use run::run_otp;
 
 #[cfg(test)]

@@ -10,13 +10,13 @@ use Rattle.std.proofs.lemmas.List.{drop_at, take_rest}
 use Rattle.otp_hash.specs.declared.chain.Algo.{Algo}
 use Rattle.otp_hash.specs.Seeds.{is_seed_text}
 use Rattle.otp_words.specs.Blanks.{is_blank}
-use Rattle.otp_words.specs.Challenges.{challenge_word, decimal_value, is_close, IsNumber, BeginsWithChallenge}
+use Rattle.otp_words.specs.Challenges.{challenge_word, decimal_value, is_close, is_number_text, IsNumber, BeginsWithChallenge}
 use Rattle.otp_words.specs.Inner.{ArePieces, is_closed}
 use Rattle.otp_words.proofs.HexLemmas.{then_some-parts}
 use Rattle.otp_words.proofs.RunLemmas.{run_exact, stops_at}
 
 -- a decimal digit is no blank
-is_blank-digit : (c : ℕ) → is_ascii_digit c ≡ true → is_blank c ≡ false
+pub is_blank-digit : (c : ℕ) → is_ascii_digit c ≡ true → is_blank c ≡ false
 is_blank-digit c e = grind (arith, nat_tests)
 
 -- a blank is no decimal digit
@@ -24,7 +24,7 @@ is_ascii_digit-blank : (c : ℕ) → is_blank c ≡ true → is_ascii_digit c �
 is_ascii_digit-blank c e = grind (arith, nat_tests)
 
 -- a letter or digit is no blank
-is_blank-alphanumeric : (c : ℕ) → is_ascii_alphanumeric c ≡ true → is_blank c ≡ false
+pub is_blank-alphanumeric : (c : ℕ) → is_ascii_alphanumeric c ≡ true → is_blank c ≡ false
 is_blank-alphanumeric c e = grind (arith, nat_tests)
 
 -- what closes a challenge is no letter or digit
@@ -32,11 +32,18 @@ is_ascii_alphanumeric-close : (c : ℕ) → is_close c ≡ true → is_ascii_alp
 is_ascii_alphanumeric-close c e = grind (arith, nat_tests)
 
 -- the bytes of a seed
-seed_text_parts : (name : List ℕ) → is_seed_text name ≡ true → (1 ≤ length name) × (list_all is_ascii_alphanumeric name ≡ true)
+pub seed_text_parts : (name : List ℕ) → is_seed_text name ≡ true → (1 ≤ length name) × (list_all is_ascii_alphanumeric name ≡ true)
 unfolding is_seed_text
 seed_text_parts name e =
     let parts = and_parts (nat_le 1 (length name) && nat_le (length name) 16) (list_all is_ascii_alphanumeric name) e in
     let bounds = and_parts (nat_le 1 (length name)) (nat_le (length name) 16) parts.0 in
+    (grind (arith, nat_tests), parts.1)
+
+-- the digits of a number
+pub number_parts : (text : List ℕ) → is_number_text text ≡ true → (1 ≤ length text) × (list_all is_ascii_digit text ≡ true)
+number_parts text e =
+    let parts = and_parts (nat_le 1 (length text) && nat_le (length text) 4) (list_all is_ascii_digit text) e in
+    let bounds = and_parts (nat_le 1 (length text)) (nat_le (length text) 4) parts.0 in
     (grind (arith, nat_tests), parts.1)
 
 -- what closes a challenge stops a seed
@@ -53,8 +60,8 @@ pieces_only text algo n seed used front gap digits second name rest is long part
     let tail0 : List ℕ = is.gap ++ tail1 in
     let begins : drop front text ≡ tail0 = ap (λ (t : List ℕ). drop front t) is.spelled ∙ drop_at (challenge_word algo) tail0 front (sym long) in
     let letters = seed_text_parts is.name is.legal in
-    let first = run_exact is_blank (drop front text) gap parts.behind_gap is.gap tail1 parts.gap_is begins is.parted.blank (stops_at is_blank is_ascii_digit is.digits tail2 is_blank-digit is.number.some is.number.legal) in
-    let second_run = run_exact is_ascii_digit parts.behind_gap digits parts.behind_digits is.digits tail2 parts.digits_is first.1 is.number.legal (stops_at is_ascii_digit is_blank is.second_gap tail3 is_ascii_digit-blank is.parted_again.some is.parted_again.blank) in
+    let first = run_exact is_blank (drop front text) gap parts.behind_gap is.gap tail1 parts.gap_is begins is.parted.blank (stops_at is_blank is_ascii_digit is.digits tail2 is_blank-digit (number_parts is.digits is.number.legal).0 (number_parts is.digits is.number.legal).1) in
+    let second_run = run_exact is_ascii_digit parts.behind_gap digits parts.behind_digits is.digits tail2 parts.digits_is first.1 (number_parts is.digits is.number.legal).1 (stops_at is_ascii_digit is_blank is.second_gap tail3 is_ascii_digit-blank is.parted_again.some is.parted_again.blank) in
     let third = run_exact is_blank parts.behind_digits second parts.behind_second is.second_gap tail3 parts.second_is second_run.1 is.parted_again.blank (stops_at is_blank is_ascii_alphanumeric is.name tail4 is_blank-alphanumeric letters.0 letters.1) in
     let fourth = run_exact is_ascii_alphanumeric parts.behind_second name rest is.name tail4 parts.name_is third.1 letters.1 (close_stops is.close is.unread is.closed) in
     (first.0, second_run.0, third.0, fourth.0, fourth.1)
@@ -92,18 +99,14 @@ parts_only text word gap digits second name rest algo there n seed used found is
     (same, pieces.0, pieces.1, pieces.2, pieces.3, pieces.4)
 
 -- what is in one to four digits is read
-pub number_only : (digits there : List ℕ) (n : ℕ) (r : Option ℕ) → IsNumber digits n → there ≡ digits → r ≡ then_some (nat_le 1 (length there) && nat_le (length there) 4) (decimal_value there) → r ≡ Some n
-number_only digits there n r is same e =
-    let some : nat_le 1 (length digits) ≡ true = grind (arith, nat_tests, is.some) in
-    let few : nat_le (length digits) 4 ≡ true = grind (arith, nat_tests, is.few) in
-    e ∙ rw (same, some, few) (ap (λ (v : ℕ). Some v) (sym is.value))
+pub number_only : (digits there : List ℕ) (n : ℕ) (r : Option ℕ) → IsNumber digits n → there ≡ digits → r ≡ then_some (is_number_text there) (decimal_value there) → r ≡ Some n
+number_only digits there n r is same e = e ∙ rw (same, is.legal) (ap (λ (v : ℕ). Some v) (sym is.value))
 
 -- what is read is in one to four digits
-pub number_found : (digits : List ℕ) (n : ℕ) (r : Option ℕ) → list_all is_ascii_digit digits ≡ true → r ≡ Some n → r ≡ then_some (nat_le 1 (length digits) && nat_le (length digits) 4) (decimal_value digits) → IsNumber digits n
-number_found digits n r legal some e =
-    let parts = then_some-parts (nat_le 1 (length digits) && nat_le (length digits) 4) (decimal_value digits) n (sym e ∙ some) in
-    let bounds = and_parts (nat_le 1 (length digits)) (nat_le (length digits) 4) parts.0 in
-    record { some = grind (arith, nat_tests); few = grind (arith, nat_tests); legal = legal; value = sym parts.1 }
+pub number_found : (digits : List ℕ) (n : ℕ) (r : Option ℕ) → r ≡ Some n → r ≡ then_some (is_number_text digits) (decimal_value digits) → IsNumber digits n
+number_found digits n r some e =
+    let parts = then_some-parts (is_number_text digits) (decimal_value digits) n (sym e ∙ some) in
+    record { legal = parts.0; value = sym parts.1 }
 
 -- a text that is closed
 pub closed_parts : (rest : List ℕ) → is_closed rest ≡ true → (close : ℕ) × (unread : List ℕ) × (rest ≡ close ∷ unread) × (is_close close ≡ true)

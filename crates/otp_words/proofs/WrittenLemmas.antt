@@ -20,32 +20,24 @@ digit_legal d small = grind (arith, nat_tests)
 -- numbers of one to four digits
 one_digit : (n : ℕ) → n < 10 → IsNumber (drop 3 (four_digits n)) n
 one_digit n small = record {
-  some = omega arith;
-  few = omega arith;
   legal = rw (digit_legal (n % 10) (mod_below n 10 (omega arith))) refl;
   value = omega arith;
 }
 
 two_digits : (n : ℕ) → n < 100 → IsNumber (drop 2 (four_digits n)) n
 two_digits n small = record {
-  some = omega arith;
-  few = omega arith;
   legal = rw (digit_legal (n / 10 % 10) (mod_below (n / 10) 10 (omega arith)), digit_legal (n % 10) (mod_below n 10 (omega arith))) refl;
   value = omega arith;
 }
 
 three_digits : (n : ℕ) → n < 1000 → IsNumber (drop 1 (four_digits n)) n
 three_digits n small = record {
-  some = omega arith;
-  few = omega arith;
   legal = rw (digit_legal (n / 100 % 10) (mod_below (n / 100) 10 (omega arith)), digit_legal (n / 10 % 10) (mod_below (n / 10) 10 (omega arith)), digit_legal (n % 10) (mod_below n 10 (omega arith))) refl;
   value = omega arith;
 }
 
 all_digits : (n : ℕ) → n ≤ 9999 → IsNumber (drop 0 (four_digits n)) n
 all_digits n small = record {
-  some = omega arith;
-  few = omega arith;
   legal = rw (digit_legal (n / 1000) (omega arith), digit_legal (n / 100 % 10) (mod_below (n / 100) 10 (omega arith)), digit_legal (n / 10 % 10) (mod_below (n / 10) 10 (omega arith)), digit_legal (n % 10) (mod_below n 10 (omega arith))) refl;
   value = omega arith;
 }

@@ -1,5 +1,5 @@
 -- Believed: the text of a challenge (RFC 2289).
-use Rattle.std.specs.Prelude.{◌≡◌, ℕ, ◌+◌, ◌-◌, ◌*◌, ◌≤◌, Bool, true, List, [], ◌∷◌, ◌++◌, length, map, fold, codes, ◌==◌, ◌||◌}
+use Rattle.std.specs.Prelude.{◌≡◌, ℕ, ◌+◌, ◌-◌, ◌*◌, Bool, true, List, [], ◌∷◌, ◌++◌, length, map, fold, codes, nat_le, ◌==◌, ◌&&◌, ◌||◌}
 use Rattle.std.specs.Char.{is_ascii_digit, to_ascii_lowercase}
 use Rattle.std.specs.Fmt.{decimal}
 use Rattle.std.specs.List.{list_all}
@@ -17,6 +17,10 @@ challenge_word algo = codes "otp-" ++ algo_name algo
 unfoldable pub challenge_of : Algo → ℕ → List ℕ → List ℕ
 challenge_of algo n seed = challenge_word algo ++ 32 ∷ decimal n ++ 32 ∷ seed ++ 10 ∷ []
 
+-- one to four decimal digits
+abbrev pub is_number_text : List ℕ → Bool
+is_number_text text = nat_le 1 (length text) && nat_le (length text) 4 && list_all is_ascii_digit text
+
 -- the number of decimal digits, leading zeros allowed
 abbrev pub decimal_value : List ℕ → ℕ
 decimal_value digits = fold (λ number digit. number * 10 + (digit - 48)) 0 digits
@@ -27,9 +31,7 @@ is_close c = c == 32 || c == 10
 
 -- a number in one to four decimal digits
 pub record IsNumber (digits : List ℕ) (n : ℕ) : Type 0 where
-  pub some : 1 ≤ length digits
-  pub few : length digits ≤ 4
-  pub legal : list_all is_ascii_digit digits ≡ true
+  pub legal : is_number_text digits ≡ true
   pub value : n ≡ decimal_value digits
 
 -- a text begins with a challenge: the word of an algorithm, a number and a seed in any letter case,

@@ -1,11 +1,12 @@
 //! The text of a challenge.
 
-ghost use Rattle.std.specs.Prelude.{◌≡◌, ℕ, ◌+◌, ◌≤◌, List, ◌++◌, length, take, drop};
+ghost use Rattle.std.specs.Prelude.{◌≡◌, ℕ, ◌≤◌, List, ◌++◌, length, drop};
 ghost use Rattle.otp_hash.specs.SeedBytes.{seed_bytes};
 ghost use Rattle.otp_words.specs.Challenges.{challenge_word, challenge_of, BeginsWithChallenge};
 ghost use Rattle.otp_words.specs.Inner.{four_digits, leading_zeros};
 
 use otp_hash::{Algo, Seed};
+use request_catalogue::put;
 
 /// Writes the challenge of a number and a seed to the front of `out`, as `otp-md5 99 test` and a
 /// newline, and gives its length. What is written is read whole, whatever follows it.
@@ -62,15 +63,4 @@ fn leading_zeros(n: u16) -> usize
         100..=999 => 1,
         _ => 0,
     }
-}
-
-/// Puts the bytes at a place of the buffer, and gives the place behind them.
-fn put(out: &mut [u8], at: usize, bytes: &[u8]) -> usize
-    requires { at + length bytes.now ≤ length out.old }
-    ensures end { result ≡ at + length bytes.now }
-    ensures out { out.new ≡ take at out.old ++ bytes.now ++ drop (at + length bytes.now) out.old }
-{
-    let end = at + bytes.len();
-    out[at..end].copy_from_slice(bytes);
-    end
 }

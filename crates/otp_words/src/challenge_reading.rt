@@ -1,21 +1,18 @@
 //! The reading of a challenge.
 
-ghost use Rattle.std.specs.Prelude.{◌≡◌, ℕ, ◌≤◌, List, IfOk, IfSome, IsOkAnd, Some, true, ◌++◌, drop, length, nat_le, ◌&&◌};
-ghost use Rattle.std.specs.Bool.{then_some};
+ghost use Rattle.std.specs.Prelude.{◌≡◌, ℕ, ◌≤◌, List, IfOk, IfSome, IsOkAnd, Some, ◌++◌, drop, length};
 ghost use Rattle.std.specs.Char.{is_ascii_digit, is_ascii_alphanumeric};
-ghost use Rattle.std.specs.List.{list_all, prefix_len};
+ghost use Rattle.std.specs.List.{prefix_len};
 ghost use Rattle.otp_hash.specs.declared.chain.Algo.{Algo};
 ghost use Rattle.otp_hash.specs.SeedBytes.{seed_bytes};
-ghost use Rattle.otp_words.specs.Challenges.{challenge_word, decimal_value, BeginsWithChallenge};
+ghost use Rattle.otp_words.specs.Challenges.{challenge_word, BeginsWithChallenge};
 ghost use Rattle.otp_words.specs.Readings.{HasParts};
 ghost use Rattle.otp_words.specs.Inner.{ArePieces, is_closed};
 
 use crate::blanks::gap_len;
 use crate::challenge::challenge_word;
+use crate::number::read_number;
 use otp_hash::{Algo, Seed};
-
-/// The most digits of a challenge's number.
-const DIGITS_MAX: usize = 4;
 
 /// A challenge that was read from the front of a text.
 #[derive(Clone, Copy, PartialEq, Eq, Debug)]
@@ -56,7 +53,7 @@ pub fn read_challenge(text: &[u8]) -> Result<Challenge, Unreadable>
     if parts.gap.is_empty() || parts.second_gap.is_empty() {
         return Err(Unreadable);
     }
-    let n = number_of(parts.digits).ok_or(Unreadable)?;
+    let n = read_number(parts.digits).ok_or(Unreadable)?;
     let seed = Seed::of(parts.name).ok_or(Unreadable)?;
     if !is_closed(parts.rest) {
         return Err(Unreadable);
@@ -107,21 +104,6 @@ fn parts_of(text: &[u8]) -> Parts<'_>
         name,
         rest,
     }
-}
-
-/// The number of one to four digits.
-fn number_of(digits: &[u8]) -> Option<u16>
-    requires { list_all is_ascii_digit digits.now ≡ true }
-    ensures { result ≡ then_some (nat_le 1 (length digits.now) && nat_le (length digits.now) 4) (decimal_value digits.now) }
-{
-    if digits.is_empty() || digits.len() > DIGITS_MAX {
-        return None;
-    }
-    let mut number = 0;
-    for digit in digits {
-        number = number * 10 + u16::from(*digit - b'0');
-    }
-    Some(number)
 }
 
 /// The number of decimal digits at the front.

@@ -1,5 +1,6 @@
-//! The spellings of one-time passwords (RFC 2289): six words of a dictionary, or hexadecimal
-//! digits, and the text of a challenge.
+//! The spellings of one-time passwords (RFC 2289): six words of a dictionary, or hexadecimal digits,
+//! and the text of a challenge. Believe `specs/` but for `Inner.antt` and `Readings.antt`; the session
+//! loop and the modes stand above.
 #![tactic(auto)]
 
 mod blanks;
@@ -9,6 +10,7 @@ mod dictionary;
 mod digits;
 mod fault;
 mod hexadecimal;
+mod number;
 mod reading;
 mod spellings;
 mod words;
@@ -19,6 +21,7 @@ pub use challenge_reading::{Challenge, Unreadable, read_challenge};
 pub use dictionary::Dictionary;
 pub use fault::{DictError, DictFault, DictRule};
 pub use hexadecimal::to_hex;
+pub use number::read_number;
 pub use reading::candidates;
 pub use spellings::Candidates;
 pub use words::to_words;

@@ -1,5 +1,7 @@
-//! The outside of the monitor: the traits through which it reaches children, clients, logs, files
-//! and its site, and objects in memory that stand in for them.
+//! The outside of the monitor: the traits through which it reaches children, clients, logs, files and
+//! its site, and objects in memory that stand in for them. Believe `specs/Scene.antt`,
+//! `specs/Link.antt`, `specs/Files.antt` and `specs/Told.antt`; all that reaches the outside stands
+//! above.
 #![tactic(auto)]
 
 mod act;

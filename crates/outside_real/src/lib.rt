@@ -1,5 +1,6 @@
-//! The real outside: a Unix socket, child programs, files, standard input and output, and a log to
-//! any writer. Each object counts its faults and tells nothing of the bytes that pass.
+//! The real outside: a Unix socket, child programs, files, standard input and output, and a log to any
+//! writer. Each object counts its faults and tells nothing of the bytes that pass. Nothing here need be
+//! believed but what `README.md` says of the machine; the program stands above.
 #![tactic(auto)]
 
 mod again;

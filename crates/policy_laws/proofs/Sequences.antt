@@ -12,8 +12,9 @@ use Rattle.policy_model.specs.declared.account.Account.{Account}
 use Rattle.policy_model.specs.declared.event.Ask.{Ask}
 use Rattle.policy_model.specs.declared.event.Ask.TheVariants as asks
 use Rattle.policy_model.specs.declared.event.Event.{Event}
-use Rattle.policy_model.specs.Asks.{accepts, decoys_from, gives_up, is_challenge_for, is_reply, is_abandon, is_permit, reserves, takes_user, value_of}
+use Rattle.policy_model.specs.declared.reading.TheConstants.{DECOYS_FROM}
 use Rattle.policy_laws.specs.Consequences.{OneTakerAtATime, SequenceFalls}
+use Rattle.policy_model.specs.Asks.{accepts, gives_up, is_challenge_for, is_reply, is_abandon, is_permit, reserves, takes_user, value_of}
 use Rattle.policy_model.specs.Journal.{Place, is_own}
 use Rattle.policy_model.specs.Legal.{IsLegal, IsNext}
 use Rattle.policy_model.specs.Logins.{account_of, current_sequence, holder_by, holder_of, is_live, is_user, challenged_user, last_taking_of, replies_of, reply_for, session_taking, was_given_up}
@@ -69,7 +70,7 @@ no_taking user (asks.Reply words hex) h = refl
 no_taking user _ h = absurd cc
 
 reply_takes_none : (e : Event) (user : Name) → accepts e ≡ true → reserves user e ≡ false
-reply_takes_none e user h = ap (λ b. (b && is_permit e.decision) && nat_lt (value_of e.decision) decoys_from) (no_taking user e.ask (and_parts (is_reply e.ask) (is_permit e.decision) h).0)
+reply_takes_none e user h = ap (λ b. (b && is_permit e.decision) && nat_lt (value_of e.decision) DECOYS_FROM) (no_taking user e.ask (and_parts (is_reply e.ask) (is_permit e.decision) h).0)
 
 not_zero : (a b : ℕ) → eqb (a - b) 0 ≡ false → b < a
 not_zero a b h = grind (arith, nat_tests)
@@ -239,7 +240,7 @@ last_place {X} p xs d x h = go (last_from p None xs d) where
 not_zero_from : (a b : ℕ) → b < a → not (eqb (a - b) 0) ≡ true
 not_zero_from a b lt = grind (arith, nat_tests)
 
-below_from : (value : ℕ) → value < decoys_from → nat_lt value decoys_from ≡ true
+below_from : (value : ℕ) → value < DECOYS_FROM → nat_lt value DECOYS_FROM ≡ true
 below_from value lt = grind (arith, nat_tests)
 
 -- while a session holds a user the user can log in, so each permitted CHALLENGE for the user behind the session's own isn't a decoy
@@ -256,10 +257,10 @@ still_reserves setup journal legal user p m k d pm mk kn reserved left is =
     let live : is_live (take m journal) t.account ≡ true = ap (λ b. b && not (eqb (current_sequence (take m journal) t.account) 0)) t.enabled ∙ some in
     let value = live_challenge setup (take m journal) (get_or journal m d) user t.account (legal m d (omega arith)) is t.found live in
     let first = below_decoys (get_or journal p d) user reserved in
-    let below : value_of (get_or journal m d).decision < decoys_from = omega (arith, value, number, a.1, first, before) in
-    ap (λ b. b && nat_lt (value_of (get_or journal m d).decision) decoys_from) is ∙ below_from (value_of (get_or journal m d).decision) below where
-      below_decoys : (e : Event) (user : Name) → reserves user e ≡ true → value_of e.decision < decoys_from
-      below_decoys e user h = let b = (and_parts (takes_user user e) (nat_lt (value_of e.decision) decoys_from) h).1 in grind (arith, nat_tests, b)
+    let below : value_of (get_or journal m d).decision < DECOYS_FROM = omega (arith, value, number, a.1, first, before) in
+    ap (λ b. b && nat_lt (value_of (get_or journal m d).decision) DECOYS_FROM) is ∙ below_from (value_of (get_or journal m d).decision) below where
+      below_decoys : (e : Event) (user : Name) → reserves user e ≡ true → value_of e.decision < DECOYS_FROM
+      below_decoys e user h = let b = (and_parts (takes_user user e) (nat_lt (value_of e.decision) DECOYS_FROM) h).1 in grind (arith, nat_tests, b)
 
 -- a place of a journal, with the events before it
 abbrev place_at : List Event → ℕ → Event → Place

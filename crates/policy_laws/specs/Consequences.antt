@@ -59,3 +59,10 @@ pub record IsVerifiedBefore (setup : Settings) (journal : List Event) (k session
 -- before each permitted EXPORT of a session stands such a REPLY for the account that it names
 pub record VerifiedBeforeExport (setup : Settings) (journal : List Event) : Type 0 where
   pub verified : (k : ℕ) (e : Event) → slice_get journal k ≡ Some e → exports e ≡ true → IsVerifiedBefore setup journal k e.session (value_of e.decision)
+
+-- all of these: each export of a user's state stands behind the session's own accepted reply for that user; no password of a user is accepted twice; a user's sequence falls with each; and nobody takes a user between a session's challenge and its accepted reply
+pub record HasConsequences (setup : Settings) (journal : List Event) : Type 0 where
+  pub verified : VerifiedBeforeExport setup journal
+  pub once : NoPasswordTwice setup journal
+  pub falls : SequenceFalls setup journal
+  pub one_taker : OneTakerAtATime setup journal

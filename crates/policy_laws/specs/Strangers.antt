@@ -3,14 +3,14 @@ use Rattle.std.specs.Prelude.{ℕ, ◌≡◌, Bool, true, false, not, ◌&&◌, 
 use Rattle.std.specs.List.{last_or, list_any}
 use Rattle.request_catalogue.specs.declared.kind.Kind.{Kind}
 use Rattle.request_catalogue.specs.declared.kind.Kind.TheVariants as kinds
+use Rattle.request_catalogue.specs.declared.rules.TheConstants.{ASKS_SPENT, NOT_IN_PHASE, ONCE_ONLY, NO_MATCH, NO_HANDLE}
 use Rattle.request_catalogue.specs.Kinds.{kind_number}
-use Rattle.request_catalogue.specs.Rules.{asks_spent, not_in_phase, once_only, no_match, no_handle}
 use Rattle.policy_model.specs.declared.event.Ask.{Ask}
 use Rattle.policy_model.specs.declared.event.Ask.TheVariants as asks
 use Rattle.policy_model.specs.declared.event.Decision.{Decision}
 use Rattle.policy_model.specs.declared.event.Decision.TheVariants.{Permit, Deny, Lost}
 use Rattle.policy_model.specs.declared.event.Event.{Event}
-use Rattle.policy_model.specs.Asks.{accepts, is_challenge, is_end, is_lost, is_permit, is_proper, came_by_frame, is_violation, kind_of, number_of, opens, request_number, shown_of}
+use Rattle.policy_model.specs.Asks.{accepts, is_challenge, is_end, is_lost, is_permit, is_proper, came_by_frame, is_violation, kind_of, number_of_kind, opens, request_number, shown_of}
 use Rattle.policy_model.specs.Journal.{Place, has_event, is_own}
 use Rattle.policy_model.specs.Settings.{Settings}
 
@@ -42,7 +42,7 @@ told_in journal session = map told_of (asks_in journal session)
 
 -- it was of this kind
 abbrev pub told_kind : Kind → Told → Bool
-told_kind kind t = number_of t.kind == kind_number kind
+told_kind kind t = number_of_kind t.kind == kind_number kind
 
 -- it was of this kind and permitted
 abbrev pub told_permit : Kind → Told → Bool
@@ -66,24 +66,24 @@ is_challenged told = told_taking (last_or None (filter told_login_step told))
 
 -- the rules of one kind of request
 abbrev pub stranger_kind : List Told → Ask → Decision
-stranger_kind told asks.Banner = if list_any (told_permit kinds.Banner) told then Deny once_only 1 else Permit 0
-stranger_kind told (asks.Reply words hex) = if is_challenged told then Deny no_match 0 else Deny not_in_phase 3
-stranger_kind told asks.Abandon = if is_challenged told then Permit 0 else Deny not_in_phase 4
-stranger_kind told (asks.Export len) = Deny not_in_phase 5
-stranger_kind told asks.Import = Deny not_in_phase 6
-stranger_kind told (asks.ReadAt handle offset max) = if handle == 0 then Permit 0 else Deny no_handle handle
-stranger_kind told (asks.WriteAt handle offset len) = if handle == 0 then Permit 0 else Deny no_handle handle
-stranger_kind told (asks.OpenFile mode name) = Deny not_in_phase 9
-stranger_kind told (asks.CloseFile handle) = Deny not_in_phase 10
-stranger_kind told (asks.Info number) = Deny not_in_phase 11
+stranger_kind told asks.Banner = if list_any (told_permit kinds.Banner) told then Deny ONCE_ONLY 1 else Permit 0
+stranger_kind told (asks.Reply words hex) = if is_challenged told then Deny NO_MATCH 0 else Deny NOT_IN_PHASE 3
+stranger_kind told asks.Abandon = if is_challenged told then Permit 0 else Deny NOT_IN_PHASE 4
+stranger_kind told (asks.Export len) = Deny NOT_IN_PHASE 5
+stranger_kind told asks.Import = Deny NOT_IN_PHASE 6
+stranger_kind told (asks.ReadAt handle offset max) = if handle == 0 then Permit 0 else Deny NO_HANDLE handle
+stranger_kind told (asks.WriteAt handle offset len) = if handle == 0 then Permit 0 else Deny NO_HANDLE handle
+stranger_kind told (asks.OpenFile mode name) = Deny NOT_IN_PHASE 9
+stranger_kind told (asks.CloseFile handle) = Deny NOT_IN_PHASE 10
+stranger_kind told (asks.Info number) = Deny NOT_IN_PHASE 11
 stranger_kind told (asks.Bad rule detail) = Deny rule detail
 stranger_kind told _ = Permit 0
 
 -- what a stranger is told of an ask other than an opening, an end and a CHALLENGE, by what the session was told before: it looks at no account, no password, no reading and no moment
 unfoldable pub stranger_verdict : ℕ → List Told → Ask → Decision
 stranger_verdict requests told ask =
-    if list_any told_end told then Deny not_in_phase (request_number ask)
-    else (if length told == requests then Deny asks_spent requests
+    if list_any told_end told then Deny NOT_IN_PHASE (request_number ask)
+    else (if length told == requests then Deny ASKS_SPENT requests
     else stranger_kind told ask)
 
 -- an event that is no opening, no end, no CHALLENGE, no permitted REPLY and not lost, of a session that was opened before it and has no permitted REPLY before it

@@ -1,10 +1,11 @@
 -- Believed: what can be read off one ask, one decision and one event.
 use Rattle.std.specs.Prelude.{ℕ, Bool, true, false, not, ◌&&◌, ◌||◌, ◌==◌, nat_le, nat_lt, is_some, Option, Some, None, if◌then◌else◌}
+use Rattle.request_catalogue.specs.declared.rules.TheConstants.{HOLD_LOST, NO_MATCH}
+use Rattle.request_catalogue.specs.declared.texts.Label.{Label}
 use Rattle.request_catalogue.specs.declared.texts.Name.{Name}
 use Rattle.request_catalogue.specs.declared.kind.Kind.{Kind}
 use Rattle.request_catalogue.specs.declared.kind.Kind.TheVariants as kinds
 use Rattle.request_catalogue.specs.Kinds.{kind_number}
-use Rattle.request_catalogue.specs.Rules.{hold_lost, no_match}
 use Rattle.policy_model.specs.declared.event.Why.{Why}
 use Rattle.policy_model.specs.declared.event.Why.TheVariants as whys
 use Rattle.policy_model.specs.declared.event.Ask.{Ask}
@@ -12,6 +13,7 @@ use Rattle.policy_model.specs.declared.event.Ask.TheVariants as asks
 use Rattle.policy_model.specs.declared.event.Decision.{Decision}
 use Rattle.policy_model.specs.declared.event.Decision.TheVariants as decisions
 use Rattle.policy_model.specs.declared.event.Event.{Event}
+use Rattle.policy_model.specs.declared.reading.TheConstants.{DECOYS_FROM}
 use Rattle.policy_model.specs.Settings.{same_name}
 
 abbrev pub is_begin : Ask → Bool
@@ -75,6 +77,11 @@ abbrev pub mode_of : Ask → ℕ
 mode_of (asks.OpenFile mode name) = mode
 mode_of _ = 0
 
+-- the label that an OPEN gives
+abbrev pub label_named : Ask → Option Label
+label_named (asks.OpenFile mode name) = Some name
+label_named _ = None
+
 -- the rule that an ask names is in its range
 abbrev pub is_proper_why : Why → Bool
 is_proper_why (whys.Violation rule) = nat_le 1 rule && nat_le rule 7
@@ -104,13 +111,13 @@ kind_of asks.Finish = Some kinds.Finish
 kind_of (asks.Bad rule detail) = None
 kind_of (asks.End why) = None
 
-abbrev pub number_of : Option Kind → ℕ
-number_of None = 0
-number_of (Some kind) = kind_number kind
+abbrev pub number_of_kind : Option Kind → ℕ
+number_of_kind None = 0
+number_of_kind (Some kind) = kind_number kind
 
 -- the request's number, and 0 for an opening, an end and a frame that is no request
 abbrev pub request_number : Ask → ℕ
-request_number ask = number_of (kind_of ask)
+request_number ask = number_of_kind (kind_of ask)
 
 abbrev pub is_permit : Decision → Bool
 is_permit (decisions.Permit value) = true
@@ -127,12 +134,12 @@ value_of _ = 0
 
 -- a denial by one of the rules for replies
 abbrev pub is_login_denial : Decision → Bool
-is_login_denial (decisions.Deny rule detail) = nat_le hold_lost rule && nat_le rule no_match
+is_login_denial (decisions.Deny rule detail) = nat_le HOLD_LOST rule && nat_le rule NO_MATCH
 is_login_denial _ = false
 
 -- what a child is told of a decision: that a reply was refused, and not why
 abbrev pub shown_of : Decision → Decision
-shown_of decision = if is_login_denial decision then decisions.Deny no_match 0 else decision
+shown_of decision = if is_login_denial decision then decisions.Deny NO_MATCH 0 else decision
 
 -- a denial that ends the session: by a rule of 1 to 7
 abbrev pub is_violation : Decision → Bool
@@ -154,13 +161,9 @@ takes e = is_some (challenge_name e.ask) && is_permit e.decision
 abbrev pub takes_user : Name → Event → Bool
 takes_user user e = is_challenge_for user e.ask && is_permit e.decision
 
--- the value of a permitted CHALLENGE for a user that can log in is a number of the user's chain, below this; that of a decoy is this and the decoy's number
-abbrev pub decoys_from : ℕ
-decoys_from = 10000
-
 -- a permitted CHALLENGE that isn't a decoy reserves its user
 abbrev pub reserves : Name → Event → Bool
-reserves user e = takes_user user e && nat_lt (value_of e.decision) decoys_from
+reserves user e = takes_user user e && nat_lt (value_of e.decision) DECOYS_FROM
 
 -- after a REPLY, whatever was decided, and a permitted ABANDON its session holds no user
 abbrev pub gives_up : Event → Bool

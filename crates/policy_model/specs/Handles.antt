@@ -2,6 +2,7 @@
 use Rattle.std.specs.Prelude.{ℕ, not, ◌==◌, ◌&&◌, List, [], ◌∷◌, Option, is_none, unwrap_or, if◌then◌else◌}
 use Rattle.std.specs.List.{find, list_any}
 use Rattle.policy_model.specs.declared.event.Event.{Event}
+use Rattle.policy_model.specs.declared.handles.TheConstants.{HANDLE_NUMBERS}
 use Rattle.policy_model.specs.Asks.{closes_file, handle_of, opens_file}
 use Rattle.policy_model.specs.Journal.{events_of}
 
@@ -18,10 +19,6 @@ live_handles_of journal session = live_opens (events_of journal session)
 abbrev pub handle_opening : List Event → ℕ → ℕ → Option Event
 handle_opening journal session handle = find (λ e. handle_of e == handle) (live_handles_of journal session)
 
--- the numbers that handles have
-abbrev pub handle_numbers : List ℕ
-handle_numbers = 1 ∷ 2 ∷ 3 ∷ 4 ∷ 5 ∷ 6 ∷ 7 ∷ 8 ∷ []
-
 -- the least handle of 1 to 8 that isn't live, and 0 where there is none
 abbrev pub free_handle_of : List Event → ℕ → ℕ
-free_handle_of journal session = unwrap_or (find (λ n. is_none (handle_opening journal session n)) handle_numbers) 0
+free_handle_of journal session = unwrap_or (find (λ n. is_none (handle_opening journal session n)) HANDLE_NUMBERS) 0

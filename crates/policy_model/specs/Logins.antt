@@ -4,7 +4,8 @@ use Rattle.std.specs.List.{after_last, filter_map, find, last_or, list_any}
 use Rattle.request_catalogue.specs.declared.texts.Name.{Name}
 use Rattle.policy_model.specs.declared.account.Account.{Account}
 use Rattle.policy_model.specs.declared.event.Event.{Event}
-use Rattle.policy_model.specs.Asks.{accepts, challenge_name, decoys_from, gives_up, reserves, takes, value_of}
+use Rattle.policy_model.specs.declared.reading.TheConstants.{DECOYS_FROM}
+use Rattle.policy_model.specs.Asks.{accepts, challenge_name, gives_up, reserves, takes, value_of}
 use Rattle.policy_model.specs.Journal.{Place, is_own, last_event, places_of}
 use Rattle.policy_model.specs.Phases.{is_over}
 use Rattle.policy_model.specs.Settings.{Settings, same_name}
@@ -25,7 +26,7 @@ challenged_user journal session = user_named (last_event journal session takes)
 -- a taking is there, and it names a decoy
 abbrev pub is_decoy : Option Event → Bool
 is_decoy None = false
-is_decoy (Some e) = nat_le decoys_from (value_of e.decision)
+is_decoy (Some e) = nat_le DECOYS_FROM (value_of e.decision)
 
 -- the session's last permitted CHALLENGE names a decoy
 unfoldable pub was_decoyed : List Event → ℕ → Bool

@@ -1,5 +1,5 @@
 -- Believed: the phases of a session, and the phase table.
-use Rattle.std.specs.Prelude.{ℕ, Bool, true, false, not, ◌||◌, List, Option, Some, None, if◌then◌else◌}
+use Rattle.std.specs.Prelude.{ℕ, Bool, false, not, ◌||◌, List, Option, Some, None, if◌then◌else◌}
 use Rattle.std.specs.List.{list_any}
 use Rattle.request_catalogue.specs.declared.kind.Kind.{Kind}
 use Rattle.request_catalogue.specs.declared.kind.Kind.TheVariants as kinds
@@ -7,6 +7,7 @@ use Rattle.policy_model.specs.declared.event.Event.{Event}
 use Rattle.policy_model.specs.declared.phase.Phase.{Phase}
 use Rattle.policy_model.specs.declared.phase.Phase.TheVariants.{Pre, Challenged, Verified, User, Over}
 use Rattle.policy_model.specs.declared.phase.Row.{Row}
+use Rattle.policy_model.specs.declared.phase.TheConstants.Row as rows
 use Rattle.policy_model.specs.Asks.{accepts, ends_session, exports, is_login_step, opens, takes}
 use Rattle.policy_model.specs.Journal.{events_of, has_event, last_event}
 
@@ -28,37 +29,21 @@ phase_of journal session =
     else (if is_taking (last_event journal session is_login_step) then Challenged
     else Pre)))
 
--- an empty cell of the table
-abbrev pub no_row : Row
-no_row = record { permitted = false; once = false; deciding = false }
-
--- permitted
-abbrev pub free_row : Row
-free_row = record { permitted = true; once = false; deciding = false }
-
--- permitted once per session
-abbrev pub once_row : Row
-once_row = record { permitted = true; once = true; deciding = false }
-
--- permitted, and it decides whether the user is logged in
-abbrev pub deciding_row : Row
-deciding_row = record { permitted = true; once = false; deciding = true }
-
 -- the phase table: what each phase says of each kind of request
 abbrev pub table_row : Phase → Kind → Row
-table_row Over kind = no_row
-table_row Pre kinds.Banner = once_row
-table_row Challenged kinds.Banner = once_row
-table_row Pre kinds.Challenge = free_row
-table_row Challenged kinds.Reply = deciding_row
-table_row Challenged kinds.Abandon = free_row
-table_row Verified kinds.Export = once_row
-table_row User kinds.Import = once_row
-table_row phase kinds.ReadAt = free_row
-table_row phase kinds.WriteAt = free_row
-table_row User kinds.OpenFile = free_row
-table_row User kinds.CloseFile = free_row
-table_row User kinds.Info = free_row
-table_row phase kinds.Note = free_row
-table_row phase kinds.Finish = free_row
-table_row _ _ = no_row
+table_row Over kind = rows.NONE
+table_row Pre kinds.Banner = rows.ONCE
+table_row Challenged kinds.Banner = rows.ONCE
+table_row Pre kinds.Challenge = rows.FREE
+table_row Challenged kinds.Reply = rows.DECIDING
+table_row Challenged kinds.Abandon = rows.FREE
+table_row Verified kinds.Export = rows.ONCE
+table_row User kinds.Import = rows.ONCE
+table_row phase kinds.ReadAt = rows.FREE
+table_row phase kinds.WriteAt = rows.FREE
+table_row User kinds.OpenFile = rows.FREE
+table_row User kinds.CloseFile = rows.FREE
+table_row User kinds.Info = rows.FREE
+table_row phase kinds.Note = rows.FREE
+table_row phase kinds.Finish = rows.FREE
+table_row _ _ = rows.NONE

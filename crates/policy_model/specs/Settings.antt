@@ -9,6 +9,7 @@ use Rattle.request_catalogue.specs.Texts.{is_printable}
 use Rattle.policy_model.specs.declared.account.Account.{Account}
 use Rattle.policy_model.specs.declared.account.Grant.{Grant}
 use Rattle.policy_model.specs.declared.parts.SetupParts.{SetupParts}
+use Rattle.policy_model.specs.declared.ranges.TheConstants.{EVENTS_LIMIT}
 use Rattle.request_catalogue.specs.declared.width.Width.TheVariants.{Narrow}
 use Rattle.policy_model.specs.Salt.{plain_salt}
 
@@ -68,7 +69,7 @@ is_account a = is_number 1 4294967294 a.uid && nat_le a.sequence 9999 && are_gra
 abbrev pub are_accounts : List Account → Bool
 are_accounts accounts = nat_le (length accounts) 1024 && list_all is_account accounts && are_distinct (λ a b. same_name a.name b.name) accounts && are_distinct (λ a b. a.uid == b.uid) accounts
 
--- the ranges of a setup; a run makes at most 1,048,576 events
+-- the ranges of a setup, by which a run makes no more events than it may
 pub record IsInRange (s : Settings) : Type 0 where
   pub texts : are_texts s ≡ true
   pub workers : (1 ≤ s.workers) × (s.workers ≤ 64)
@@ -77,12 +78,12 @@ pub record IsInRange (s : Settings) : Type 0 where
   pub tries : (1 ≤ s.tries) × (s.tries ≤ 10)
   pub hold : (1 ≤ s.hold) × (s.hold ≤ 3600000)
   pub info : are_numbers s.info ≡ true
-  pub product : events_max s ≤ 1048576
+  pub product : events_max s ≤ EVENTS_LIMIT
   pub accounts : are_accounts s.accounts ≡ true
 
 -- the tests of all ranges in one
 abbrev pub passes : Settings → Bool
-passes s = are_texts s && are_counts s && are_numbers s.info && nat_le (events_max s) 1048576 && are_accounts s.accounts
+passes s = are_texts s && are_counts s && are_numbers s.info && nat_le (events_max s) EVENTS_LIMIT && are_accounts s.accounts
 
 -- the number of the account of this name, counted from 0
 abbrev pub account_number : Settings → Name → Option ℕ

@@ -9,9 +9,9 @@ use Rattle.std.specs.Prelude.{ℕ, ◌≤◌, ◌+◌, ◌-◌, ◌==◌, ◌&&�
 use Rattle.std.specs.List.{find, list_any}
 use Rattle.std.specs.Option.{option_to_list}
 use Rattle.request_catalogue.specs.declared.kind.Kind.{Kind}
+use Rattle.request_catalogue.specs.declared.rules.TheConstants.{ASKS_SPENT, NOT_IN_PHASE, ONCE_ONLY, TRIES_SPENT, USER_HELD, HOLD_LOST, NO_READING, PASSWORD_USED, NO_MATCH, NO_HANDLE, MODE_LACKING, HANDLES_SPENT, NOT_GRANTED, MODE_NOT_GRANTED, NO_INFORMATION}
 use Rattle.request_catalogue.specs.declared.texts.Label.{Label}
 use Rattle.request_catalogue.specs.declared.texts.Name.{Name}
-use Rattle.request_catalogue.specs.Rules.{asks_spent, not_in_phase, once_only, tries_spent, user_held, hold_lost, no_reading, password_used, no_match, no_handle, mode_lacking, handles_spent, not_granted, mode_not_granted, no_information}
 use Rattle.otp_hash.specs.Hashing.{hash_of}
 use Rattle.policy_model.specs.declared.account.Account.{Account}
 use Rattle.policy_model.specs.declared.account.Grant.{Grant}
@@ -21,7 +21,9 @@ use Rattle.policy_model.specs.declared.event.Decision.{Decision}
 use Rattle.policy_model.specs.declared.event.Decision.TheVariants.{Permit, Deny, Lost}
 use Rattle.policy_model.specs.declared.event.Event.{Event}
 use Rattle.policy_model.specs.declared.phase.Row.{Row}
-use Rattle.policy_model.specs.Asks.{decoys_from, is_denied_reply, kind_of, mode_of, moment_of, permits_kind, request_number}
+use Rattle.policy_model.specs.declared.reading.TheConstants.{DECOYS_FROM}
+use Rattle.policy_model.specs.declared.verdict.TheConstants.{READ, WRITE}
+use Rattle.policy_model.specs.Asks.{is_denied_reply, kind_of, mode_of, moment_of, permits_kind, request_number}
 use Rattle.policy_model.specs.Decoys.{decoy_number}
 use Rattle.policy_model.specs.Handles.{free_handle_of, live_handles_of, handle_opening}
 use Rattle.policy_model.specs.Journal.{ask_count, count_of, has_event, open_session_of, openings_of}
@@ -48,20 +50,20 @@ is_held setup journal session user now =
 
 -- what a user is challenged with that can't log in
 abbrev pub decoy_challenge : Settings → Name → Decision
-decoy_challenge setup user = Permit (decoys_from + decoy_number setup user)
+decoy_challenge setup user = Permit (DECOYS_FROM + decoy_number setup user)
 
 -- a user that can log in is challenged with the number of the next password, unless another session holds the user; any other user with a decoy
 abbrev pub account_verdict : Settings → List Event → ℕ → Name → ℕ → Option Account → Decision
 account_verdict setup journal session user now None = decoy_challenge setup user
 account_verdict setup journal session user now (Some account) =
     if not (is_live journal account) then decoy_challenge setup user
-    else (if is_held setup journal session user now then Deny user_held (session_taking (last_taking_of journal user))
+    else (if is_held setup journal session user now then Deny USER_HELD (session_taking (last_taking_of journal user))
     else Permit (current_sequence journal account - 1))
 
 -- a CHALLENGE for a user at a moment
 unfoldable pub challenge_verdict : Settings → List Event → ℕ → Name → ℕ → Decision
 challenge_verdict setup journal session user now =
-    if nat_le setup.tries (count_of journal session is_denied_reply) then Deny tries_spent setup.tries
+    if nat_le setup.tries (count_of journal session is_denied_reply) then Deny TRIES_SPENT setup.tries
     else account_verdict setup journal session user now (account_of setup user)
 
 -- 5. REPLY
@@ -77,7 +79,7 @@ is_next_password journal account password =
 
 -- where no reading is the next password: rule 15 where one was accepted before
 abbrev pub refused_verdict : List Event → Account → List ℕ → Decision
-refused_verdict journal account passwords = if list_any (was_accepted journal account) passwords then Deny password_used 0 else Deny no_match 0
+refused_verdict journal account passwords = if list_any (was_accepted journal account) passwords then Deny PASSWORD_USED 0 else Deny NO_MATCH 0
 
 -- the first reading that is the next password
 abbrev pub matching_verdict : List Event → Account → List ℕ → Option ℕ → Decision
@@ -86,7 +88,7 @@ matching_verdict journal account passwords None = refused_verdict journal accoun
 
 -- the readings against an account
 abbrev pub readings_verdict : List Event → List ℕ → Option Account → Decision
-readings_verdict journal passwords None = Deny no_match 0
+readings_verdict journal passwords None = Deny NO_MATCH 0
 readings_verdict journal passwords (Some account) = matching_verdict journal account passwords (find (is_next_password journal account) passwords)
 
 -- the session holds
@@ -97,18 +99,18 @@ is_holder session (Some holder) = holder == session
 -- a REPLY for a user
 abbrev pub user_verdict : Settings → List Event → ℕ → List ℕ → Name → Decision
 user_verdict setup journal session passwords user =
-    if not (is_holder session (holder_of journal user)) then Deny hold_lost (session_taking (last_taking_of journal user))
-    else (if length passwords == 0 then Deny no_reading 0
+    if not (is_holder session (holder_of journal user)) then Deny HOLD_LOST (session_taking (last_taking_of journal user))
+    else (if length passwords == 0 then Deny NO_READING 0
     else readings_verdict journal passwords (account_of setup user))
 
 -- a REPLY of a session that challenged a user
 abbrev pub login_verdict : Settings → List Event → ℕ → List ℕ → Option Name → Decision
-login_verdict setup journal session passwords None = Deny hold_lost 0
+login_verdict setup journal session passwords None = Deny HOLD_LOST 0
 login_verdict setup journal session passwords (Some user) = user_verdict setup journal session passwords user
 
 -- a REPLY to a decoy
 abbrev pub decoy_verdict : List ℕ → Decision
-decoy_verdict passwords = if length passwords == 0 then Deny no_reading 0 else Deny no_match 0
+decoy_verdict passwords = if length passwords == 0 then Deny NO_READING 0 else Deny NO_MATCH 0
 
 -- a REPLY with its two readings
 unfoldable pub reply_verdict : Settings → List Event → ℕ → Option ℕ → Option ℕ → Decision
@@ -124,8 +126,8 @@ allows mode needed = bit_and needed mode == needed
 
 -- a use of an open file
 abbrev pub use_verdict : ℕ → ℕ → Option Event → Decision
-use_verdict handle needed None = Deny no_handle handle
-use_verdict handle needed (Some e) = if allows (mode_of e.ask) needed then Permit 0 else Deny mode_lacking handle
+use_verdict handle needed None = Deny NO_HANDLE handle
+use_verdict handle needed (Some e) = if allows (mode_of e.ask) needed then Permit 0 else Deny MODE_LACKING handle
 
 -- a READ or WRITE of a handle; 0 is the client's connection
 unfoldable pub handle_verdict : List Event → ℕ → ℕ → ℕ → Decision
@@ -144,19 +146,19 @@ grants_of (Some account) = account.grants
 
 -- what a grant says of a mode
 abbrev pub grant_verdict : ℕ → ℕ → Option Grant → Decision
-grant_verdict free mode None = Deny not_granted 0
-grant_verdict free mode (Some grant) = if allows grant.mode mode then Permit free else Deny mode_not_granted mode
+grant_verdict free mode None = Deny NOT_GRANTED 0
+grant_verdict free mode (Some grant) = if allows grant.mode mode then Permit free else Deny MODE_NOT_GRANTED mode
 
 -- an OPEN of a file
 unfoldable pub open_verdict : Settings → List Event → ℕ → ℕ → Label → Decision
 open_verdict setup journal session mode name =
-    if nat_le 8 (length (live_handles_of journal session)) then Deny handles_spent 8
+    if nat_le 8 (length (live_handles_of journal session)) then Deny HANDLES_SPENT 8
     else grant_verdict (free_handle_of journal session) mode (find (λ g. same_label g.name name) (grants_of (account_named setup (verified_user journal session))))
 
 -- a CLOSE of a handle
 unfoldable pub close_verdict : List Event → ℕ → ℕ → Decision
 close_verdict journal session handle =
-    if handle == 0 || is_none (handle_opening journal session handle) then Deny no_handle handle else Permit 0
+    if handle == 0 || is_none (handle_opening journal session handle) then Deny NO_HANDLE handle else Permit 0
 
 -- the current sequence of an account that is there
 abbrev pub sequence_of : List Event → Option Account → ℕ
@@ -166,7 +168,7 @@ sequence_of journal (Some account) = current_sequence journal account
 -- an INFO of a number
 unfoldable pub info_verdict : Settings → List Event → ℕ → ℕ → Decision
 info_verdict setup journal session number =
-    if list_any (nat_eq number) setup.info then Permit (sequence_of journal (account_named setup (verified_user journal session))) else Deny no_information number
+    if list_any (nat_eq number) setup.info then Permit (sequence_of journal (account_named setup (verified_user journal session))) else Deny NO_INFORMATION number
 
 -- the number of the account of a user that is there
 abbrev pub number_named : Settings → Option Name → ℕ
@@ -178,8 +180,8 @@ unfoldable pub kind_verdict : Settings → List Event → ℕ → Ask → Decisi
 kind_verdict setup journal session (asks.Challenge user now) = challenge_verdict setup journal session user now
 kind_verdict setup journal session (asks.Reply words hex) = reply_verdict setup journal session words hex
 kind_verdict setup journal session (asks.Export len) = Permit (number_named setup (verified_user journal session))
-kind_verdict setup journal session (asks.ReadAt handle offset max) = handle_verdict journal session handle 1
-kind_verdict setup journal session (asks.WriteAt handle offset len) = handle_verdict journal session handle 2
+kind_verdict setup journal session (asks.ReadAt handle offset max) = handle_verdict journal session handle READ
+kind_verdict setup journal session (asks.WriteAt handle offset len) = handle_verdict journal session handle WRITE
 kind_verdict setup journal session (asks.OpenFile mode name) = open_verdict setup journal session mode name
 kind_verdict setup journal session (asks.CloseFile handle) = close_verdict journal session handle
 kind_verdict setup journal session (asks.Info number) = info_verdict setup journal session number
@@ -190,8 +192,8 @@ kind_verdict setup journal session ask = Permit 0
 -- a request whose cell of the table this is: rule 6 where it is empty, rule 7 where one was permitted that may be only once
 abbrev pub row_verdict : Settings → List Event → ℕ → Ask → Kind → Row → Decision
 row_verdict setup journal session ask kind row =
-    if not row.permitted then Deny not_in_phase (request_number ask)
-    else (if row.once && has_event journal session (permits_kind kind) then Deny once_only (request_number ask)
+    if not row.permitted then Deny NOT_IN_PHASE (request_number ask)
+    else (if row.once && has_event journal session (permits_kind kind) then Deny ONCE_ONLY (request_number ask)
     else kind_verdict setup journal session ask)
 
 -- what a phase says of a request
@@ -207,14 +209,14 @@ own_verdict setup journal session ask = table_verdict setup journal session ask 
 -- 2. an ask other than an opening and an end, of the worker's open session: rule 6 where there is none or it is over, rule 1 where it has made all its asks
 abbrev pub request_verdict : Settings → List Event → ℕ → Ask → Decision
 request_verdict setup journal session ask =
-    if session == 0 || is_over journal session then Deny not_in_phase (request_number ask)
-    else (if ask_count journal session == setup.requests then Deny asks_spent setup.requests
+    if session == 0 || is_over journal session then Deny NOT_IN_PHASE (request_number ask)
+    else (if ask_count journal session == setup.requests then Deny ASKS_SPENT setup.requests
     else own_verdict setup journal session ask)
 
 -- 1. an opening, an end, any other ask
 unfoldable pub verdict_of : Settings → List Event → ℕ → Ask → Decision
-verdict_of setup journal worker asks.Begin = if open_session_of journal worker == 0 then Permit (openings_of journal + 1) else Deny not_in_phase 0
-verdict_of setup journal worker (asks.End why) = if open_session_of journal worker == 0 then Deny not_in_phase 0 else Permit 0
+verdict_of setup journal worker asks.Begin = if open_session_of journal worker == 0 then Permit (openings_of journal + 1) else Deny NOT_IN_PHASE 0
+verdict_of setup journal worker (asks.End why) = if open_session_of journal worker == 0 then Deny NOT_IN_PHASE 0 else Permit 0
 verdict_of setup journal worker ask = request_verdict setup journal (open_session_of journal worker) ask
 
 -- a denial names one of the rules

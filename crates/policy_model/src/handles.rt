@@ -9,7 +9,7 @@ ghost use Rattle.policy_model.specs.Journal.{events_of, is_own};
 use crate::event::Event;
 
 /// The numbers that handles have.
-const NUMBERS: [u64; 8] = [1, 2, 3, 4, 5, 6, 7, 8];
+pub const HANDLE_NUMBERS: [u64; 8] = [1, 2, 3, 4, 5, 6, 7, 8];
 
 /// Whether the session closes the handle in these events.
 fn is_closed(events: &[Event], session: u32, handle: u64) -> bool
@@ -63,7 +63,7 @@ fn is_free(journal: &[Event], session: u32, handle: u64) -> bool
 pub(crate) fn free_handle(journal: &[Event], session: u32) -> u64
     ensures { result ≡ free_handle_of journal.now session }
 {
-    for handle in &NUMBERS {
+    for handle in &HANDLE_NUMBERS {
         if is_free(journal, session, *handle) {
             return *handle;
         }

@@ -8,6 +8,9 @@ use crate::account::{Account, Grant};
 use crate::parts::SetupParts;
 use request_catalogue::{Label, Name, are_printable};
 
+/// The most events of a run.
+pub const EVENTS_LIMIT: u32 = 1_048_576;
+
 /// Whether two names are the same.
 pub(crate) fn same_name(a: &Name, b: &Name) -> bool
     ensures { result ≡ same_name a.now b.now }
@@ -181,15 +184,15 @@ fn are_counts(parts: &SetupParts) -> bool
         && is_number(1, 3_600_000, parts.hold)
 }
 
-/// Whether a run makes at most 1,048,576 events.
+/// Whether a run makes at most `EVENTS_LIMIT` events.
 fn are_few_events(parts: &SetupParts) -> bool
     requires workers { parts.now.workers ≤ 64 }
     requires connections { parts.now.connections ≤ 4096 }
     requires requests { parts.now.requests ≤ 4096 }
-    ensures { result ≡ nat_le (events_max parts.now) 1048576 }
+    ensures { result ≡ nat_le (events_max parts.now) EVENTS_LIMIT }
 {
     let quota = parts.connections as u64 * (parts.requests as u64 + 3);
-    parts.workers as u64 * quota <= 1_048_576
+    parts.workers as u64 * quota <= EVENTS_LIMIT as u64
 }
 
 /// Whether the parts are in their ranges, their names and user numbers are different, and a run

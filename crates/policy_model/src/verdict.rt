@@ -34,10 +34,10 @@ pub fn shown(decision: &Decision) -> Decision
 }
 
 /// The mode that a READ needs.
-const READ: u8 = 1;
+pub const READ: u8 = 1;
 
 /// The mode that a WRITE needs.
-const WRITE: u8 = 2;
+pub const WRITE: u8 = 2;
 
 /// The moment of a taking, or 0.
 fn taking_moment(taking: &Option<Event>) -> u64

@@ -1,6 +1,6 @@
-//! Quiet objects of the outside: streams, sinks, files and posts in memory, for a drill. Each takes
-//! its room when it is made and none later, no call of it fails, and what finds no room is taken and
-//! no longer told.
+//! Quiet objects of the outside: streams, sinks, files and posts in memory, for a drill. Each takes its
+//! room when it is made and none later, no call of it fails, and what finds no room is taken and no
+//! longer told. Nothing here need be believed; the mode `drill` stands above.
 #![tactic(auto)]
 
 mod blank;

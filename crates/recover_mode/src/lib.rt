@@ -1,6 +1,6 @@
-//! The mode `recover`: what a durable log has is written into the setup's file, and the log begins anew.
-//! Believe `specs/Words.antt`, `specs/Outcome.antt`, `specs/Returning.antt` and the files that these
-//! name.
+//! The mode `recover`: what a durable log has is written into the setup's file, and the log begins
+//! anew. Believe `specs/Words.antt`, `specs/Outcome.antt`, `specs/Returning.antt` and the files that
+//! these name. The top call stands above.
 #![tactic(auto)]
 
 mod basis;

@@ -3,6 +3,7 @@ use Rattle.std.specs.Prelude.{ℕ, ◌≤◌, ◌+◌, ◌-◌, ◌/◌, min, Li
 use Rattle.std.specs.List.{AllByRecursion}
 use Rattle.std.specs.Option.{option_to_list}
 use Rattle.policy_model.specs.declared.event.Event.{Event}
+use Rattle.policy_model.specs.declared.ranges.TheConstants.{EVENTS_LIMIT}
 use Rattle.policy_model.specs.Asks.{is_lost}
 use Rattle.policy_model.specs.Journal.{kept_events}
 use Rattle.policy_model.specs.Legal.{IsLegal, next_event}
@@ -14,7 +15,7 @@ use Rattle.durable_log.specs.Records.{HasRecords}
 use Rattle.ledger_journal.specs.declared.answer.Recovered.{Recovered}
 use Rattle.ledger_journal.specs.declared.answer.RecoverError.{RecoverError}
 use Rattle.ledger_journal.specs.Journals.{IsBackAt, IsRecoveredAs, records_of}
-use Rattle.ledger_journal.specs.Recovering.{IsAnswerOf, lines_max}
+use Rattle.ledger_journal.specs.Recovering.{IsAnswerOf}
 
 -- the event whose line was lost first, as the policy decides it, if one was
 abbrev pub lost_event : Settings → List Event → Option Event
@@ -29,7 +30,7 @@ pub record IsRunOf (setup : Settings) (journal : List Event) : Type 0 where
   pub in_range : IsInRange setup
   pub legal : IsLegal setup journal
   pub proper : AllByRecursion IsProperEvent journal
-  pub few : length journal ≤ lines_max
+  pub few : length journal ≤ EVENTS_LIMIT
   pub typed : AllByRecursion IsTyped (decided_in setup journal)
 
 -- recovery from these records answers that each account is as these events say, or wants memory

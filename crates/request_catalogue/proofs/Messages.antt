@@ -1,6 +1,6 @@
 -- What reading a message says, from what the table answers.
 use Rattle.std.proofs.Common.{◌≡◌, ℕ, ◌%◌, ◌≤◌, Bool, true, false, cond, eqb, List, [], ◌∷◌, ◌++◌, length, take, drop, Option, Some, None, Result, Ok, Err, refl, sym, ap, subst, ◌∙◌, arith, ◌≢◌}
-use Rattle.std.specs.Prelude.{find, MatchResult, IfOk, IfErr, IsOkAnd}
+use Rattle.std.specs.Prelude.{find, ok_or, MatchResult, IfOk, IfErr, IsOkAnd}
 use Rattle.std.proofs.lemmas.Bool.{eqb-true, eqb-false}
 use Rattle.std.proofs.lemmas.List.{take_at}
 use Rattle.request_catalogue.specs.declared.width.Width.{Width}
@@ -10,9 +10,9 @@ use Rattle.request_catalogue.specs.declared.request.Request.{Request}
 use Rattle.request_catalogue.specs.declared.request.Bad.{Bad}
 use Rattle.request_catalogue.specs.Kinds.{kind_number, all_kinds, kind_numbered}
 use Rattle.request_catalogue.specs.Catalogue.{RequestValue, value_of, kind_of, IsInRange, payload_of, IsRequest}
-use Rattle.request_catalogue.specs.Reading.{asked_by, bad, or_bad, asked, request_of, IsFault, HasDescriptor, HasOtherFlags, HasUnknownKind, HasBadPayload}
 use Rattle.request_catalogue.proofs.Numbers.{IsBytes}
 use Rattle.request_catalogue.proofs.Table.{asked_by-IsSpelled, asked_by-payload_of}
+use Rattle.request_catalogue.specs.Reading.{asked_by, bad, asked, request_of, IsFault, HasDescriptor, HasOtherFlags, HasUnknownKind, HasBadPayload}
 
 -- each kind has its number
 kind_numbered-kind_number : (k : Kind) → kind_numbered (kind_number k) ≡ Some k
@@ -63,11 +63,11 @@ before_error false fault y v e = absurd cc
 -- what is asked is asked of some kind
 asked_ok : (width : Width) (kind : ℕ) (body : List ℕ) (o : Option Kind) (v : RequestValue) → asked width kind body o ≡ Ok v → (k : Kind) × (o ≡ Some k) × (asked_by width k body ≡ Some v)
 asked_ok width kind body None v e = absurd cc
-asked_ok width kind body (Some k) v e = (k, refl, or_bad_ok (bad 5 kind) (asked_by width k body) v e)
+asked_ok width kind body (Some k) v e = (k, refl, was_there (bad 5 kind) (asked_by width k body) v e)
   where
-    or_bad_ok : (fault : Bad) (o : Option RequestValue) (v : RequestValue) → or_bad fault o ≡ Ok v → o ≡ Some v
-    or_bad_ok fault None v e = absurd cc
-    or_bad_ok fault (Some w) v e = let same : w ≡ v = cc in ap (λ (x : RequestValue). Some x) same
+    was_there : (fault : Bad) (o : Option RequestValue) (v : RequestValue) → ok_or o fault ≡ Ok v → o ≡ Some v
+    was_there fault None v e = absurd cc
+    was_there fault (Some w) v e = let same : w ≡ v = cc in ap (λ (x : RequestValue). Some x) same
 
 -- what the table answers is in range and spelled so
 pub request_of-IsRequest : (width : Width) (kind flags : ℕ) (body : List ℕ) (v : RequestValue) → IsBytes body → request_of width kind flags body ≡ Ok v → IsRequest width kind flags body v
@@ -114,7 +114,7 @@ asked_fault : (width : Width) (kind flags : ℕ) (body : List ℕ) (e : Bad) →
 asked_fault width kind flags body e no_flags None known given = let same : bad 4 kind ≡ e = cc in subst (λ (x : Bad). IsFault width kind flags body x) same (HasUnknownKind no_flags (kind_number-none kind known))
 asked_fault width kind flags body e no_flags (Some k) known given = payload_fault (asked_by width k body) refl given
   where
-    payload_fault : (o : Option RequestValue) → asked_by width k body ≡ o → or_bad (bad 5 kind) o ≡ Err e → IsFault width kind flags body e
+    payload_fault : (o : Option RequestValue) → asked_by width k body ≡ o → ok_or o (bad 5 kind) ≡ Err e → IsFault width kind flags body e
     payload_fault None none given' = let same : bad 5 kind ≡ e = cc in subst (λ (x : Bad). IsFault width kind flags body x) same (HasBadPayload no_flags k (kind_number-numbered kind k known) (no_payload width k body none))
     payload_fault (Some v) some given' = absurd cc
 

@@ -9,8 +9,8 @@ use Rattle.request_catalogue.specs.declared.width.Width.{Width}
 use Rattle.request_catalogue.specs.declared.width.Width.TheVariants as widths
 use Rattle.request_catalogue.specs.declared.kind.Kind.{Kind}
 use Rattle.request_catalogue.specs.declared.kind.Kind.TheVariants as kinds
+use Rattle.request_catalogue.specs.Texts.{is_name, is_label, is_note, is_typed_reply}
 use Rattle.request_catalogue.specs.Widths.{transfer_max}
-use Rattle.request_catalogue.specs.Texts.{is_name, is_label, is_note, is_reply}
 use Rattle.request_catalogue.specs.Catalogue.{RequestValue, Banner, Challenge, Reply, Abandon, Export, Import, ReadAt, WriteAt, OpenFile, CloseFile, Info, Note, Finish, kind_of, IsInRange, payload_of}
 use Rattle.request_catalogue.specs.Fields.{number_at}
 use Rattle.request_catalogue.specs.Reading.{asked_by}
@@ -70,7 +70,7 @@ pub asked_by-IsSpelled : (width : Width) (k : Kind) (payload : List ℕ) → IsB
 unfolding asked_by payload_of
 asked_by-IsSpelled width kinds.Banner p fits v = tested width (eqb (length p) 0) Banner kinds.Banner p (λ t. record { of_kind = refl; in_range = tt; spelled = empty p t }) v
 asked_by-IsSpelled width kinds.Challenge p fits v = tested width (is_name p) (Challenge p) kinds.Challenge p (λ t. record { of_kind = refl; in_range = t; spelled = refl }) v
-asked_by-IsSpelled width kinds.Reply p fits v = tested width (is_reply p) (Reply p) kinds.Reply p (λ t. record { of_kind = refl; in_range = t; spelled = refl }) v
+asked_by-IsSpelled width kinds.Reply p fits v = tested width (is_typed_reply p) (Reply p) kinds.Reply p (λ t. record { of_kind = refl; in_range = t; spelled = refl }) v
 asked_by-IsSpelled width kinds.Abandon p fits v = tested width (eqb (length p) 0) Abandon kinds.Abandon p (λ t. record { of_kind = refl; in_range = tt; spelled = empty p t }) v
 asked_by-IsSpelled width kinds.Export p fits v = tested width (leb (length p) 8192) (Export p) kinds.Export p (λ t. record { of_kind = refl; in_range = leb-true (length p) 8192 t; spelled = refl }) v
 asked_by-IsSpelled width kinds.Import p fits v = tested width (eqb (length p) 0) Import kinds.Import p (λ t. record { of_kind = refl; in_range = tt; spelled = empty p t }) v

@@ -6,8 +6,8 @@ use Rattle.request_catalogue.specs.declared.kind.Kind.{Kind}
 use Rattle.request_catalogue.specs.declared.kind.Kind.TheVariants as kinds
 use Rattle.request_catalogue.specs.declared.request.Request.{Request}
 use Rattle.request_catalogue.specs.declared.request.Request.TheVariants as requests
+use Rattle.request_catalogue.specs.Texts.{is_name, is_label, is_note, is_typed_reply}
 use Rattle.request_catalogue.specs.Widths.{transfer_max}
-use Rattle.request_catalogue.specs.Texts.{is_name, is_label, is_note, is_reply}
 use Rattle.request_catalogue.specs.TextBytes.{name_bytes, label_bytes, note_bytes}
 use Rattle.request_catalogue.specs.Kinds.{kind_number}
 
@@ -63,7 +63,7 @@ kind_of Finish = kinds.Finish
 abbrev pub IsInRange : Width → RequestValue → Type 0
 IsInRange width Banner = Unit {0}
 IsInRange width (Challenge user) = IsTrue (is_name user)
-IsInRange width (Reply text) = IsTrue (is_reply text)
+IsInRange width (Reply text) = IsTrue (is_typed_reply text)
 IsInRange width Abandon = Unit {0}
 IsInRange width (Export state) = length state ≤ 8192
 IsInRange width Import = Unit {0}

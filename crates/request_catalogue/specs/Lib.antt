@@ -6,4 +6,4 @@ pub mod Catalogue
 pub mod Fields
 pub mod Reading
 pub mod Replies
-pub mod Rules
+pub mod Results

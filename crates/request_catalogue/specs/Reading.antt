@@ -1,15 +1,15 @@
 -- Believed: the catalogue as a table, a row a kind, and what is wrong with a message that is no request.
-use Rattle.std.specs.Prelude.{◌≡◌, ◌≢◌, ℕ, ◌+◌, ◌%◌, List, [], ◌∷◌, length, drop, Option, Some, None, Result, Ok, Err, if◌then◌else◌, nat_le, ◌==◌, ◌&&◌}
+use Rattle.std.specs.Prelude.{◌≡◌, ◌≢◌, ℕ, ◌+◌, ◌%◌, List, [], ◌∷◌, length, drop, Option, Some, None, Result, Err, ok_or, if◌then◌else◌, nat_le, ◌==◌, ◌&&◌}
 use Rattle.std.specs.Bool.{then_some}
 use Rattle.std.specs.Int.{w16, w32, w64}
+use Rattle.request_catalogue.specs.declared.rules.TheConstants.{BAD_PAYLOAD, DESCRIPTOR_FLAG, OTHER_FLAGS, UNKNOWN_KIND}
 use Rattle.request_catalogue.specs.declared.width.Width.{Width}
 use Rattle.request_catalogue.specs.declared.kind.Kind.{Kind}
 use Rattle.request_catalogue.specs.declared.kind.Kind.TheVariants as kinds
 use Rattle.request_catalogue.specs.declared.request.Bad.{Bad}
+use Rattle.request_catalogue.specs.Texts.{is_name, is_label, is_note, is_typed_reply}
 use Rattle.request_catalogue.specs.Widths.{transfer_max}
-use Rattle.request_catalogue.specs.Texts.{is_name, is_label, is_note, is_reply}
 use Rattle.request_catalogue.specs.Fields.{number_at}
-use Rattle.request_catalogue.specs.Rules.{bad_payload, descriptor_flag, other_flags, unknown_kind}
 use Rattle.request_catalogue.specs.Kinds.{kind_number, kind_numbered}
 use Rattle.request_catalogue.specs.Catalogue.{RequestValue, Banner, Challenge, Reply, Abandon, Export, Import, ReadAt, WriteAt, OpenFile, CloseFile, Info, Note, Finish, kind_of, IsInRange, payload_of}
 
@@ -17,7 +17,7 @@ use Rattle.request_catalogue.specs.Catalogue.{RequestValue, Banner, Challenge, R
 unfoldable pub asked_by : Width → Kind → List ℕ → Option RequestValue
 asked_by width kinds.Banner payload = then_some (length payload == 0) Banner
 asked_by width kinds.Challenge payload = then_some (is_name payload) (Challenge payload)
-asked_by width kinds.Reply payload = then_some (is_reply payload) (Reply payload)
+asked_by width kinds.Reply payload = then_some (is_typed_reply payload) (Reply payload)
 asked_by width kinds.Abandon payload = then_some (length payload == 0) Abandon
 asked_by width kinds.Export payload = then_some (nat_le (length payload) 8192) (Export payload)
 asked_by width kinds.Import payload = then_some (length payload == 0) Import
@@ -34,23 +34,18 @@ asked_by width kinds.Finish payload = then_some (length payload == 0) Finish
 abbrev pub bad : ℕ → ℕ → Bad
 bad rule detail = record { rule = rule; detail = detail }
 
--- the value, or what is wrong where there is none
-abbrev pub or_bad : {A : Type 0} → Bad → Option A → Result A Bad
-or_bad fault None = Err fault
-or_bad fault (Some value) = Ok value
-
 -- what a message with no flags asks
 abbrev pub asked : Width → ℕ → List ℕ → Option Kind → Result RequestValue Bad
-asked width kind body None = Err (bad unknown_kind kind)
-asked width kind body (Some k) = or_bad (bad bad_payload kind) (asked_by width k body)
+asked width kind body None = Err (bad UNKNOWN_KIND kind)
+asked width kind body (Some k) = ok_or (asked_by width k body) (bad BAD_PAYLOAD kind)
 
 -- the request of the catalogue that a message is, or the first rule that it breaks
 unfoldable pub request_of : Width → ℕ → ℕ → List ℕ → Result RequestValue Bad
-request_of width kind flags body = if flags % 2 == 1 then Err (bad descriptor_flag flags) else (if flags == 0 then asked width kind body (kind_numbered kind) else Err (bad other_flags flags))
+request_of width kind flags body = if flags % 2 == 1 then Err (bad DESCRIPTOR_FLAG flags) else (if flags == 0 then asked width kind body (kind_numbered kind) else Err (bad OTHER_FLAGS flags))
 
 -- why a message is no request: the first of four rules that it breaks, and its detail
 pub data IsFault (width : Width) (kind flags : ℕ) (body : List ℕ) : Bad → Type 0 where
-  HasDescriptor : flags % 2 ≡ 1 → IsFault width kind flags body (bad descriptor_flag flags)
-  HasOtherFlags : flags % 2 ≡ 0 → flags ≢ 0 → IsFault width kind flags body (bad other_flags flags)
-  HasUnknownKind : flags ≡ 0 → ((k : Kind) → kind_number k ≢ kind) → IsFault width kind flags body (bad unknown_kind kind)
-  HasBadPayload : flags ≡ 0 → (k : Kind) → kind_number k ≡ kind → ((value : RequestValue) → kind_of value ≡ k → IsInRange width value → body ≢ payload_of value) → IsFault width kind flags body (bad bad_payload kind)
+  HasDescriptor : flags % 2 ≡ 1 → IsFault width kind flags body (bad DESCRIPTOR_FLAG flags)
+  HasOtherFlags : flags % 2 ≡ 0 → flags ≢ 0 → IsFault width kind flags body (bad OTHER_FLAGS flags)
+  HasUnknownKind : flags ≡ 0 → ((k : Kind) → kind_number k ≢ kind) → IsFault width kind flags body (bad UNKNOWN_KIND kind)
+  HasBadPayload : flags ≡ 0 → (k : Kind) → kind_number k ≡ kind → ((value : RequestValue) → kind_of value ≡ k → IsInRange width value → body ≢ payload_of value) → IsFault width kind flags body (bad BAD_PAYLOAD kind)

@@ -48,5 +48,5 @@ abbrev pub is_typed : ℕ → Bool
 is_typed c = c == 9 || is_printable c
 
 -- a typed reply: 1 to 256 bytes, each a tab or printable
-unfoldable pub is_reply : List ℕ → Bool
-is_reply bytes = nat_le 1 (length bytes) && nat_le (length bytes) 256 && list_all is_typed bytes
+unfoldable pub is_typed_reply : List ℕ → Bool
+is_typed_reply bytes = nat_le 1 (length bytes) && nat_le (length bytes) 256 && list_all is_typed bytes

@@ -1,5 +1,6 @@
-//! The catalogue of requests that a child process makes of the monitor, and the monitor's replies:
-//! what a message's body must be for each kind of request, read and written exactly.
+//! The catalogue of requests that a child process makes of the monitor, and the monitor's replies: what
+//! a message's body must be for each kind of request, read and written exactly. Believe `specs/`;
+//! frames, the policy and the children stand above.
 #![tactic(auto)]
 
 mod answer;
@@ -20,7 +21,7 @@ pub use putting::put;
 pub use reading::read_request;
 pub use replies::{read_reply, reply_kind, write_reply};
 pub use request::{Bad, Request};
-pub use texts::{Label, Name, Note, are_printable, is_reply};
+pub use texts::{Label, Name, Note, are_printable, is_typed_reply};
 pub use width::Width;
 pub use writing::write_request;
 

@@ -3,7 +3,7 @@
 ghost use Rattle.std.specs.Prelude.{◌≡◌, ◌%◌, ◌≤◌, ◌==◌, ◌&&◌, ℕ, nat_le, Ok, Err, MatchOption, MatchResult, IfOk, IsOkAnd, IfErr, length};
 ghost use Rattle.std.specs.Option.{option_map};
 ghost use Rattle.request_catalogue.specs.Widths.{transfer_max};
-ghost use Rattle.request_catalogue.specs.Texts.{is_reply};
+ghost use Rattle.request_catalogue.specs.Texts.{is_typed_reply};
 ghost use Rattle.request_catalogue.specs.Kinds.{kind_numbered};
 ghost use Rattle.request_catalogue.specs.Catalogue.{RequestValue, value_of, IsRequest};
 ghost use Rattle.request_catalogue.specs.Reading.{asked_by, bad, request_of, IsFault};
@@ -12,7 +12,7 @@ use crate::fields::{number_of, u16_at, u32_at, u64_at};
 use crate::kind::Kind;
 use crate::request::{Bad, Request};
 use crate::rules;
-use crate::texts::{Label, Name, Note, is_reply};
+use crate::texts::{Label, Name, Note, is_typed_reply};
 use crate::width::Width;
 
 /// The flag that marks a descriptor.
@@ -84,7 +84,7 @@ fn asked_by(width: Width, kind: Kind, payload: &[u8]) -> Option<Request<'_>>
         Kind::Challenge => Some(Request::Challenge {
             user: Name::of(payload)?,
         }),
-        Kind::Reply => is_reply(payload).then_some(Request::Reply { text: payload }),
+        Kind::Reply => is_typed_reply(payload).then_some(Request::Reply { text: payload }),
         Kind::Abandon => payload.is_empty().then_some(Request::Abandon),
         Kind::Export => {
             (payload.len() <= STATE_MAX).then_some(Request::Export { state: payload })

@@ -3,7 +3,7 @@
 ghost use Rattle.std.specs.Prelude.{◌≡◌, ◌≤◌, true, IfSome, is_some, length};
 ghost use Rattle.fixed_list.specs.FixedList.{list_of};
 ghost use Rattle.std.specs.List.{list_all};
-ghost use Rattle.request_catalogue.specs.Texts.{is_name, is_label, is_note, is_reply, is_typed, begins_name, continues_name, continues_label, is_printable};
+ghost use Rattle.request_catalogue.specs.Texts.{is_name, is_label, is_note, is_typed_reply, is_typed, begins_name, continues_name, continues_label, is_printable};
 
 use fixed_list::FixedList;
 
@@ -150,9 +150,9 @@ fn is_note(bytes: &[u8]) -> bool
 }
 
 /// Whether bytes are a typed reply: 1 to 256 bytes, each a tab or printable.
-#[tactic(auto, unfolding(crate::specs::Texts::is_reply))]
-pub fn is_reply(bytes: &[u8]) -> bool
-    ensures { result ≡ is_reply bytes.now }
+#[tactic(auto, unfolding(crate::specs::Texts::is_typed_reply))]
+pub fn is_typed_reply(bytes: &[u8]) -> bool
+    ensures { result ≡ is_typed_reply bytes.now }
 {
     !bytes.is_empty() && bytes.len() <= REPLY_MAX && are_typed(bytes)
 }

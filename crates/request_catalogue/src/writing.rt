@@ -23,7 +23,7 @@ pub fn write_request(width: Width, request: &Request, out: &mut [u8]) -> usize
     put_payload(width, request, out)
 }
 
-#[tactic(auto, unfolding(crate::specs::Catalogue::payload_of, crate::specs::Texts::is_reply))]
+#[tactic(auto, unfolding(crate::specs::Catalogue::payload_of, crate::specs::Texts::is_typed_reply))]
 fn put_payload(width: Width, request: &Request, out: &mut [u8]) -> usize
     requires in_range { IsInRange width (value_of request.now) }
     requires room { body_max width ≤ length out.old }

@@ -14,6 +14,7 @@ use Rattle.outside.specs.Scene.{Scene}
 use Rattle.outside.specs.Told.{Gains, Goes, Rose}
 use Rattle.outside.proofs.Told.{Goes-then, Rose-within}
 use Rattle.policy_laws.proofs.Alike.{strangers_see_no_accounts}
+use Rattle.policy_laws.proofs.Strangers.{strangers_are_told_alike}
 use Rattle.policy_model.specs.declared.event.Event.{Event}
 use Rattle.policy_model.specs.Journal.{has_lost, kept_events}
 use Rattle.policy_model.specs.Settings.{Settings}
@@ -27,13 +28,13 @@ use Rattle.service_reading.specs.Found.{service_in}
 use Rattle.session_core.proofs.ReplayLemmas.{consequences}
 use Rattle.serve_mode.specs.declared.error.ServeError.{ServeError}
 use Rattle.serve_mode.specs.declared.error.ServeError.TheVariants as errors
+use Rattle.serve_mode.proofs.StillLemmas.{IsServiceOf, service_of, service_still}
 use Rattle.serve_mode.specs.Errors.{IsUnread, error_status, status_of, unread_status}
 use Rattle.serve_mode.specs.Headline.{AccountsMatch, AreAccountsWritten, ListensAt, NoFault, ServeEnded, ServeHasCause, ServePromises, is_run_status, is_unserved_status, serve_statuses, setup_place}
 use Rattle.fresh_log.specs.Fresh.{IsFresh}
-use Rattle.serve_mode.specs.Services.{IsServedBy, IsServiceOf, IsUnfresh, plain_service}
+use Rattle.serve_mode.specs.Services.{IsServedBy, IsUnfresh, plain_service}
 use Rattle.serve_mode.specs.Steps.{IsUnready, WritesBack, WritesNamed, run_end}
 use Rattle.serve_mode.specs.Words.{Named, Plain, Source}
-use Rattle.serve_mode.proofs.StillLemmas.{service_still}
 
 -- ---- the end of a run
 
@@ -298,6 +299,7 @@ module _ {P : Type 0} (source : Source) (service : Service) (ledger : LedgerPart
     conversations = ran.conversations;
     log = ran.log;
     consequences = ran.consequences;
+    alike = ran.alike;
     unseen = ran.unseen;
     quota = ran.quota;
     fault_ends = ran.fault_ends;
@@ -323,7 +325,7 @@ module _ {P : Type 0} (source : Source) (service : Service) (ledger : LedgerPart
         unread = λ error e. absurd (served_begins source service.setup ledger mid new ReplaceRose written (has_lost journal) failed writes (subst IsUnbegun (sym e) tt));
         unfresh = λ e. absurd (served_begins source service.setup ledger mid new ReplaceRose written (has_lost journal) failed writes (subst IsUnbegun (sym e) tt));
         served = inr (service, by, promises);
-        promises = λ other asked. subst (λ s. ServePromises source s (status_of (run_end written (has_lost journal) failed)) journal posts scene faults old new listens_old listens_new held_old held_new ReadRose ReplaceRose ListenRose (Rose log_old log_new)) (sym (same other asked)) promises;
+        promises = λ other told asked. subst (λ s. ServePromises source s (status_of (run_end written (has_lost journal) failed)) journal posts scene faults old new listens_old listens_new held_old held_new ReadRose ReplaceRose ListenRose (Rose log_old log_new)) (sym (same other (service_of source forms old new other told asked))) promises;
         unlogged = λ none. absurd (unserved none);
         unlistened = λ none. absurd (unserved none);
         unchanged = λ none. absurd (unserved none);
@@ -356,6 +358,7 @@ module _ {P : Type 0} (source : Source) (service : Service) (status : ℕ) (jour
     conversations = record { held = λ worker post is. no_post posts worker post none is };
     log = subst (λ j. LogMatches service.setup j held_old held_new) (sym events) (log_unchanged service.setup held_old held_new log);
     consequences = consequences service.setup journal legal.legal;
+    alike = strangers_are_told_alike service.setup journal legal.legal;
     unseen = record { alike = λ other_setup other same legal'. strangers_see_no_accounts service.setup other_setup journal other (sym same) legal.legal legal' };
     quota = record { quota = λ worker post is. no_post posts worker post none is };
     fault_ends = record { link = λ worker post is. no_post posts worker post none is; keeper = λ worker post is. no_post posts worker post none is };
@@ -423,7 +426,7 @@ unserved_ended source forms error end journal posts scene faults old new listens
       unread = λ other e. why.unread other (let f : ◌≡◌ {A = Result (Unit {0}) ServeError} (Err error) (Err (errors.Unread other)) = e in cc);
       unfresh = λ e. why.unfresh (let f : ◌≡◌ {A = Result (Unit {0}) ServeError} (Err error) (Err errors.LogNotFresh) = e in cc);
       served = inl none;
-      promises = λ service asked. unserved_promises source service (error_status error) journal posts scene faults events none old new listens_old listens_new held_old held_new ReadRose ReplaceRose ListenRose LogRose why.tells.not_run kept listens log (λ fault. why.nine service asked fault.read fault.listen);
+      promises = λ service told asked. unserved_promises source service (error_status error) journal posts scene faults events none old new listens_old listens_new held_old held_new ReadRose ReplaceRose ListenRose LogRose why.tells.not_run kept listens log (λ fault. why.nine service (service_of source forms old new service told asked) fault.read fault.listen);
       unlogged = λ _. log;
       unlistened = λ _. listens;
       unchanged = λ _. kept;

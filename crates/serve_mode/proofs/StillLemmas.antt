@@ -1,6 +1,7 @@
 -- What files say of a service, they say as long as they stay the same.
 use Rattle.std.proofs.Common.{◌≡◌, ℕ, ◌≤◌, arith, true, List, Option, Some, None, Result, Ok, refl, sym, ap, subst, ◌∙◌}
 use Rattle.std.specs.Prelude.{IfSome, is_ok, is_some}
+use Rattle.std.proofs.lemmas.Bool.{false≢true}
 use Rattle.info_hooks.specs.declared.key.Key.{Key}
 use Rattle.outside.specs.Files.{Contents, SameFiles}
 use Rattle.outside.specs.Told.{Goes, Rose}
@@ -15,9 +16,29 @@ use Rattle.fresh_log.specs.Fresh.{IsFresh}
 use Rattle.service_reading.specs.declared.error.ServiceError.TheVariants as unread
 use Rattle.serve_mode.specs.declared.error.ServeError.{ServeError}
 use Rattle.serve_mode.specs.declared.error.ServeError.TheVariants as errors
-use Rattle.serve_mode.specs.Services.{HasFreshLog, IsServedBy, IsServiceOf, IsUnfresh}
+use Rattle.serve_mode.specs.Services.{HasFreshLog, IsServedBy, IsUnfresh, plain_service, tell_throughout}
 use Rattle.serve_mode.specs.Steps.{IsLogRefused, IsReadFrom, IsUnready, log_of, service_by}
 use Rattle.serve_mode.specs.Words.{Named, Plain, Source}
+
+-- the file of this name, as the files told before the run and tell still, spells the setup, and the one that it names the word list; the log is fresh
+pub record IsNamedService (name : List ℕ) (log : Option (List ℕ)) (forms : List Key) (old new : Option Contents) (service : Service) : Type 0 where
+  pub forms_are : service.forms ≡ forms
+  pub files : Contents
+  pub told : old ≡ Some files
+  pub still : is_some new ≡ true
+  pub found : service_in forms files name ≡ Ok (record { entries = entries_of service.setup; words = service.words })
+  pub fresh : HasFreshLog log files
+
+-- what a run serves by, whose setup comes from there and that can say this
+abbrev pub IsServiceOf : Source → List Key → Option Contents → Option Contents → Service → Type 0
+IsServiceOf Plain forms old new service = service ≡ plain_service forms
+IsServiceOf (Named name log) forms old new service = IsNamedService name log forms old new service
+
+-- what is served by, where the files tell throughout
+pub service_of : (source : Source) (forms : List Key) (old new : Option Contents) (service : Service) → tell_throughout source old new ≡ true → IsServedBy source forms old new service → IsServiceOf source forms old new service
+service_of Plain forms old new service told is = is
+service_of (Named name log) forms None new service told is = absurd (false≢true told)
+service_of (Named name log) forms (Some files) new service told is = record { forms_are = is.forms_are; files = files; told = refl; still = told; found = is.read told; fresh = is.fresh told }
 
 -- what files say of a service they say of those that they are still the same as
 pub service_still : (forms : List Key) (files later : Contents) (name : List ℕ) → SameFiles files later → service_in forms later name ≡ service_in forms files name

@@ -1,6 +1,8 @@
 -- Believed: what is promised of the mode `serve`, beside what is promised of a run.
 use Rattle.std.specs.Prelude.{◌≡◌, ◌≢◌, ◌⊎◌, ℕ, Bool, true, false, ◌==◌, List, [], ◌∷◌, length, Option, Result, Ok, Err}
 use Rattle.std.specs.List.{list_any}
+use Rattle.policy_laws.specs.Consequences.{HasConsequences}
+use Rattle.policy_laws.specs.Strangers.{StrangersAreToldAlike}
 use Rattle.account_file.specs.Entries.{entries_of}
 use Rattle.account_file.specs.Setups.{setup_of}
 use Rattle.account_writer.specs.CurrentSetup.{setup_after}
@@ -17,11 +19,10 @@ use Rattle.policy_model.specs.Journal.{has_lost, kept_events}
 use Rattle.policy_model.specs.Settings.{Settings}
 use Rattle.service_model.specs.Service.{Service}
 use Rattle.service_reading.specs.declared.error.ServiceError.{ServiceError}
-use Rattle.session_core.specs.Replayed.{HasConsequences}
 use Rattle.serve_mode.specs.declared.error.ServeError.{ServeError}
 use Rattle.serve_mode.specs.declared.error.ServeError.TheVariants.{LogNotFresh, Unread}
 use Rattle.serve_mode.specs.Errors.{IsUnread, status_of}
-use Rattle.serve_mode.specs.Services.{IsServedBy, IsServiceOf, IsUnfresh}
+use Rattle.serve_mode.specs.Services.{IsServedBy, IsUnfresh, tell_throughout}
 use Rattle.serve_mode.specs.Words.{Named, Plain, Source}
 
 -- ---- where it listens
@@ -115,6 +116,7 @@ pub record ServePromises {P : Type 0} (source : Source) (service : Service) (sta
   pub conversations : ConversationsMatch service scene journal posts
   pub log : LogMatches service.setup journal held_old held_new
   pub consequences : HasConsequences service.setup journal
+  pub alike : StrangersAreToldAlike service.setup journal
   pub unseen : ShowsNoAccounts service.setup journal
   pub quota : RunsToQuota service.setup scene journal posts
   pub fault_ends : FaultEndsAreCounted faults journal posts
@@ -129,7 +131,7 @@ pub record ServeEnded {P : Type 0} (source : Source) (forms : List Key) (end : R
   pub unread : (error : ServiceError) → end ≡ Err (Unread error) → IsUnread source forms new ReadRose error
   pub unfresh : end ≡ Err LogNotFresh → IsUnfresh source forms new
   pub served : (posts ≡ []) ⊎ ((service : Service) × IsServedBy source forms old new service × ServePromises source service (status_of end) journal posts scene faults old new listens_old listens_new held_old held_new ReadRose ReplaceRose ListenRose LogRose)
-  pub promises : (service : Service) → IsServiceOf source forms old new service → ServePromises source service (status_of end) journal posts scene faults old new listens_old listens_new held_old held_new ReadRose ReplaceRose ListenRose LogRose
+  pub promises : (service : Service) → tell_throughout source old new ≡ true → IsServedBy source forms old new service → ServePromises source service (status_of end) journal posts scene faults old new listens_old listens_new held_old held_new ReadRose ReplaceRose ListenRose LogRose
   pub unlogged : posts ≡ [] → Gains held_old [] held_new
   pub unlistened : posts ≡ [] → Gains listens_old [] listens_new
   pub unchanged : posts ≡ [] → Goes SameFiles old new

@@ -1,6 +1,5 @@
 -- Believed: what a run serves by.
-use Rattle.std.specs.Prelude.{◌≡◌, ℕ, true, List, Option, Some, None, IfSome, is_some, is_ok, Ok}
-use Rattle.account_file.specs.Entries.{entries_of}
+use Rattle.std.specs.Prelude.{◌≡◌, ℕ, Bool, true, ◌&&◌, List, Option, Some, None, IfSome, is_some, is_ok}
 use Rattle.info_hooks.specs.declared.key.Key.{Key}
 use Rattle.otp_words.specs.Dictionaries.{plain_words}
 use Rattle.outside.specs.Files.{Contents}
@@ -19,20 +18,6 @@ abbrev pub HasFreshLog : Option (List ℕ) → Contents → Type 0
 HasFreshLog None files = Unit {0}
 HasFreshLog (Some log) files = IsFresh (files log)
 
--- the file of this name, as the files told before the run and tell still, spells the setup, and the one that it names the word list; the log is fresh
-pub record IsNamedService (name : List ℕ) (log : Option (List ℕ)) (forms : List Key) (old new : Option Contents) (service : Service) : Type 0 where
-  pub forms_are : service.forms ≡ forms
-  pub files : Contents
-  pub told : old ≡ Some files
-  pub still : is_some new ≡ true
-  pub found : service_in forms files name ≡ Ok (record { entries = entries_of service.setup; words = service.words })
-  pub fresh : HasFreshLog log files
-
--- what a run serves by, whose setup comes from there and that can say this
-abbrev pub IsServiceOf : Source → List Key → Option Contents → Option Contents → Service → Type 0
-IsServiceOf Plain forms old new service = service ≡ plain_service forms
-IsServiceOf (Named name log) forms old new service = IsNamedService name log forms old new service
-
 -- the files, as they told before the run, spell this service, and the log is fresh, where they tell still
 pub record IsReadService (name : List ℕ) (log : Option (List ℕ)) (forms : List Key) (old new : Option Contents) (service : Service) : Type 0 where
   pub forms_are : service.forms ≡ forms
@@ -43,6 +28,11 @@ pub record IsReadService (name : List ℕ) (log : Option (List ℕ)) (forms : Li
 abbrev pub IsServedBy : Source → List Key → Option Contents → Option Contents → Service → Type 0
 IsServedBy Plain forms old new service = service ≡ plain_service forms
 IsServedBy (Named name log) forms old new service = IsReadService name log forms old new service
+
+-- the files tell before the run and behind it, where it is by files
+abbrev pub tell_throughout : Source → Option Contents → Option Contents → Bool
+tell_throughout Plain old new = true
+tell_throughout (Named name log) old new = is_some old && is_some new
 
 -- the files, where they tell, spell a service, and the log that is named isn't there or has something else than no record
 abbrev pub IsUnfresh : Source → List Key → Option Contents → Type 0

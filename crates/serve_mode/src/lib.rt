@@ -1,5 +1,5 @@
 //! The mode `serve`: a setup and its word list are read, their workers serve, and the accounts are
-//! written back. Believe `specs/Headline.antt` and the files that it names.
+//! written back. Believe `specs/Headline.antt` and the files that it names. The top call stands above.
 #![tactic(auto)]
 
 mod accounts;

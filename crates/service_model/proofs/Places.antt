@@ -3,20 +3,20 @@ use Rattle.std.proofs.Common.{◌≡◌, ◌≢◌, ℕ, ◌+◌, Bool, true, fa
 use Rattle.std.proofs.lemmas.Bool.Decides.{nat_tests}
 use Rattle.std.proofs.lemmas.List.{append-nil}
 use Rattle.policy_model.specs.declared.event.Event.{Event}
-use Rattle.service_model.specs.Places.{place_of, places_after, worker_places}
 use Rattle.policy_model.specs.Journal.{Place}
 use Rattle.service_model.proofs.Lists.{count-append, count-cons}
+use Rattle.service_model.specs.Places.{place_of, worker_places, worker_places_after}
 
-pub places_after-append : (worker : ℕ) (before xs ys : List Event) → places_after worker before (xs ++ ys) ≡ places_after worker before xs ++ places_after worker (before ++ xs) ys
-places_after-append worker before [] ys = ap (λ b. places_after worker b ys) (sym (append-nil before))
-places_after-append worker before (x ∷ xs) ys =
+pub worker_places_after-append : (worker : ℕ) (before xs ys : List Event) → worker_places_after worker before (xs ++ ys) ≡ worker_places_after worker before xs ++ worker_places_after worker (before ++ xs) ys
+worker_places_after-append worker before [] ys = ap (λ b. worker_places_after worker b ys) (sym (append-nil before))
+worker_places_after-append worker before (x ∷ xs) ys =
     let front : List Place = cond (eqb x.worker worker) (place_of before x ∷ []) [] in
     let mid : List Event = before ++ x ∷ [] in
-    ap (λ ps. front ++ ps) (places_after-append worker mid xs ys ∙ ap (λ b. places_after worker mid xs ++ places_after worker b ys) (append_assoc before (x ∷ []) xs))
-    ∙ sym (append_assoc front (places_after worker mid xs) (places_after worker (before ++ (x ∷ xs)) ys))
+    ap (λ ps. front ++ ps) (worker_places_after-append worker mid xs ys ∙ ap (λ b. worker_places_after worker mid xs ++ worker_places_after worker b ys) (append_assoc before (x ∷ []) xs))
+    ∙ sym (append_assoc front (worker_places_after worker mid xs) (worker_places_after worker (before ++ (x ∷ xs)) ys))
 
 one_place : (worker : ℕ) (before : List Event) (e : Event) → worker_places (before ++ e ∷ []) worker ≡ worker_places before worker ++ cond (eqb e.worker worker) (place_of before e ∷ []) []
-one_place worker before e = places_after-append worker [] before (e ∷ []) ∙ ap (λ ps. worker_places before worker ++ ps) (append-nil (cond (eqb e.worker worker) (place_of before e ∷ []) []))
+one_place worker before e = worker_places_after-append worker [] before (e ∷ []) ∙ ap (λ ps. worker_places before worker ++ ps) (append-nil (cond (eqb e.worker worker) (place_of before e ∷ []) []))
 
 -- an event of the worker is one place more
 pub worker_places-own : (worker : ℕ) (before : List Event) (e : Event) → e.worker ≡ worker → worker_places (before ++ e ∷ []) worker ≡ worker_places before worker ++ place_of before e ∷ []
@@ -30,11 +30,11 @@ worker_places-other worker before e other =
     let apart : eqb e.worker worker ≡ false = grind (arith, nat_tests, other) in
     one_place worker before e ∙ ap (λ b. worker_places before worker ++ cond b (place_of before e ∷ []) []) apart ∙ append-nil (worker_places before worker)
 
-count_after : (f : Event → Bool) (worker : ℕ) (before journal : List Event) → count_by (λ e. eqb e.worker worker && f e) journal ≡ count_by (λ p. f p.event) (places_after worker before journal)
+count_after : (f : Event → Bool) (worker : ℕ) (before journal : List Event) → count_by (λ e. eqb e.worker worker && f e) journal ≡ count_by (λ p. f p.event) (worker_places_after worker before journal)
 count_after f worker before [] = refl
 count_after f worker before (e ∷ es) =
     let front : List Place = cond (eqb e.worker worker) (place_of before e ∷ []) [] in
-    let rest : List Place = places_after worker (before ++ e ∷ []) es in
+    let rest : List Place = worker_places_after worker (before ++ e ∷ []) es in
     count-cons (λ x. eqb x.worker worker && f x) e es
     ∙ ap (λ n. cond (eqb e.worker worker && f e) 1 0 + n) (count_after f worker (before ++ e ∷ []) es)
     ∙ ap (λ n. n + count_by (λ p. f p.event) rest) (go (eqb e.worker worker))

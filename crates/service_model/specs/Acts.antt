@@ -1,6 +1,5 @@
 -- Believed: the operations that are done for an event.
-use Rattle.std.specs.Prelude.{◌≡◌, ℕ, zero, Bool, true, false, List, [], ◌∷◌, map, Option, Some, None, Result, Ok, Err}
-use Rattle.std.specs.List.{list_any}
+use Rattle.std.specs.Prelude.{◌≡◌, ℕ, zero, List, [], ◌∷◌, map, Option, Some, None, Result, Ok, Err}
 use Rattle.imsg_frame.specs.Message.{Message}
 use Rattle.request_catalogue.specs.declared.request.Bad.{Bad}
 use Rattle.request_catalogue.specs.declared.texts.Label.{Label}
@@ -14,7 +13,6 @@ use Rattle.outside.specs.declared.act.Accepted.{Accepted}
 use Rattle.outside.specs.declared.act.Accepted.TheVariants as accepted
 use Rattle.outside.specs.declared.act.Role.{Role}
 use Rattle.outside.specs.declared.act.Role.TheVariants.{Pre}
-use Rattle.outside.specs.Scene.{is_failed_start}
 use Rattle.policy_model.specs.declared.event.Ask.{Ask}
 use Rattle.policy_model.specs.declared.event.Ask.TheVariants as asks
 use Rattle.policy_model.specs.declared.event.Why.{Why}
@@ -118,7 +116,3 @@ abbrev pub bytes_read : Act → List ℕ
 bytes_read (acts.ConnRecv max (Ok bytes)) = bytes
 bytes_read (acts.VaultRead uid name offset max (Ok bytes)) = bytes
 bytes_read _ = []
-
--- a child could not be started
-abbrev pub has_failed_start : List Act → Bool
-has_failed_start done = list_any is_failed_start done

@@ -1,5 +1,5 @@
 -- Believed: what a child is told of its requests.
-use Rattle.std.specs.Prelude.{ℕ, ◌==◌, nat_lt, List, [], ◌∷◌, filter_map, find, Option, Some, None, if◌then◌else◌}
+use Rattle.std.specs.Prelude.{ℕ, ◌==◌, nat_lt, List, [], filter_map, find, slice_get, Option, Some, None, option_map, unwrap_or, if◌then◌else◌}
 use Rattle.std.specs.Int.{w32, to_le_bytes}
 use Rattle.std.specs.List.{flat_map}
 use Rattle.imsg_frame.specs.Message.{Message, spelling_of, composed_of}
@@ -17,7 +17,8 @@ use Rattle.policy_model.specs.declared.event.Ask.{Ask}
 use Rattle.policy_model.specs.declared.event.Ask.TheVariants as asks
 use Rattle.policy_model.specs.declared.event.Decision.{Decision}
 use Rattle.policy_model.specs.declared.event.Decision.TheVariants as decisions
-use Rattle.policy_model.specs.Asks.{decoys_from, shown_of}
+use Rattle.policy_model.specs.declared.reading.TheConstants.{DECOYS_FROM}
+use Rattle.policy_model.specs.Asks.{shown_of}
 use Rattle.policy_model.specs.Decoys.{decoy_algo, decoy_number, decoy_seed}
 use Rattle.policy_model.specs.Journal.{Place}
 use Rattle.policy_model.specs.Logins.{account_of}
@@ -29,17 +30,17 @@ use Rattle.service_model.specs.Places.{Step}
 use Rattle.service_model.specs.Users.{user_at}
 
 -- the challenge of a user's account, with the number of the next password
-abbrev pub account_challenge : Option Account → ℕ → List ℕ
-account_challenge None number = []
-account_challenge (Some account) number = challenge_of account.algo number (seed_bytes account.seed)
+abbrev pub account_challenge_text : Option Account → ℕ → List ℕ
+account_challenge_text None number = []
+account_challenge_text (Some account) number = challenge_of account.algo number (seed_bytes account.seed)
 
 -- the challenge of a name's decoy
-abbrev pub decoy_challenge : Settings → Name → List ℕ
-decoy_challenge setup user = challenge_of (decoy_algo setup user) (decoy_number setup user) (decoy_seed setup user)
+abbrev pub decoy_challenge_text : Settings → Name → List ℕ
+decoy_challenge_text setup user = challenge_of (decoy_algo setup user) (decoy_number setup user) (decoy_seed setup user)
 
 -- what a permitted CHALLENGE with a value is answered by: the account's challenge, or, from 10,000 on, the decoy's
 abbrev pub challenge_text : Settings → Name → ℕ → List ℕ
-challenge_text setup user value = if nat_lt value decoys_from then account_challenge (account_of setup user) value else decoy_challenge setup user
+challenge_text setup user value = if nat_lt value DECOYS_FROM then account_challenge_text (account_of setup user) value else decoy_challenge_text setup user
 
 -- the imported state: the user's number and name, and the bytes that the child before had exported
 abbrev pub imported_state : Option Account → List ℕ → List ℕ
@@ -54,11 +55,6 @@ said_of _ _ sequence = []
 -- an information text: the form of its number, said of the user
 abbrev pub info_text : List Key → ℕ → Option Account → ℕ → List ℕ
 info_text forms number user sequence = said_of (find (λ key. key.number == number) forms) user sequence
-
--- the first of a list, if there is one
-abbrev pub list_head : List ℕ → Option ℕ
-list_head [] = None
-list_head (x ∷ xs) = Some x
 
 -- the body of what is answered to a permitted ask with a value, where these bytes were exported
 abbrev pub done_body : Service → List ℕ → Place → List Act → Ask → ℕ → List ℕ
@@ -78,7 +74,7 @@ outcome_value None body = Done body
 -- what is answered to a permitted ask: nothing to an EXPORT
 abbrev pub permitted_value : Service → List ℕ → Place → List Act → Ask → ℕ → Option AnswerValue
 permitted_value service exported p done (asks.Export len) value = None
-permitted_value service exported p done ask value = Some (outcome_value (list_head (filter_map failed_device done)) (done_body service exported p done ask value))
+permitted_value service exported p done ask value = Some (outcome_value (slice_get (filter_map failed_device done) 0) (done_body service exported p done ask value))
 
 -- what is answered to a decision, as it is shown: nothing to a lost one
 abbrev pub answer_value : Service → List ℕ → Place → List Act → Decision → Option AnswerValue
@@ -99,12 +95,8 @@ unfoldable pub reply_to : Service → List ℕ → Message → Place → List Ac
 reply_to service exported message p done = reply_bytes service.setup.frames message p.event.session (answer_value service exported p done (shown_of p.event.decision))
 
 -- the bytes that a child is sent for a step; nothing where no message brought it
-abbrev pub answer_to_message : Service → List ℕ → Option Message → Place → List Act → List ℕ
-answer_to_message service exported None p done = []
-answer_to_message service exported (Some message) p done = reply_to service exported message p done
-
 abbrev pub answer_to : Service → List ℕ → Step → List ℕ
-answer_to service exported step = answer_to_message service exported step.message step.place step.acts
+answer_to service exported step = unwrap_or (option_map (λ message. reply_to service exported message step.place step.acts) step.message) []
 
 abbrev pub answers : Service → List ℕ → List Step → List ℕ
 answers service exported steps = flat_map (answer_to service exported) steps

@@ -1,5 +1,5 @@
 -- Believed: what one child had of a session.
-use Rattle.std.specs.Prelude.{◌≡◌, ◌≢◌, ℕ, true, false, List, [], ◌++◌, take, Option, Some, None, option_to_list}
+use Rattle.std.specs.Prelude.{◌≡◌, ◌≢◌, ℕ, true, false, List, [], ◌++◌, take, Option, Some, None, IsSomeAnd, option_and_then, option_map, option_to_list, unwrap_or}
 use Rattle.std.specs.List.{AllByRecursion, flat_map}
 use Rattle.imsg_frame.specs.Message.{Message, spelling_of}
 use Rattle.imsg_frame.specs.Cut.{IsPartialFront, IsBadFront}
@@ -7,7 +7,6 @@ use Rattle.request_catalogue.specs.declared.width.Width.{Width}
 use Rattle.request_catalogue.specs.Widths.{frame_max}
 use Rattle.outside.specs.declared.act.Act.{Act}
 use Rattle.outside.specs.declared.act.Role.{Role}
-use Rattle.policy_model.specs.declared.event.Ask.{Ask}
 use Rattle.policy_model.specs.declared.event.Why.{Why}
 use Rattle.policy_model.specs.declared.event.Why.TheVariants as whys
 use Rattle.policy_model.specs.declared.event.Decision.{Decision}
@@ -47,14 +46,10 @@ message_bytes width (Some message) = spelling_of width message
 abbrev pub step_bytes : Width → List Step → List ℕ
 step_bytes width steps = flat_map (λ s. message_bytes width s.message) steps
 
-abbrev pub CameByMessage : Service → Option Message → Ask → Type 0
-CameByMessage service None ask = ⊥
-CameByMessage service (Some message) ask = CameBy service message ask
-
 -- a child's request, with the message that it came by and the acts that were done for it
 pub record IsRequestStep (service : Service) (step : Step) : Type 0 where
   pub request : came_by_frame step.place.event.ask ≡ true
-  pub came : CameByMessage service step.message step.place.event.ask
+  pub came : IsSomeAnd step.message (λ message. CameBy service message step.place.event.ask)
   pub acts : AreActsOf service.setup step.place step.message step.acts
 
 -- a child is served on after a step: its session goes on, and no other child follows it
@@ -107,11 +102,6 @@ abbrev pub final_acts : Option Step → List Act
 final_acts None = []
 final_acts (Some step) = step.acts
 
-abbrev pub body_in : Option Message → List ℕ
-body_in None = []
-body_in (Some message) = message.body
-
 -- the state that a part exported, where the request that ended it is an EXPORT: the body of its message
 abbrev pub exported_by : Option Step → List ℕ
-exported_by None = []
-exported_by (Some step) = body_in step.message
+exported_by final = unwrap_or (option_map (λ message. message.body) (option_and_then (λ step. step.message) final)) []

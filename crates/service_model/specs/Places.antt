@@ -16,13 +16,13 @@ abbrev pub place_of : List Event → Event → Place
 place_of before event = record { before = before; event = event }
 
 -- the places of a worker's events in the second list, where the first one stands before it
-abbrev pub places_after : ℕ → List Event → List Event → List Place
-places_after worker before [] = []
-places_after worker before (e ∷ events) = (if e.worker == worker then place_of before e ∷ [] else []) ++ places_after worker (before ++ e ∷ []) events
+abbrev pub worker_places_after : ℕ → List Event → List Event → List Place
+worker_places_after worker before [] = []
+worker_places_after worker before (e ∷ events) = (if e.worker == worker then place_of before e ∷ [] else []) ++ worker_places_after worker (before ++ e ∷ []) events
 
 -- the places of a worker's events in a journal
 abbrev pub worker_places : List Event → ℕ → List Place
-worker_places journal worker = places_after worker [] journal
+worker_places journal worker = worker_places_after worker [] journal
 
 abbrev pub step_places : List Step → List Place
 step_places steps = map (λ s. s.place) steps

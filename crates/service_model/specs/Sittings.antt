@@ -1,17 +1,18 @@
 -- Believed: one session of a worker, and all of them.
-use Rattle.std.specs.Prelude.{◌≡◌, ◌≢◌, ℕ, Bool, true, false, List, [], ◌∷◌, ◌++◌, map, Option, Some, None, option_to_list}
-use Rattle.std.specs.List.{AllByRecursion, flat_map}
+use Rattle.std.specs.Prelude.{◌≡◌, ◌≢◌, ℕ, Bool, true, false, List, [], ◌∷◌, ◌++◌, map, Option, Some, None, IsSomeAnd, option_map, option_to_list, unwrap_or}
+use Rattle.std.specs.List.{AllByRecursion, flat_map, list_any}
 use Rattle.outside.specs.declared.act.Role.{Role}
 use Rattle.outside.specs.declared.act.Role.TheVariants.{Pre}
+use Rattle.outside.specs.Scene.{is_failed_start}
 use Rattle.policy_model.specs.declared.event.Ask.TheVariants as asks
 use Rattle.policy_model.specs.declared.event.Event.{Event}
 use Rattle.policy_model.specs.declared.event.Why.{Why}
 use Rattle.policy_model.specs.declared.event.Why.TheVariants as whys
 use Rattle.policy_model.specs.Asks.{is_lost, is_permit}
 use Rattle.policy_model.specs.Settings.{Settings}
+use Rattle.service_model.specs.Acts.{AreActsOf, ending_operations, operation_of}
 use Rattle.service_model.specs.Service.{Service}
 use Rattle.service_model.specs.Places.{Step, step_places, worker_places}
-use Rattle.service_model.specs.Acts.{AreActsOf, ending_operations, has_failed_start, operation_of}
 use Rattle.service_model.specs.Ends.{is_lost_end}
 use Rattle.service_model.specs.Parts.{EndsSession, HandsOver, IsAnswered, IsPart, Part, exported_by, final_acts, requests_of}
 use Rattle.service_model.specs.Users.{user_role}
@@ -26,29 +27,24 @@ pub record Sitting : Type 0 where
 abbrev pub all_steps : Sitting → List Step
 all_steps sitting = sitting.opening ∷ flat_map requests_of sitting.parts ++ option_to_list sitting.ending
 
--- the role of the user's child that a part hands over to, read off the place of its EXPORT
-abbrev pub IsUserOf : Settings → Option Step → Role → Type 0
-IsUserOf setup None role = ⊥
-IsUserOf setup (Some step) role = role ≡ user_role setup step.place
-
 -- the first child's part, behind which no other child was served: it ended the session, or the user's child could not be started
 abbrev pub EndsFirst : Service → Why → Part → Type 0
-EndsFirst service whys.KeeperFault pre = IsPart service [] HandsOver pre × (has_failed_start (final_acts pre.final) ≡ true)
+EndsFirst service whys.KeeperFault pre = IsPart service [] HandsOver pre × (list_any is_failed_start (final_acts pre.final) ≡ true)
 EndsFirst service why pre = IsPart service [] (EndsSession why) pre
 
--- the first child handed over to the user's, which ended the session
+-- the first child handed over to the user's, whose role is read off the place of the EXPORT, and which ended the session
 pub record ChangesUser (service : Service) (why : Why) (pre user : Part) : Type 0 where
   pub first : IsPart service [] HandsOver pre
-  pub started : has_failed_start (final_acts pre.final) ≡ false
-  pub verified : IsUserOf service.setup pre.final user.role
+  pub started : list_any is_failed_start (final_acts pre.final) ≡ false
+  pub verified : IsSomeAnd pre.final (λ step. user.role ≡ user_role service.setup step.place)
   pub second : IsPart service (exported_by pre.final) (EndsSession why) user
   pub served : why ≢ whys.KeeperFault
 
 -- the children of a session that ended so: none where the first could not be started, else the one before the login, and then the user's, where one was started
 abbrev pub AreParts : Service → Why → Step → List Part → Type 0
-AreParts service why opening [] = (has_failed_start opening.acts ≡ true) × (why ≡ whys.KeeperFault)
-AreParts service why opening (pre ∷ []) = (has_failed_start opening.acts ≡ false) × (pre.role ≡ Pre opening.place.event.session) × EndsFirst service why pre
-AreParts service why opening (pre ∷ user ∷ []) = (has_failed_start opening.acts ≡ false) × (pre.role ≡ Pre opening.place.event.session) × ChangesUser service why pre user
+AreParts service why opening [] = (list_any is_failed_start opening.acts ≡ true) × (why ≡ whys.KeeperFault)
+AreParts service why opening (pre ∷ []) = (list_any is_failed_start opening.acts ≡ false) × (pre.role ≡ Pre opening.place.event.session) × EndsFirst service why pre
+AreParts service why opening (pre ∷ user ∷ []) = (list_any is_failed_start opening.acts ≡ false) × (pre.role ≡ Pre opening.place.event.session) × ChangesUser service why pre user
 AreParts service why opening (pre ∷ user ∷ other ∷ parts) = ⊥
 
 -- the child that is live at a session's end, if one is: its last
@@ -79,14 +75,9 @@ pub record IsSitting (service : Service) (sitting : Sitting) : Type 0 where
   pub begins : IsOpening service.setup sitting.opening
   pub round : Follows service sitting.opening sitting.parts sitting.ending
 
--- an end of a session behind which its worker serves no more: there is none, since the opening is lost, or it came because a
--- decision was lost
-abbrev pub ends_by_loss : Option Step → Bool
-ends_by_loss None = true
-ends_by_loss (Some ending) = is_lost_end ending.place.event.ask
-
+-- a session behind which its worker serves no more: it has no end, since the opening is lost, or it ended because a decision was lost
 abbrev pub ends_worker : Sitting → Bool
-ends_worker sitting = ends_by_loss sitting.ending
+ends_worker sitting = unwrap_or (option_map (λ ending. is_lost_end ending.place.event.ask) sitting.ending) true
 
 -- behind such a session stands no other
 abbrev pub NoneBehindLoss : List Sitting → Type 0

@@ -4,9 +4,8 @@ use Rattle.request_catalogue.specs.declared.texts.Label.{Label}
 use Rattle.outside.specs.declared.act.Role.{Role}
 use Rattle.outside.specs.declared.act.Role.TheVariants.{Pre, User}
 use Rattle.policy_model.specs.declared.account.Account.{Account}
-use Rattle.policy_model.specs.declared.event.Ask.{Ask}
-use Rattle.policy_model.specs.declared.event.Ask.TheVariants as asks
 use Rattle.policy_model.specs.declared.event.Event.{Event}
+use Rattle.policy_model.specs.Asks.{label_named}
 use Rattle.policy_model.specs.Handles.{handle_opening}
 use Rattle.policy_model.specs.Journal.{Place}
 use Rattle.policy_model.specs.Logins.{verified_user}
@@ -30,14 +29,9 @@ pub record File : Type 0 where
   pub uid : ℕ
   pub name : Label
 
--- the name that an OPEN gives
-abbrev pub name_opened : Ask → Option Label
-name_opened (asks.OpenFile mode name) = Some name
-name_opened _ = None
-
 abbrev pub name_of_opening : Option Event → Option Label
 name_of_opening None = None
-name_of_opening (Some e) = name_opened e.ask
+name_of_opening (Some e) = label_named e.ask
 
 -- a file of a user, where there is one, by its name, where there is one
 abbrev pub file_of : Option Account → Option Label → Option File

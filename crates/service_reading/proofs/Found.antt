@@ -1,6 +1,10 @@
 -- What files say of a service, step by step.
-use Rattle.std.proofs.Common.{◌≡◌, ℕ, List, Option, Some, None, Ok, Err, sym, ap, subst, ◌∙◌}
+use Rattle.std.proofs.Common.{◌≡◌, ℕ, List, Option, Some, None, Result, Ok, Err, sym, ap, subst, ◌∙◌}
 use Rattle.std.specs.Prelude.{option_map}
+use Rattle.std.specs.Result.{result_map_both}
+use Rattle.otp_words.specs.declared.fault.DictFault.{DictFault}
+use Rattle.otp_words.specs.Lists.{dictionary_of}
+use Rattle.request_catalogue.specs.Results.{demand, ◌>>=◌}
 use Rattle.outside.specs.Files.{Contents, SameFiles}
 use Rattle.outside.specs.Told.{Goes}
 use Rattle.file_front.specs.declared.list.ListError.{ListError}
@@ -9,13 +13,27 @@ use Rattle.file_front.specs.Lists.{IsJudgedSo, IsListFault, list_text}
 use Rattle.info_hooks.specs.declared.key.Key.{Key}
 use Rattle.policy_model.specs.Settings.{Settings}
 use Rattle.account_file.specs.declared.fault.SetupFault.{SetupFault}
-use Rattle.account_file.specs.Entries.{entries_of}
+use Rattle.account_file.specs.Entries.{SetupEntries, entries_of}
 use Rattle.setup_reading.specs.declared.reading.SetupFileError.{SetupFileError}
 use Rattle.setup_reading.specs.declared.reading.SetupFileError.TheVariants as setup_errors
 use Rattle.setup_reading.specs.Read.{IsSetupError, IsSetupIn, setup_in, judged_setup}
+use Rattle.service_reading.specs.declared.error.ServiceError.{ServiceError}
 use Rattle.service_reading.specs.declared.error.ServiceError.TheVariants as errors
 use Rattle.service_reading.specs.Errors.{IsServiceError, error_of_list, error_of_setup}
-use Rattle.service_reading.specs.Found.{IsServiceIn, found_file, found_setup, found_text, found_words, informed, service_in}
+use Rattle.service_reading.specs.Found.{FoundService, IsServiceIn, informed, service_in}
+
+-- a service behind its first steps
+abbrev found_words : SetupEntries → Result (List (List ℕ)) DictFault → Result FoundService ServiceError
+found_words entries words = result_map_both (λ w. w) errors.WordsRefused words >>= (λ w. Ok (record { entries = entries; words = w }))
+
+abbrev found_text : SetupEntries → Option (List ℕ) → Result FoundService ServiceError
+found_text entries text = demand errors.WordsMissing text >>= (λ t. found_words entries (dictionary_of t))
+
+abbrev found_setup : Contents → Result SetupEntries SetupFault → Result FoundService ServiceError
+found_setup files entries = result_map_both (λ e. e) errors.SetupRefused entries >>= (λ e. found_text e (list_text (files e.texts.words)))
+
+abbrev found_file : List Key → Contents → Option (Result SetupEntries SetupFault) → Result FoundService ServiceError
+found_file forms files setup = demand errors.SetupMissing setup >>= (λ s. found_setup files (s >>= informed forms))
 
 -- the setup that was read is in the files still
 setup_still : (files later : Contents) (name : List ℕ) → SameFiles files later → setup_in later name ≡ setup_in files name

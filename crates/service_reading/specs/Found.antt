@@ -1,9 +1,10 @@
 -- Believed: the setup in a file, with the word list that it names, or why there is none.
-use Rattle.std.specs.Prelude.{◌≡◌, ℕ, ◌==◌, Bool, List, Option, Some, None, Result, Ok, Err, IfSome}
+use Rattle.std.specs.Prelude.{◌≡◌, ℕ, ◌==◌, Bool, List, Option, Result, Ok, IfSome}
 use Rattle.std.specs.Bool.{then_some}
 use Rattle.std.specs.List.{list_all, list_any}
+use Rattle.std.specs.Result.{result_map_both}
+use Rattle.request_catalogue.specs.Results.{demand, ◌>>=◌}
 use Rattle.outside.specs.Files.{Contents}
-use Rattle.otp_words.specs.declared.fault.DictFault.{DictFault}
 use Rattle.otp_words.specs.Lists.{dictionary_of}
 use Rattle.file_front.specs.Lists.{list_text}
 use Rattle.info_hooks.specs.declared.key.Key.{Key}
@@ -12,7 +13,7 @@ use Rattle.account_file.specs.declared.fault.SetupFault.{SetupFault}
 use Rattle.account_file.specs.declared.fault.SetupKey.TheVariants as keys
 use Rattle.account_file.specs.declared.fault.SetupRule.TheVariants as rules
 use Rattle.account_file.specs.Entries.{SetupEntries, entries_of}
-use Rattle.account_file.specs.Faults.{demand, ◌>>=◌}
+use Rattle.account_file.specs.Faults.{demand_at}
 use Rattle.account_file.specs.Setups.{top}
 use Rattle.setup_reading.specs.Read.{setup_in}
 use Rattle.service_reading.specs.declared.error.ServiceError.{ServiceError}
@@ -24,33 +25,21 @@ are_said forms numbers = list_all (λ number. list_any (λ key. key.number == nu
 
 -- a setup all of whose numbers of information can be said
 abbrev pub informed : List Key → SetupEntries → Result SetupEntries SetupFault
-informed forms entries = demand (top keys.Info) rules.NoHook (then_some (are_said forms entries.info) entries)
+informed forms entries = demand_at (top keys.Info) rules.NoHook (then_some (are_said forms entries.info) entries)
 
 -- what a setup file says, and the words of the list that it names
 pub record FoundService : Type 0 where
   pub entries : SetupEntries
   pub words : List (List ℕ)
 
--- what a judgement of the word list says of a setup that is right by itself
-abbrev pub found_words : SetupEntries → Result (List (List ℕ)) DictFault → Result FoundService ServiceError
-found_words entries (Ok words) = Ok (record { entries = entries; words = words })
-found_words entries (Err fault) = Err (errors.WordsRefused fault)
-
-abbrev pub found_text : SetupEntries → Option (List ℕ) → Result FoundService ServiceError
-found_text entries None = Err errors.WordsMissing
-found_text entries (Some text) = found_words entries (dictionary_of text)
-
-abbrev pub found_setup : Contents → Result SetupEntries SetupFault → Result FoundService ServiceError
-found_setup files (Ok entries) = found_text entries (list_text (files entries.texts.words))
-found_setup files (Err fault) = Err (errors.SetupRefused fault)
-
-abbrev pub found_file : List Key → Contents → Option (Result SetupEntries SetupFault) → Result FoundService ServiceError
-found_file forms files None = Err errors.SetupMissing
-found_file forms files (Some setup) = found_setup files (setup >>= informed forms)
-
--- what files say of the setup in the file of this name, where this can be said
+-- what files say of the setup in the file of this name and of the word list that it names, or the first that is missing or refused
 abbrev pub service_in : List Key → Contents → List ℕ → Result FoundService ServiceError
-service_in forms files name = found_file forms files (setup_in files name)
+service_in forms files name = do
+  setup ← demand errors.SetupMissing (setup_in files name)
+  entries ← result_map_both (λ e. e) errors.SetupRefused (setup >>= informed forms)
+  text ← demand errors.WordsMissing (list_text (files entries.texts.words))
+  words ← result_map_both (λ w. w) errors.WordsRefused (dictionary_of text)
+  Ok (record { entries = entries; words = words })
 
 -- the file of this name spells this setup, and the one that it names these words, where the files tell
 abbrev pub IsServiceIn : List Key → Option Contents → List ℕ → Settings → List (List ℕ) → Type 0

@@ -1,6 +1,6 @@
 -- What one message makes of a session: a step of its worker, with its acts and its answer.
 use Rattle.std.proofs.Common.{◌≡◌, ◌≢◌, ℕ, zero, suc, Bool, true, false, ◌&&◌, ◌||◌, ◌++◌, List, [], ◌∷◌, map, filter_map, Option, Some, None, Result, Ok, Err, refl, sym, ap, subst, ◌∙◌, cond}
-use Rattle.std.specs.Prelude.{MatchResult, is_some}
+use Rattle.std.specs.Prelude.{MatchResult, is_some, slice_get}
 use Rattle.std.specs.Int.{w32, to_le_bytes}
 use Rattle.std.specs.List.{flat_map, list_any}
 use Rattle.std.proofs.lemmas.List.{map-append}
@@ -30,7 +30,7 @@ use Rattle.policy_model.specs.Settings.{Settings}
 use Rattle.policy_model.proofs.Runs.{next_session, no_begin}
 use Rattle.policy_model.proofs.Verdicts.{session_of-other}
 use Rattle.service_model.specs.Acts.{Operation, ReadsFile, Receives, bytes_read, failed_device, if_permitted, operation_of, operations_by, operations_of, write_operations, written_by, written_bytes}
-use Rattle.service_model.specs.Answers.{answer_value, challenge_text, imported_state, info_text, list_head, outcome_value, permitted_value, reply_bytes, reply_to}
+use Rattle.service_model.specs.Answers.{answer_value, challenge_text, imported_state, info_text, outcome_value, permitted_value, reply_bytes, reply_to}
 use Rattle.service_model.specs.Parts.{IsRequestStep}
 use Rattle.service_model.specs.Places.{Step, place_of, worker_places}
 use Rattle.service_model.specs.Requests.{Asks, IsAskOf}
@@ -182,11 +182,11 @@ writes_alone (suc handle) (Some file) offset bytes = refl
 writes_alone (suc handle) None offset bytes = refl
 
 -- where nothing was done, nothing is told
-quiet : (acts : List Act) (answer : AnswerValue) → map operation_of acts ≡ [] → outcome_value (list_head (filter_map failed_device acts)) (flat_map bytes_read acts) ≡ answer → answer ≡ Done []
-quiet acts answer none comes = sym (ap (λ xs. outcome_value (list_head (filter_map failed_device xs)) (flat_map bytes_read xs)) (sym (nothing_done acts none)) ∙ comes)
+quiet : (acts : List Act) (answer : AnswerValue) → map operation_of acts ≡ [] → outcome_value (slice_get (filter_map failed_device acts) 0) (flat_map bytes_read acts) ≡ answer → answer ≡ Done []
+quiet acts answer none comes = sym (ap (λ xs. outcome_value (slice_get (filter_map failed_device xs) 0) (flat_map bytes_read xs)) (sym (nothing_done acts none)) ∙ comes)
 
-silent : (acts : List Act) (body : List ℕ) → map operation_of acts ≡ [] → outcome_value (list_head (filter_map failed_device acts)) body ≡ Done body
-silent acts body none = ap (λ xs. outcome_value (list_head (filter_map failed_device xs)) body) (nothing_done acts none)
+silent : (acts : List Act) (body : List ℕ) → map operation_of acts ≡ [] → outcome_value (slice_get (filter_map failed_device acts) 0) body ≡ Done body
+silent acts body none = ap (λ xs. outcome_value (slice_get (filter_map failed_device xs) 0) body) (nothing_done acts none)
 
 -- what comes of a permitted ask, by what its operation came to
 permitted_is : (service : Service) (exported : List ℕ) (p : Place) (ask : Ask) (value : ℕ) (file : ℕ → Option File) (bytes : List ℕ) (outcome : Outcome) (piece : List ℕ) (s t : Option Scene) → (does : Does (done_operations ask (decisions.Permit value) file bytes) outcome piece s t) → is_export ask ≡ false → permitted_value service exported p (clock_acts ask ++ does.acts) ask value ≡ Some (told_by service exported (user_at service.setup p) ask value (told outcome piece))
@@ -199,7 +199,7 @@ permitted_is service exported p (asks.Export len) value file bytes outcome piece
 permitted_is service exported p (asks.ReadAt handle offset max) value file bytes outcome piece s t does h = ap Some does.comes
 permitted_is service exported p (asks.WriteAt handle offset len) value file bytes outcome piece s t does h =
     let none : list_any reads (map operation_of does.acts) ≡ false = ap (list_any reads) does.are ∙ writes_alone handle (file handle) offset bytes in
-    ap Some (ap (outcome_value (list_head (filter_map failed_device does.acts))) (sym (none_read does.acts none)) ∙ does.comes)
+    ap Some (ap (outcome_value (slice_get (filter_map failed_device does.acts) 0)) (sym (none_read does.acts none)) ∙ does.comes)
 permitted_is service exported p asks.Begin value file bytes outcome piece s t does h = ap Some (silent does.acts [] does.are ∙ sym (quiet does.acts (told outcome piece) does.are does.comes))
 permitted_is service exported p (asks.Reply words hex) value file bytes outcome piece s t does h = ap Some (silent does.acts [] does.are ∙ sym (quiet does.acts (told outcome piece) does.are does.comes))
 permitted_is service exported p asks.Abandon value file bytes outcome piece s t does h = ap Some (silent does.acts [] does.are ∙ sym (quiet does.acts (told outcome piece) does.are does.comes))

@@ -13,10 +13,10 @@ use Rattle.policy_model.specs.declared.account.Account.{Account}
 use Rattle.policy_model.specs.Logins.{account_of}
 use Rattle.policy_model.specs.Settings.{Settings, account_number}
 use Rattle.session_laws.proofs.Numbers.{numbered_by_name, numbered_by_number}
-use Rattle.service_model.specs.Answers.{account_challenge, challenge_text, decoy_challenge}
 use Rattle.outside.specs.declared.act.Act.{Act}
 use Rattle.outside.specs.Scene.{Scene}
 use Rattle.service_model.specs.Acts.{Operation, operation_of}
+use Rattle.service_model.specs.Answers.{account_challenge_text, challenge_text, decoy_challenge_text}
 use Rattle.session_asking.specs.declared.work.Outcome.{Outcome}
 use Rattle.session_asking.specs.declared.work.Outcome.TheVariants as outcomes
 use Rattle.session_asking.specs.Work.{Does, Fits, told}
@@ -58,15 +58,15 @@ named_none setup user h = go (account_of setup user) refl where
       absurd cc
 
 -- a challenge below the decoys is the account's, and else the decoy's
-pub below_decoys : (setup : Settings) (user : Name) (value : ℕ) → value < 10000 → challenge_text setup user value ≡ account_challenge (account_of setup user) value
+pub below_decoys : (setup : Settings) (user : Name) (value : ℕ) → value < 10000 → challenge_text setup user value ≡ account_challenge_text (account_of setup user) value
 below_decoys setup user value lt =
     let below : nat_lt value 10000 ≡ true = grind (arith, nat_tests, lt) in
-    ap (λ b. cond b (account_challenge (account_of setup user) value) (decoy_challenge setup user)) below
+    ap (λ b. cond b (account_challenge_text (account_of setup user) value) (decoy_challenge_text setup user)) below
 
-pub from_decoys : (setup : Settings) (user : Name) (value : ℕ) → 10000 ≤ value → challenge_text setup user value ≡ decoy_challenge setup user
+pub from_decoys : (setup : Settings) (user : Name) (value : ℕ) → 10000 ≤ value → challenge_text setup user value ≡ decoy_challenge_text setup user
 from_decoys setup user value le =
     let above : nat_lt value 10000 ≡ false = grind (arith, nat_tests, le) in
-    ap (λ b. cond b (account_challenge (account_of setup user) value) (decoy_challenge setup user)) above
+    ap (λ b. cond b (account_challenge_text (account_of setup user) value) (decoy_challenge_text setup user)) above
 
 -- what one request transfers fits a reply
 pub has_room : (width : Width) (n : ℕ) → n ≡ transfer_max width → n < body_max width

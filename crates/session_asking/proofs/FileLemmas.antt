@@ -3,14 +3,14 @@ use Rattle.std.proofs.Common.{◌≡◌, ℕ, Bool, true, false, ◌&&◌, cond,
 use Rattle.std.specs.Prelude.{◌==◌}
 use Rattle.std.specs.List.{find}
 use Rattle.std.proofs.lemmas.Bool.{and_parts}
+use Rattle.service_model.specs.Users.{name_of_opening}
 use Rattle.policy_model.specs.declared.event.Ask.{Ask}
 use Rattle.policy_model.specs.declared.event.Ask.TheVariants as asks
 use Rattle.policy_model.specs.declared.event.Event.{Event}
-use Rattle.policy_model.specs.Asks.{closes_file, handle_of, is_close, is_open, is_permit, opens_file}
+use Rattle.policy_model.specs.Asks.{closes_file, handle_of, is_close, is_open, is_permit, opens_file, label_named}
 use Rattle.policy_model.specs.Handles.{handle_opening, live_handles_of}
 use Rattle.session_laws.specs.Handled.{handles_after}
 use Rattle.session_laws.proofs.HandleSteps.{live_handles_of-own}
-use Rattle.service_model.specs.Users.{name_of_opening, name_opened}
 use Rattle.session_asking.specs.Known.{name_after}
 
 abbrev at : ℕ → Event → Bool
@@ -74,14 +74,14 @@ find_push p (x ∷ xs) e = go (p x) (find_push p xs e) where
 names_own : (live : List Event) (e : Event) (handle : ℕ) → (opens_file e ≡ true → find (at (handle_of e)) live ≡ None) → name_of_opening (find (at handle) (handles_after live e)) ≡ name_after e (name_of_opening (find (at handle) live)) handle
 unfolding or_else
 names_own live e handle free = go (opens_file e) refl where
-  go : (b : Bool) → opens_file e ≡ b → name_of_opening (find (at handle) (filter (stays e) live ++ cond b (e ∷ []) [])) ≡ cond (b && eqb (handle_of e) handle) (name_opened e.ask) (cond (closes_file handle e) None (name_of_opening (find (at handle) live)))
+  go : (b : Bool) → opens_file e ≡ b → name_of_opening (find (at handle) (filter (stays e) live ++ cond b (e ∷ []) [])) ≡ cond (b && eqb (handle_of e) handle) (label_named e.ask) (cond (closes_file handle e) None (name_of_opening (find (at handle) live)))
   go true is =
       let opened : is_open e.ask ≡ true = (and_parts (is_open e.ask) (is_permit e.decision) is).0 in
       let none : (n : ℕ) → closes_file n e ≡ false = λ n. ap (λ b. b && is_permit e.decision) (open_closes_none e.ask n opened) in
       let same : filter (stays e) live ≡ live = all_stay (stays e) live (λ x. ap not (none (handle_of x))) in
       let both : find (at handle) (filter (stays e) live ++ e ∷ []) ≡ or_else (find (at handle) live) (cond (eqb (handle_of e) handle) (Some e) None) = ap (λ xs. find (at handle) (xs ++ e ∷ [])) same ∙ find_push (at handle) live e in
       ap name_of_opening both ∙ new (eqb (handle_of e) handle) refl (none handle) where
-        new : (b : Bool) → eqb (handle_of e) handle ≡ b → closes_file handle e ≡ false → name_of_opening (or_else (find (at handle) live) (cond b (Some e) None)) ≡ cond b (name_opened e.ask) (cond (closes_file handle e) None (name_of_opening (find (at handle) live)))
+        new : (b : Bool) → eqb (handle_of e) handle ≡ b → closes_file handle e ≡ false → name_of_opening (or_else (find (at handle) live) (cond b (Some e) None)) ≡ cond b (label_named e.ask) (cond (closes_file handle e) None (name_of_opening (find (at handle) live)))
         new true at_it none =
             let nobody : find (at handle) live ≡ None = ap (λ n. find (at n) live) (sym (eqb-true (handle_of e) handle at_it)) ∙ free is in
             ap (λ o. name_of_opening (or_else o (Some e))) nobody

@@ -4,6 +4,7 @@ use Rattle.std.specs.Prelude.{is_some}
 use Rattle.std.specs.List.{find, list_all}
 use Rattle.std.proofs.lemmas.Bool.{and_parts, false≢true}
 use Rattle.std.proofs.lemmas.Bool.Decides.{nat_tests}
+use Rattle.service_model.specs.Users.{name_of_opening}
 use Rattle.request_catalogue.specs.declared.kind.Kind.TheVariants as kinds
 use Rattle.request_catalogue.specs.declared.texts.Name.{Name}
 use Rattle.policy_model.specs.declared.account.Account.{Account}
@@ -14,7 +15,7 @@ use Rattle.policy_model.specs.declared.event.Decision.TheVariants.{Permit, Deny,
 use Rattle.policy_model.specs.declared.event.Event.{Event}
 use Rattle.policy_model.specs.declared.phase.Phase.{Phase}
 use Rattle.policy_model.specs.declared.phase.Phase.TheVariants as phases
-use Rattle.policy_model.specs.Asks.{accepts, came_by_frame, closes_file, exports, handle_of, is_permit, kind_of, opens_file, value_of}
+use Rattle.policy_model.specs.Asks.{accepts, came_by_frame, closes_file, exports, handle_of, is_permit, kind_of, opens_file, value_of, label_named}
 use Rattle.policy_model.specs.Handles.{handle_opening}
 use Rattle.policy_model.specs.Journal.{has_event}
 use Rattle.policy_model.specs.Legal.{IsNext}
@@ -28,7 +29,6 @@ use Rattle.session_laws.proofs.Permitted.{accepted_in_challenged, permitted_live
 use Rattle.session_laws.proofs.PhaseLemmas.{phase_tests}
 use Rattle.session_laws.proofs.SessionEvents.{has_event-own}
 use Rattle.session_laws.proofs.UserLemmas.{verified_user-own}
-use Rattle.service_model.specs.Users.{name_of_opening, name_opened}
 use Rattle.session_turns.specs.Joins.{SessionStays}
 use Rattle.session_asking.specs.declared.live.LoggedIn.{LoggedIn}
 use Rattle.session_asking.specs.Known.{Knows, NotesFiles, name_after, names_in}
@@ -92,7 +92,7 @@ knows_own setup journal e session user new known next own unexported notes = rec
       let none : has_event journal e.session exports ≡ false = subst (λ s. has_event journal s exports ≡ false) (sym own) (known.exported ∙ some) in
       let unopened = no_opening setup journal e next none in
       names_after journal e session handle own free ∙ ap (λ o. name_after e o handle) (known.files handle ∙ nobody_named user some handle)
-      ∙ ap (λ b. cond (b && eqb (handle_of e) handle) (name_opened e.ask) (cond (closes_file handle e) None None)) unopened ∙ neither (closes_file handle e) ∙ sym (nobody_named new (notes.some ∙ some) handle) where
+      ∙ ap (λ b. cond (b && eqb (handle_of e) handle) (label_named e.ask) (cond (closes_file handle e) None None)) unopened ∙ neither (closes_file handle e) ∙ sym (nobody_named new (notes.some ∙ some) handle) where
         neither : (b : Bool) → ◌≡◌ {A = Option Rattle.request_catalogue.specs.declared.texts.Label.Label} (cond b None None) None
         neither true = refl
         neither false = refl

@@ -27,7 +27,7 @@ use Rattle.policy_model.specs.declared.event.Decision.TheVariants as decisions
 use Rattle.policy_model.specs.declared.event.Event.{Event}
 use Rattle.policy_model.specs.declared.event.Why.TheVariants as whys
 use Rattle.policy_model.specs.declared.phase.Phase.TheVariants as phases
-use Rattle.policy_model.specs.Asks.{accepts, came_by_frame, closes_file, ends_session, exports, handle_of, is_export, is_lost, is_permit, is_proper, opens_file, shown_of, value_of}
+use Rattle.policy_model.specs.Asks.{accepts, came_by_frame, closes_file, ends_session, exports, handle_of, is_export, is_lost, is_permit, is_proper, opens_file, shown_of, value_of, label_named}
 use Rattle.policy_model.specs.Handles.{handle_opening}
 use Rattle.policy_model.specs.Journal.{ask_count, has_event, open_session_of}
 use Rattle.policy_model.specs.Logins.{challenged_user, verified_user}
@@ -48,7 +48,7 @@ use Rattle.service_model.specs.Answers.{answer_value, reply_bytes, reply_to}
 use Rattle.service_model.specs.Parts.{why_of}
 use Rattle.service_model.specs.Places.{place_of}
 use Rattle.service_model.specs.Requests.{Asks}
-use Rattle.service_model.specs.Users.{File, name_of_opening, name_opened, role_of}
+use Rattle.service_model.specs.Users.{File, name_of_opening, role_of}
 use Rattle.session_turns.specs.Joins.{Joins, KeepsRights, OthersJoined, Rights}
 use Rattle.session_asking.specs.declared.asking.Turn.{Turn}
 use Rattle.session_asking.specs.declared.asking.Turn.TheVariants as turns
@@ -286,7 +286,7 @@ handed_on setup session ask user rights_old rights_new old new e joins served ow
           ap (account_named setup) (verified_user-own before e e.session refl ∙ ap (λ b. cond b (challenged_user before e.session) (verified_user before e.session)) is.unaccepted) ∙ h.named ∙ sym h.stands ∙ ap (slice_get setup.accounts) (sym fresh.account);
       files = λ handle.
           names_after before e e.session handle refl (λ opened. absurd (let wrong : false ≡ true = sym is.unopened ∙ opened in cc))
-          ∙ ap (λ b. cond (b && eqb (handle_of e) handle) (name_opened e.ask) (cond (closes_file handle e) None (name_of_opening (handle_opening before e.session handle)))) is.unopened
+          ∙ ap (λ b. cond (b && eqb (handle_of e) handle) (label_named e.ask) (cond (closes_file handle e) None (name_of_opening (handle_opening before e.session handle)))) is.unopened
           ∙ ap (λ b. cond b None (name_of_opening (handle_opening before e.session handle))) (is.unclosed handle)
           ∙ ap (λ live. name_of_opening (find (λ o. eqb (handle_of o) handle) live)) (no_handles_before setup before joins.others.run.legal e.session h.before_export)
           ∙ sym (fresh.files handle);

@@ -1,16 +1,16 @@
 -- Inner: what is known of a session while its child is served.
 use Rattle.std.specs.Prelude.{◌≡◌, ℕ, ◌+◌, ◌≤◌, ◌<◌, ◌==◌, ◌&&◌, true, List, Option, Some, None, is_some, slice_get, if◌then◌else◌}
+use Rattle.service_model.specs.Users.{File, file_of, name_of_opening}
 use Rattle.request_catalogue.specs.declared.texts.Label.{Label}
 use Rattle.policy_model.specs.declared.account.Account.{Account}
 use Rattle.policy_model.specs.declared.event.Event.{Event}
-use Rattle.policy_model.specs.Asks.{closes_file, exports, handle_of, opens_file}
+use Rattle.policy_model.specs.Asks.{closes_file, exports, handle_of, opens_file, label_named}
 use Rattle.policy_model.specs.Handles.{handle_opening}
 use Rattle.policy_model.specs.Journal.{ask_count, has_event, open_session_of}
 use Rattle.policy_model.specs.Logins.{verified_user}
 use Rattle.policy_model.specs.Runs.{IsRun, IsServing}
 use Rattle.policy_model.specs.Settings.{Settings}
 use Rattle.policy_model.specs.Verdict.{account_named}
-use Rattle.service_model.specs.Users.{File, file_of, name_of_opening, name_opened}
 use Rattle.session_turns.specs.Joins.{Rights}
 use Rattle.session_asking.specs.declared.live.LoggedIn.{LoggedIn}
 use Rattle.session_asking.specs.declared.live.UserFile.{UserFile}
@@ -35,7 +35,7 @@ file_in setup user handle = file_of (account_in setup user) (names_in user handl
 
 -- the name at a handle behind an event: the one that it opens, none where it closes the handle, and else the one before
 abbrev pub name_after : Event → Option Label → ℕ → Option Label
-name_after e before handle = if opens_file e && handle_of e == handle then name_opened e.ask else (if closes_file handle e then None else before)
+name_after e before handle = if opens_file e && handle_of e == handle then label_named e.ask else (if closes_file handle e then None else before)
 
 -- an event of a user's session was noted
 pub record NotesFiles (e : Event) (old new : Option LoggedIn) : Type 0 where

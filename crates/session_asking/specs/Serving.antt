@@ -9,8 +9,9 @@ use Rattle.policy_model.specs.Asks.{exports, is_proper_why, value_of}
 use Rattle.policy_model.specs.Journal.{ask_count}
 use Rattle.policy_model.specs.Settings.{Settings}
 use Rattle.service_model.specs.Answers.{answer_to}
-use Rattle.service_model.specs.Parts.{CameByMessage, EndsSession, EndsSo, GoesOn, IsRequestStep, LastSent, by_link}
+use Rattle.service_model.specs.Parts.{EndsSession, EndsSo, GoesOn, IsRequestStep, LastSent, by_link}
 use Rattle.service_model.specs.Places.{Step, place_of, step_places, worker_places}
+use Rattle.service_model.specs.Requests.{CameBy}
 use Rattle.service_model.specs.Service.{Service}
 use Rattle.service_model.specs.Users.{role_of, user_at}
 use Rattle.session_turns.specs.Joins.{Rights}
@@ -65,7 +66,7 @@ pub record HasServed (w : Whose) (message : Message) (turn : Turn) (before after
 pub record HasExported (w : Whose) (message : Message) (e : Event) (before after : Moment) : Type 0 where
   pub front : List Event
   pub exported : exports e ≡ true
-  pub came : CameByMessage w.service (Some message) e.ask
+  pub came : CameBy w.service message e.ask
   pub session_is : e.session ≡ w.session
   pub steps : Steps w.worker (record { place = place_of front e; message = Some message; acts = [] } ∷ []) before.seen after.seen
   pub acts : Goes (Played [] [] []) before.scene after.scene

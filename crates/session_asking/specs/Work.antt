@@ -1,5 +1,5 @@
 -- Inner: what is done for an event behind its decision, and what is told of it.
-use Rattle.std.specs.Prelude.{◌≡◌, ℕ, ◌≤◌, List, [], ◌∷◌, map, filter_map, take, Option, Some, None}
+use Rattle.std.specs.Prelude.{◌≡◌, ℕ, ◌≤◌, List, [], ◌∷◌, map, filter_map, slice_get, take, Option, Some, None}
 use Rattle.std.specs.Int.{w32, to_le_bytes}
 use Rattle.std.specs.List.{flat_map}
 use Rattle.request_catalogue.specs.Replies.{AnswerValue, Done, Denied, Device}
@@ -12,7 +12,7 @@ use Rattle.policy_model.specs.declared.event.Ask.TheVariants as asks
 use Rattle.policy_model.specs.declared.event.Decision.{Decision}
 use Rattle.policy_model.specs.declared.event.Decision.TheVariants as decisions
 use Rattle.service_model.specs.Acts.{Operation, ReadsFile, Receives, Sends, WritesFile, bytes_read, failed_device, if_permitted, operation_of, read_operations, write_operations}
-use Rattle.service_model.specs.Answers.{challenge_text, imported_state, info_text, list_head, outcome_value}
+use Rattle.service_model.specs.Answers.{challenge_text, imported_state, info_text, outcome_value}
 use Rattle.service_model.specs.Service.{Service}
 use Rattle.service_model.specs.Users.{File}
 use Rattle.session_asking.specs.declared.work.Outcome.{Outcome}
@@ -52,7 +52,7 @@ Fits (outcomes.Failed device) room = (1 ≤ device) × (device ≤ 2)
 pub record Does (operations : List Operation) (outcome : Outcome) (piece : List ℕ) (before after : Option Scene) : Type 0 where
   pub acts : List Act
   pub are : map operation_of acts ≡ operations
-  pub comes : outcome_value (list_head (filter_map failed_device acts)) (flat_map bytes_read acts) ≡ told outcome piece
+  pub comes : outcome_value (slice_get (filter_map failed_device acts) 0) (flat_map bytes_read acts) ≡ told outcome piece
   pub played : Goes (Played acts [] []) before after
 
 -- what is told of a permitted ask of a user with this account, where its operation came to this

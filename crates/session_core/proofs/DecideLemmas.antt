@@ -4,9 +4,9 @@ use Rattle.std.specs.Prelude.{unwrap_or}
 use Rattle.std.specs.List.{list_any}
 use Rattle.request_catalogue.specs.declared.kind.Kind.{Kind}
 use Rattle.request_catalogue.specs.declared.kind.Kind.TheVariants as kinds
+use Rattle.request_catalogue.specs.declared.rules.TheConstants.{ASKS_SPENT, NO_INFORMATION, NOT_IN_PHASE, ONCE_ONLY, TRIES_SPENT}
 use Rattle.request_catalogue.specs.declared.texts.Label.{Label}
 use Rattle.request_catalogue.specs.declared.texts.Name.{Name}
-use Rattle.request_catalogue.specs.Rules.{asks_spent, no_information, not_in_phase, once_only, tries_spent}
 use Rattle.otp_ledger.specs.Accounts.{AccountState, LedgerParts}
 use Rattle.otp_ledger.specs.Decisions.{challenge_decision}
 use Rattle.otp_ledger.specs.Standing.{StandsFor}
@@ -44,8 +44,8 @@ use Rattle.policy_model.specs.Verdict.{grants_of}
 challenge_decides : (l : LedgerParts) (row : SessionRow) (journal : List Event) (session : ℕ) (user : Name) (now : ℕ) → StandsFor l journal → RowStands l.setup row journal session → challenge_by l row user now ≡ challenge_verdict l.setup journal session user now
 unfolding challenge_verdict
 challenge_decides l row journal session user now st r =
-    ap (λ n. cond (nat_le l.setup.tries n) (Deny tries_spent l.setup.tries) (challenge_decision l user row.session now)) r.tries
-    ∙ ap (λ d. cond (nat_le l.setup.tries (count_of journal session is_denied_reply)) (Deny tries_spent l.setup.tries) d)
+    ap (λ n. cond (nat_le l.setup.tries n) (Deny TRIES_SPENT l.setup.tries) (challenge_decision l user row.session now)) r.tries
+    ∙ ap (λ d. cond (nat_le l.setup.tries (count_of journal session is_denied_reply)) (Deny TRIES_SPENT l.setup.tries) d)
     (challenge_stands l journal user row.session now st ∙ ap (λ s. account_verdict l.setup journal s user now (account_of l.setup user)) r.session)
 
 reply_decides : (l : LedgerParts) (row : SessionRow) (journal : List Event) (session : ℕ) (words hex : Option ℕ) → StandsFor l journal → RowStands l.setup row journal session → row.phase ≡ Challenged → reply_by l row words hex ≡ reply_verdict l.setup journal session words hex
@@ -91,7 +91,7 @@ info_decides l row journal session number st r logged =
     ap (sequence_at l) there
     ∙ ap (λ (s : AccountState). s.sequence) (stands_at l journal row.account u.account st u.numbered.stands)
     ∙ sym (ap (sequence_of journal) (ap (account_named l.setup) verified ∙ u.numbered.found)) in
-    ap (λ n. cond (list_any (nat_eq number) l.setup.info) (Permit n) (Deny no_information number)) sequence
+    ap (λ n. cond (list_any (nat_eq number) l.setup.info) (Permit n) (Deny NO_INFORMATION number)) sequence
 
 -- 2. What the phase table permits
 
@@ -125,13 +125,13 @@ logged_info Over h = absurd cc
 
 permitted_from : (row : SessionRow) (ask : Ask) (kind : Kind) → kind_refusal row ask kind ≡ None → (table_row row.phase kind).permitted ≡ true
 permitted_from row ask kind h = go (table_row row.phase kind).permitted h where
-  go : (p : Bool) → cond (not p) (Some (Deny not_in_phase (request_number ask))) (cond ((table_row row.phase kind).once && has_mark kind row.bits) (Some (Deny once_only (request_number ask))) None) ≡ None → p ≡ true
+  go : (p : Bool) → cond (not p) (Some (Deny NOT_IN_PHASE (request_number ask))) (cond ((table_row row.phase kind).once && has_mark kind row.bits) (Some (Deny ONCE_ONLY (request_number ask))) None) ≡ None → p ≡ true
   go true h = refl
   go false h = absurd cc
 
 own_from : (row : SessionRow) (requests : ℕ) (ask : Ask) → refusal_of row requests ask ≡ None → own_refusal row ask ≡ None
 own_from row requests ask h = go (is_over_phase row.phase) (eqb row.asked requests) h where
-  go : (o a : Bool) → cond o (Some (Deny not_in_phase (request_number ask))) (cond a (Some (Deny asks_spent requests)) (own_refusal row ask)) ≡ None → own_refusal row ask ≡ None
+  go : (o a : Bool) → cond o (Some (Deny NOT_IN_PHASE (request_number ask))) (cond a (Some (Deny ASKS_SPENT requests)) (own_refusal row ask)) ≡ None → own_refusal row ask ≡ None
   go true a h = absurd cc
   go false true h = absurd cc
   go false false h = h
@@ -161,7 +161,7 @@ session_decides l row journal worker ask st some r by =
     ∙ refusal_decides l.setup row journal (open_session_of journal worker) ask r some by
     ∙ sym (verdict_of-request l.setup journal worker ask by)
 
-idle_decides : (setup : Settings) (journal : List Event) (worker : ℕ) (ask : Ask) → open_session_of journal worker ≡ 0 → came_by_frame ask ≡ true → Deny not_in_phase (request_number ask) ≡ verdict_of setup journal worker ask
+idle_decides : (setup : Settings) (journal : List Event) (worker : ℕ) (ask : Ask) → open_session_of journal worker ≡ 0 → came_by_frame ask ≡ true → Deny NOT_IN_PHASE (request_number ask) ≡ verdict_of setup journal worker ask
 idle_decides setup journal worker ask none by = sym (verdict_of-request setup journal worker ask by ∙ ap (λ s. request_verdict setup journal s ask) none)
 
 worker_decides : (l : LedgerParts) (begun : ℕ) (o : Option SessionRow) (journal : List Event) (worker : ℕ) (ask : Ask) → StandsFor l journal → begun ≡ openings_of journal → WorkerStands l.setup o journal (open_session_of journal worker) → worker_decision l begun o ask ≡ verdict_of l.setup journal worker ask

@@ -15,7 +15,7 @@ use Rattle.policy_model.specs.declared.event.Ask.{Ask}
 use Rattle.policy_model.specs.declared.event.Ask.TheVariants as asks
 use Rattle.policy_model.specs.declared.event.Decision.TheVariants.{Permit}
 use Rattle.policy_model.specs.declared.event.Event.{Event}
-use Rattle.policy_model.specs.Asks.{came_by_frame, is_open, is_permit, opens_file, request_number, value_of}
+use Rattle.policy_model.specs.Asks.{came_by_frame, is_open, is_permit, opens_file, request_number, value_of, label_named}
 use Rattle.policy_model.specs.Handles.{free_handle_of, live_handles_of}
 use Rattle.policy_model.specs.Journal.{ask_count}
 use Rattle.policy_model.specs.Legal.{IsNext}
@@ -28,7 +28,7 @@ use Rattle.session_core.proofs.AccountLemmas.{user_is}
 use Rattle.session_laws.proofs.HandleLaws.{opened_in_user}
 use Rattle.session_laws.proofs.Permits.{permit_from, request_permit, row_permit}
 use Rattle.session_table.specs.declared.rows.SessionRow.{SessionRow}
-use Rattle.session_table.specs.Standing.{RowStands, grant_number, grants_at, has_taken, is_logged_in, label_named}
+use Rattle.session_table.specs.Standing.{RowStands, grant_number, grants_at, has_taken, is_logged_in}
 
 -- 1. A grant that is found has a number
 

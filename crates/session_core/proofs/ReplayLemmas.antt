@@ -7,9 +7,8 @@ use Rattle.policy_model.specs.Settings.{Settings}
 use Rattle.policy_laws.proofs.Exports.{verified_before_export}
 use Rattle.policy_laws.proofs.Replies.{no_password_twice}
 use Rattle.policy_laws.proofs.Sequences.{one_taker_at_a_time, sequence_falls}
-use Rattle.policy_laws.proofs.Strangers.{strangers_are_told_alike}
+use Rattle.policy_laws.specs.Consequences.{HasConsequences}
 use Rattle.session_core.specs.Parts.{CoreParts}
-use Rattle.session_core.specs.Replayed.{HasConsequences}
 use Rattle.session_core.specs.Standing.{Stands}
 
 pub consequences : (setup : Settings) (journal : List Event) → IsLegal setup journal → HasConsequences setup journal
@@ -18,7 +17,6 @@ consequences setup journal legal = record {
   once = no_password_twice setup journal legal;
   falls = sequence_falls setup journal legal;
   one_taker = one_taker_at_a_time setup journal legal;
-  alike = strangers_are_told_alike setup journal legal;
 }
 
 -- no more sessions were opened than events were settled

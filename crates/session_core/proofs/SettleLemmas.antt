@@ -16,7 +16,8 @@ use Rattle.policy_model.specs.declared.event.Decision.{Decision}
 use Rattle.policy_model.specs.declared.event.Event.{Event}
 use Rattle.policy_model.specs.declared.phase.Phase.{Phase}
 use Rattle.policy_model.specs.declared.phase.Phase.TheVariants.{Challenged, Over}
-use Rattle.policy_model.specs.Asks.{accepts, came_by_frame, challenge_name, decoys_from, ends_session, gives_up, is_login_step, is_permit, is_reply, leaves, moment_of, opens, reserves, takes, takes_user, value_of}
+use Rattle.policy_model.specs.declared.reading.TheConstants.{DECOYS_FROM}
+use Rattle.policy_model.specs.Asks.{accepts, came_by_frame, challenge_name, ends_session, gives_up, is_login_step, is_permit, is_reply, leaves, moment_of, opens, reserves, takes, takes_user, value_of}
 use Rattle.policy_model.specs.Legal.{IsLegal, IsNext}
 use Rattle.policy_model.specs.Logins.{account_of, holder_of, last_taking_of, replies_of, session_taking, was_decoyed}
 use Rattle.policy_model.specs.Phases.{phase_of}
@@ -69,25 +70,25 @@ taking_leaves_none e h =
     let t = taking e h in
     (ap (λ b. b || ends_session e) t.gives_none ∙ t.goes_on, ap (λ b. b && is_permit e.decision) t.no_reply)
 
-below_from : (value : ℕ) → nat_le decoys_from value ≡ false → nat_lt value decoys_from ≡ true
+below_from : (value : ℕ) → nat_le DECOYS_FROM value ≡ false → nat_lt value DECOYS_FROM ≡ true
 below_from value h = grind (arith, nat_tests, h)
 
 taking_stands : (l : LedgerParts) (journal : List Event) (e : Event) → IsInRange l.setup → IsLegal l.setup journal → IsNext l.setup journal e → StandsFor l journal → takes e ≡ true → StandsFor (ledger_taking l (number_for l e) e) (journal ++ e ∷ [])
-taking_stands l journal e range legal next st taken = go (nat_le decoys_from (value_of e.decision)) refl where
+taking_stands l journal e range legal next st taken = go (nat_le DECOYS_FROM (value_of e.decision)) refl where
   quiet : (leaves e ≡ false) × (accepts e ≡ false)
   quiet = taking_leaves_none e taken
 
-  stays : nat_le decoys_from (value_of e.decision) ≡ true → (user : Name) → LeavesUser journal e user
+  stays : nat_le DECOYS_FROM (value_of e.decision) ≡ true → (user : Name) → LeavesUser journal e user
   stays decoy user = leaves_user l.setup journal e user legal next (decoy_reserves_none user e decoy) (no_reply journal e user quiet.1) (λ h. absurd (false≢true (sym quiet.0 ∙ h)))
 
-  go : (b : Bool) → nat_le decoys_from (value_of e.decision) ≡ b → StandsFor (ledger_taking l (number_for l e) e) (journal ++ e ∷ [])
+  go : (b : Bool) → nat_le DECOYS_FROM (value_of e.decision) ≡ b → StandsFor (ledger_taking l (number_for l e) e) (journal ++ e ∷ [])
   go true decoy =
       let number : number_for l e ≡ length l.accounts = ap (λ b. cond b (length l.accounts) (unwrap_or (number_by l.setup (challenge_name e.ask)) (length l.accounts))) decoy in
       let test : nat_lt (number_for l e) (length l.accounts) ≡ false = grind (arith, nat_tests, number) in
       subst (λ b. StandsFor (cond b (ledger_holding l (number_for l e) e.session (moment_of e.ask)) l) (journal ++ e ∷ [])) (sym test) (all_stay l journal e st (stays decoy))
   go false real =
       let t = taking_of e taken in
-      let reserved : reserves t.0 e ≡ true = and_from (takes_user t.0 e) (nat_lt (value_of e.decision) decoys_from) t.1.taken (below_from (value_of e.decision) real) in
+      let reserved : reserves t.0 e ≡ true = and_from (takes_user t.0 e) (nat_lt (value_of e.decision) DECOYS_FROM) t.1.taken (below_from (value_of e.decision) real) in
       let live = reserves_live l.setup journal e t.0 next reserved in
       let number : number_for l e ≡ live.number =
       ap (λ b. cond b (length l.accounts) (unwrap_or (number_by l.setup (challenge_name e.ask)) (length l.accounts))) real
@@ -238,18 +239,18 @@ idle_stands l journal e legal next st zero =
 
 -- the account that an event's CHALLENGE is for
 pub number_taken : (l : LedgerParts) (journal : List Event) (e : Event) → IsNext l.setup journal e → StandsFor l journal → takes e ≡ true → account_taken l.setup e ≡ Some (number_for l e)
-number_taken l journal e next st taken = go (nat_le decoys_from (value_of e.decision)) refl where
+number_taken l journal e next st taken = go (nat_le DECOYS_FROM (value_of e.decision)) refl where
   many : length l.accounts ≡ length l.setup.accounts
   many = as_many l journal st
 
-  go : (b : Bool) → nat_le decoys_from (value_of e.decision) ≡ b → account_taken l.setup e ≡ Some (number_for l e)
+  go : (b : Bool) → nat_le DECOYS_FROM (value_of e.decision) ≡ b → account_taken l.setup e ≡ Some (number_for l e)
   go true decoy =
       ap (λ b. cond b (Some (length l.setup.accounts)) (number_by l.setup (challenge_name e.ask))) decoy
       ∙ ap Some (sym many)
       ∙ sym (ap (λ b. Some (cond b (length l.accounts) (unwrap_or (number_by l.setup (challenge_name e.ask)) (length l.accounts)))) decoy)
   go false real =
       let t = taking_of e taken in
-      let reserved : reserves t.0 e ≡ true = and_from (takes_user t.0 e) (nat_lt (value_of e.decision) decoys_from) t.1.taken (below_from (value_of e.decision) real) in
+      let reserved : reserves t.0 e ≡ true = and_from (takes_user t.0 e) (nat_lt (value_of e.decision) DECOYS_FROM) t.1.taken (below_from (value_of e.decision) real) in
       let live = reserves_live l.setup journal e t.0 next reserved in
       let number : number_by l.setup (challenge_name e.ask) ≡ Some live.number = ap (number_by l.setup) t.1.name ∙ live.numbered.number_is in
       ap (λ b. cond b (Some (length l.setup.accounts)) (number_by l.setup (challenge_name e.ask))) real

@@ -1,9 +1,9 @@
 -- Inner: what is decided by the accounts and the rows.
 use Rattle.std.specs.Prelude.{ℕ, ◌+◌, List, length, Option, Some, None, nat_eq, nat_le, nat_lt, slice_get, unwrap_or, if◌then◌else◌}
 use Rattle.std.specs.List.{list_any}
+use Rattle.request_catalogue.specs.declared.rules.TheConstants.{NO_INFORMATION, NOT_GRANTED, NOT_IN_PHASE, TRIES_SPENT}
 use Rattle.request_catalogue.specs.declared.texts.Label.{Label}
 use Rattle.request_catalogue.specs.declared.texts.Name.{Name}
-use Rattle.request_catalogue.specs.Rules.{no_information, not_granted, not_in_phase, tries_spent}
 use Rattle.otp_ledger.specs.Accounts.{LedgerParts, state_at}
 use Rattle.otp_ledger.specs.Decisions.{challenge_decision, reply_decision}
 use Rattle.policy_model.specs.declared.account.Account.{Account}
@@ -26,7 +26,7 @@ account_at l row = if nat_lt row.account (length l.accounts) then Some row.accou
 -- rules 8 and 12 of a CHALLENGE
 abbrev pub challenge_by : LedgerParts → SessionRow → Name → ℕ → Decision
 challenge_by l row user now =
-    if nat_le l.setup.tries row.tries then Deny tries_spent l.setup.tries
+    if nat_le l.setup.tries row.tries then Deny TRIES_SPENT l.setup.tries
     else challenge_decision l user row.session now
 
 -- rules 13 to 16 of a REPLY, to a decoy and for the user of an account
@@ -39,7 +39,7 @@ reply_by l row words hex = reply_for_account l row.session (readings words hex) 
 
 -- rules 19 to 21 of an OPEN
 abbrev pub open_for_account : List LiveHandle → ℕ → Label → Option Account → Decision
-open_for_account live mode name None = Deny not_granted 0
+open_for_account live mode name None = Deny NOT_GRANTED 0
 open_for_account live mode name (Some account) = open_decision live account.grants mode name
 
 abbrev pub open_by : LedgerParts → SessionRow → ℕ → Label → Decision
@@ -53,7 +53,7 @@ sequence_at l (Some account) = (state_at l account).sequence
 abbrev pub info_by : LedgerParts → SessionRow → ℕ → Decision
 info_by l row number =
     if list_any (nat_eq number) l.setup.info then Permit (sequence_at l (account_at l row))
-    else Deny no_information number
+    else Deny NO_INFORMATION number
 
 -- the rules of one kind of request
 abbrev pub kind_by : LedgerParts → SessionRow → Ask → Decision
@@ -69,14 +69,14 @@ kind_by l row ask = Permit 0
 
 -- an ask of a worker that has a session
 abbrev pub open_worker_decision : LedgerParts → SessionRow → Ask → Decision
-open_worker_decision l row asks.Begin = Deny not_in_phase 0
+open_worker_decision l row asks.Begin = Deny NOT_IN_PHASE 0
 open_worker_decision l row (asks.End why) = Permit 0
 open_worker_decision l row ask = unwrap_or (refusal_of row l.setup.requests ask) (kind_by l row ask)
 
 -- an ask of one that has none, where so many sessions were opened
 abbrev pub idle_worker_decision : ℕ → Ask → Decision
 idle_worker_decision begun asks.Begin = Permit (begun + 1)
-idle_worker_decision begun ask = Deny not_in_phase (request_number ask)
+idle_worker_decision begun ask = Deny NOT_IN_PHASE (request_number ask)
 
 abbrev pub worker_decision : LedgerParts → ℕ → Option SessionRow → Ask → Decision
 worker_decision l begun None ask = idle_worker_decision begun ask

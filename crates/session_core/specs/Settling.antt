@@ -6,12 +6,13 @@ use Rattle.policy_model.specs.declared.event.Decision.{Decision}
 use Rattle.policy_model.specs.declared.event.Event.{Event}
 use Rattle.policy_model.specs.declared.phase.Phase.{Phase}
 use Rattle.policy_model.specs.declared.phase.Phase.TheVariants.{Challenged}
-use Rattle.policy_model.specs.Asks.{accepts, challenge_name, decoys_from, is_end, is_permit, leaves, moment_of, opens, takes, value_of}
+use Rattle.policy_model.specs.declared.reading.TheConstants.{DECOYS_FROM}
+use Rattle.policy_model.specs.Asks.{accepts, challenge_name, is_end, is_permit, leaves, moment_of, opens, takes, value_of, label_named}
 use Rattle.policy_model.specs.Settings.{Settings}
 use Rattle.session_core.specs.Parts.{CoreParts, row_of}
 use Rattle.session_laws.specs.Judged.{event_by}
 use Rattle.session_table.specs.declared.rows.SessionRow.{SessionRow}
-use Rattle.session_table.specs.Standing.{grant_number, grants_at, label_named, number_by}
+use Rattle.session_table.specs.Standing.{grant_number, grants_at, number_by}
 use Rattle.session_table.specs.Tables.{TableParts, table_after, table_begun, table_ended}
 
 -- the session of a worker, 0 where it has none
@@ -26,7 +27,7 @@ core_event core worker ask decision = event_by worker (session_at (row_of core w
 -- the account that a CHALLENGE is for, and the number of accounts for a decoy and for any other ask
 abbrev pub number_for : LedgerParts → Event → ℕ
 number_for l e =
-    if nat_le decoys_from (value_of e.decision) then length l.accounts
+    if nat_le DECOYS_FROM (value_of e.decision) then length l.accounts
     else unwrap_or (number_by l.setup (challenge_name e.ask)) (length l.accounts)
 
 -- the grant that an OPEN is for

@@ -7,14 +7,9 @@ ghost use Rattle.session_core.specs.Deciding.{account_at, challenge_by, idle_wor
 ghost use Rattle.session_table.specs.Tables.{row_at};
 
 use otp_ledger::Ledger;
-use policy_model::{Ask, Decision, Setup, judge_decoy};
+use policy_model::{Ask, Decision, READ, Setup, WRITE, judge_decoy};
 use request_catalogue::{Label, Name, rules};
 use session_table::{SessionRow, Table};
-
-/// What READ needs of a file's mode, and what WRITE does.
-const READ: u8 = 1;
-
-const WRITE: u8 = 2;
 
 /// The number of the account that a session is challenged for, none for a decoy.
 fn account_at(ledger: &Ledger, row: &SessionRow) -> Option<u32>

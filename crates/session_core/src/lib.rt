@@ -1,6 +1,7 @@
-//! The core: the policy's decisions over every interleaving of sessions, in constant time and in memory
-//! that is taken once. Believe that it stands for a journal (`Stands`) and what its calls say of each
-//! such journal; the accounts are those of `otp_ledger`, the rows those of `session_table`.
+//! The core: the policy's decisions over every interleaving of sessions, by what is kept between events,
+//! in memory that is taken once. It stands for a journal (`Stands`), and its calls speak of each such
+//! journal; the accounts are those of `otp_ledger`, the rows those of `session_table`. Nothing here need
+//! be believed; the book stands above.
 #![tactic(auto)]
 
 mod deciding;

@@ -8,8 +8,8 @@ use Rattle.std.proofs.lemmas.Cmp.{nat_eq_equiv}
 use Rattle.std.proofs.lemmas.List.{length-map}
 use Rattle.std.proofs.lemmas.Map.Made.{IsDistinct-from_count, length-le_from_is_member}
 use Rattle.policy_model.specs.declared.event.Event.{Event}
+use Rattle.policy_model.specs.declared.handles.TheConstants.{HANDLE_NUMBERS}
 use Rattle.policy_model.specs.Asks.{handle_of}
-use Rattle.policy_model.specs.Handles.{handle_numbers}
 use Rattle.policy_model.specs.Settings.{is_number}
 
 -- a live handle of this number
@@ -60,17 +60,17 @@ found_is p (x ∷ xs) n h = go (p x) refl h (found_is p xs n) where
       record { passes = ap p (sym same) ∙ is; stands = ap (λ y. nat_eq n y || list_any (nat_eq n) xs) same ∙ ap (λ b. b || list_any (nat_eq n) xs) (same_number n) }
   go false is h rest = let f = rest h in record { passes = f.passes; stands = ap (λ b. nat_eq n x || b) f.stands ∙ or_true (nat_eq n x) }
 
-numbers_distinct : IsDistinct nat_eq handle_numbers
-numbers_distinct = IsDistinct-from_count nat_eq_equiv handle_numbers refl
+numbers_distinct : IsDistinct nat_eq HANDLE_NUMBERS
+numbers_distinct = IsDistinct-from_count nat_eq_equiv HANDLE_NUMBERS refl
 
 -- where none of the eight is free, there are eight
-all_taken : (live : List Event) → find (is_free live) handle_numbers ≡ None → 8 ≤ length live
+all_taken : (live : List Event) → find (is_free live) HANDLE_NUMBERS ≡ None → 8 ≤ length live
 all_taken live none =
-    let le : length handle_numbers ≤ length (map handle_of live) = length-le_from_is_member nat_eq_equiv handle_numbers (map handle_of live) numbers_distinct
-    (λ q is. member_is live q ∙ not-false (has_handle live q) (sym (free_is live q) ∙ none_passes (is_free live) handle_numbers q none is)) in
+    let le : length HANDLE_NUMBERS ≤ length (map handle_of live) = length-le_from_is_member nat_eq_equiv HANDLE_NUMBERS (map handle_of live) numbers_distinct
+    (λ q is. member_is live q ∙ not-false (has_handle live q) (sym (free_is live q) ∙ none_passes (is_free live) HANDLE_NUMBERS q none is)) in
     omega (arith, le, length-map live handle_of)
 
-number_within : (n : ℕ) → list_any (nat_eq n) handle_numbers ≡ true → is_number 1 8 n ≡ true
+number_within : (n : ℕ) → list_any (nat_eq n) HANDLE_NUMBERS ≡ true → is_number 1 8 n ≡ true
 number_within n h = go (eqb n 1) (eqb n 2) (eqb n 3) (eqb n 4) (eqb n 5) (eqb n 6) (eqb n 7) (eqb n 8) refl refl refl refl refl refl refl refl h where
   at : (k : ℕ) → eqb n k ≡ true → is_number 1 8 k ≡ true → is_number 1 8 n ≡ true
   at k is ok = ap (is_number 1 8) (eqb-true n k is) ∙ ok
@@ -96,10 +96,10 @@ none_from None h = refl
 none_from (Some e) h = absurd cc
 
 -- fewer than eight live handles leave one, and the least is one of those
-pub free_number : (live : List Event) → length live < 8 → IsFreeNumber live (unwrap_or (find (is_free live) handle_numbers) 0)
-free_number live few = go (find (is_free live) handle_numbers) refl where
-  go : (o : Option ℕ) → find (is_free live) handle_numbers ≡ o → IsFreeNumber live (unwrap_or o 0)
+pub free_number : (live : List Event) → length live < 8 → IsFreeNumber live (unwrap_or (find (is_free live) HANDLE_NUMBERS) 0)
+free_number live few = go (find (is_free live) HANDLE_NUMBERS) refl where
+  go : (o : Option ℕ) → find (is_free live) HANDLE_NUMBERS ≡ o → IsFreeNumber live (unwrap_or o 0)
   go None none = let all = all_taken live none in absurd (omega (arith, all, few))
   go (Some n) is =
-      let f = found_is (is_free live) handle_numbers n is in
+      let f = found_is (is_free live) HANDLE_NUMBERS n is in
       record { within = number_within n f.stands; unused = not-true (has_handle live n) (sym (free_is live n) ∙ f.passes); free = none_from (find (λ o. handle_of o == n) live) f.passes }

@@ -9,7 +9,8 @@ use Rattle.request_catalogue.specs.declared.texts.Name.{Name}
 use Rattle.policy_model.specs.declared.account.Account.{Account}
 use Rattle.policy_model.specs.declared.event.Event.{Event}
 use Rattle.policy_model.specs.declared.phase.Phase.TheVariants.{Pre, Challenged}
-use Rattle.policy_model.specs.Asks.{challenge_name, decoys_from, ends_session, exports, gives_up, is_abandon, is_permit, is_reply, leaves, opens, reserves, takes, value_of}
+use Rattle.policy_model.specs.declared.reading.TheConstants.{DECOYS_FROM}
+use Rattle.policy_model.specs.Asks.{challenge_name, ends_session, exports, gives_up, is_abandon, is_permit, is_reply, leaves, opens, reserves, takes, value_of}
 use Rattle.policy_model.specs.Journal.{is_own, openings_of}
 use Rattle.policy_model.specs.Legal.{IsLegal, IsNext, session_of}
 use Rattle.policy_model.specs.Logins.{account_of, challenged_user, current_sequence, holder_by, holder_of, last_taking_of, replies_of, reply_for, session_taking, was_decoyed, was_given_up}
@@ -148,7 +149,7 @@ replied_is journal e user password h = go (is_reply e.ask) refl h where
 
 -- 5. The tie goes on by one event
 
-below_decoys : (value : ℕ) → nat_lt value decoys_from ≡ true → nat_le decoys_from value ≡ false
+below_decoys : (value : ℕ) → nat_lt value DECOYS_FROM ≡ true → nat_le DECOYS_FROM value ≡ false
 below_decoys value h = grind (arith, nat_tests, h)
 
 -- a session that has just reserved a user
@@ -160,7 +161,7 @@ tied_taken setup journal e user next reserved =
     record {
       phase = phase_of-own journal e e.session refl t.opens_none ∙ ap (λ p. phase_after p e) (taken_in_pre setup journal e next named.0) ∙ challenged_now e t.goes_on t.exports_none t.no_reply named.0;
       challenged = challenged_user-own journal e e.session refl ∙ ap (λ b. cond b (challenge_name e.ask) (challenged_user journal e.session)) named.0 ∙ named.1;
-      no_decoy = was_decoyed-own journal e e.session refl ∙ ap (λ b. cond b (nat_le decoys_from (value_of e.decision)) (was_decoyed journal e.session)) named.0 ∙ below_decoys (value_of e.decision) r.1;
+      no_decoy = was_decoyed-own journal e e.session refl ∙ ap (λ b. cond b (nat_le DECOYS_FROM (value_of e.decision)) (was_decoyed journal e.session)) named.0 ∙ below_decoys (value_of e.decision) r.1;
       left = λ account found. left account found t.no_reply (taken_challenge setup journal e user next reserved);
     } where
       left : (account : Account) → account_of setup user ≡ Some account → is_reply e.ask ≡ false → Taken setup journal user (value_of e.decision) → 0 < current_sequence (journal ++ e ∷ []) account

@@ -9,7 +9,8 @@ use Rattle.policy_model.specs.declared.event.Ask.TheVariants as asks
 use Rattle.policy_model.specs.declared.event.Event.{Event}
 use Rattle.policy_model.specs.declared.phase.Phase.{Phase}
 use Rattle.policy_model.specs.declared.phase.Phase.TheVariants.{Pre, Challenged, Verified, User, Over}
-use Rattle.policy_model.specs.Asks.{accepts, challenge_name, decoys_from, ends_session, exports, is_challenge_for, is_login_step, is_permit, is_reply, opens, reserves, takes, value_of}
+use Rattle.policy_model.specs.declared.reading.TheConstants.{DECOYS_FROM}
+use Rattle.policy_model.specs.Asks.{accepts, challenge_name, ends_session, exports, is_challenge_for, is_login_step, is_permit, is_reply, opens, reserves, takes, value_of}
 use Rattle.policy_model.specs.Journal.{has_event, openings_of}
 use Rattle.policy_model.specs.Legal.{IsLegal, IsNext}
 use Rattle.policy_model.specs.Logins.{challenged_user, verified_user, was_decoyed}
@@ -58,7 +59,7 @@ record Login (setup : Settings) (journal : List Event) (session : ℕ) : Type 0 
   pub logged_in : has_event journal session accepts ≡ true → IsLoggedIn setup journal session
   pub accepted : has_event journal session exports ≡ true → has_event journal session accepts ≡ true
 
-not_both : (value : ℕ) → nat_le decoys_from value ≡ false → nat_lt value decoys_from ≡ true
+not_both : (value : ℕ) → nat_le DECOYS_FROM value ≡ false → nat_lt value DECOYS_FROM ≡ true
 not_both value h = grind (arith, nat_tests, h)
 
 some_name : (o : Option Name) → is_some o ≡ true → (user : Name) × (o ≡ Some user)
@@ -73,13 +74,13 @@ challenged_taken setup journal e next taken =
     record {
       user = name.0;
       challenged = challenged_user-own journal e e.session refl ∙ ap (λ b. cond b (challenge_name e.ask) (challenged_user journal e.session)) taken ∙ name.1;
-      known = λ no_decoy. known name.0 name.1 both.1 (sym (was_decoyed-own journal e e.session refl ∙ ap (λ b. cond b (nat_le decoys_from (value_of e.decision)) (was_decoyed journal e.session)) taken) ∙ no_decoy);
+      known = λ no_decoy. known name.0 name.1 both.1 (sym (was_decoyed-own journal e e.session refl ∙ ap (λ b. cond b (nat_le DECOYS_FROM (value_of e.decision)) (was_decoyed journal e.session)) taken) ∙ no_decoy);
     } where
       is_for : (user : Name) (ask : Ask) → challenge_name ask ≡ Some user → is_challenge_for user ask ≡ true
       is_for user (asks.Challenge name now) h = let same : name ≡ user = cc in subst (λ n. is_challenge_for user (asks.Challenge n now) ≡ true) (sym same) (same_name-same user)
       is_for user _ h = absurd cc
 
-      known : (user : Name) → challenge_name e.ask ≡ Some user → is_permit e.decision ≡ true → nat_le decoys_from (value_of e.decision) ≡ false → HasAccount setup user
+      known : (user : Name) → challenge_name e.ask ≡ Some user → is_permit e.decision ≡ true → nat_le DECOYS_FROM (value_of e.decision) ≡ false → HasAccount setup user
       known user named permit low =
           let reserved : reserves user e ≡ true = rw (is_for user e.ask named, permit) (not_both (value_of e.decision) low) in
           let t = taken_challenge setup journal e user next reserved in
@@ -90,7 +91,7 @@ challenged_kept : (setup : Settings) (journal : List Event) (e : Event) → take
 challenged_kept setup journal e kept c = record {
   user = c.user;
   challenged = challenged_user-own journal e e.session refl ∙ ap (λ b. cond b (challenge_name e.ask) (challenged_user journal e.session)) kept ∙ c.challenged;
-  known = λ no_decoy. c.known (sym (was_decoyed-own journal e e.session refl ∙ ap (λ b. cond b (nat_le decoys_from (value_of e.decision)) (was_decoyed journal e.session)) kept) ∙ no_decoy);
+  known = λ no_decoy. c.known (sym (was_decoyed-own journal e e.session refl ∙ ap (λ b. cond b (nat_le DECOYS_FROM (value_of e.decision)) (was_decoyed journal e.session)) kept) ∙ no_decoy);
 }
 
 -- one whose reply has just been accepted
@@ -101,7 +102,7 @@ accepted_now setup journal e next accepted kept no_decoy =
       user = a.0;
       challenged = challenged_user-own journal e e.session refl ∙ ap (λ b. cond b (challenge_name e.ask) (challenged_user journal e.session)) kept ∙ a.1;
       verified = verified_user-own journal e e.session refl ∙ ap (λ b. cond b (challenged_user journal e.session) (verified_user journal e.session)) accepted ∙ a.1;
-      no_decoy = was_decoyed-own journal e e.session refl ∙ ap (λ b. cond b (nat_le decoys_from (value_of e.decision)) (was_decoyed journal e.session)) kept ∙ no_decoy;
+      no_decoy = was_decoyed-own journal e e.session refl ∙ ap (λ b. cond b (nat_le DECOYS_FROM (value_of e.decision)) (was_decoyed journal e.session)) kept ∙ no_decoy;
       known = record { account = a.2.account; found = a.2.found };
     }
 
@@ -111,7 +112,7 @@ logged_in_still setup journal e kept other l = record {
   user = l.user;
   challenged = challenged_user-own journal e e.session refl ∙ ap (λ b. cond b (challenge_name e.ask) (challenged_user journal e.session)) kept ∙ l.challenged;
   verified = verified_user-own journal e e.session refl ∙ ap (λ b. cond b (challenged_user journal e.session) (verified_user journal e.session)) other ∙ l.verified;
-  no_decoy = was_decoyed-own journal e e.session refl ∙ ap (λ b. cond b (nat_le decoys_from (value_of e.decision)) (was_decoyed journal e.session)) kept ∙ l.no_decoy;
+  no_decoy = was_decoyed-own journal e e.session refl ∙ ap (λ b. cond b (nat_le DECOYS_FROM (value_of e.decision)) (was_decoyed journal e.session)) kept ∙ l.no_decoy;
   known = l.known;
 }
 

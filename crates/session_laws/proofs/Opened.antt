@@ -9,7 +9,8 @@ use Rattle.policy_model.specs.declared.event.Ask.TheVariants as asks
 use Rattle.policy_model.specs.declared.event.Decision.{Decision}
 use Rattle.policy_model.specs.declared.event.Decision.TheVariants.{Permit, Deny, Lost}
 use Rattle.policy_model.specs.declared.event.Event.{Event}
-use Rattle.policy_model.specs.Asks.{accepts, came_by_frame, challenge_name, decoys_from, ends_session, exports, is_denied_reply, is_login_step, is_permit, kind_of, number_of, opens, opens_file, permits_kind, request_number, takes, value_of}
+use Rattle.policy_model.specs.declared.reading.TheConstants.{DECOYS_FROM}
+use Rattle.policy_model.specs.Asks.{accepts, came_by_frame, challenge_name, ends_session, exports, is_denied_reply, is_login_step, is_permit, kind_of, number_of_kind, opens, opens_file, permits_kind, request_number, takes, value_of}
 use Rattle.policy_model.specs.Journal.{last_event, openings_of}
 use Rattle.policy_model.specs.Legal.{IsLegal, IsNext}
 use Rattle.policy_model.specs.Logins.{challenged_user, was_decoyed}
@@ -90,7 +91,7 @@ opened_fresh journal e numbered number opened =
       tries = count_of-own journal e s is_denied_reply refl ∙ rw (count_of-new journal last s is_denied_reply numbered lt, o.denies_none) refl;
       bits = λ kind. has_event-own journal e s (permits_kind kind) refl ∙ rw (has_event-new journal last s (permits_kind kind) numbered lt, o.permits_none kind) refl;
       user = challenged_user-own journal e s refl ∙ ap (λ b. cond b (challenge_name e.ask) (challenged_user journal s)) o.takes_none ∙ challenged_user-new journal last s numbered lt;
-      decoyed = was_decoyed-own journal e s refl ∙ ap (λ b. cond b (nat_le decoys_from (value_of e.decision)) (was_decoyed journal s)) o.takes_none ∙ was_decoyed-new journal last s numbered lt;
+      decoyed = was_decoyed-own journal e s refl ∙ ap (λ b. cond b (nat_le DECOYS_FROM (value_of e.decision)) (was_decoyed journal s)) o.takes_none ∙ was_decoyed-new journal last s numbered lt;
       handles = live_handles_of-own journal e s refl ∙ ap (λ l. handles_after l e) (live_handles_of-new journal last s numbered lt) ∙ ap (λ b. cond b (e ∷ []) []) o.opens_none;
     }
 
@@ -102,7 +103,7 @@ fresh setup journal e legal next opened = opened_fresh journal e (legal_numbered
 
 -- a permitted request adds its own kind and no other
 pub permits_is : (kind other : Kind) (e : Event) → kind_of e.ask ≡ Some other → is_permit e.decision ≡ true → permits_kind kind e ≡ (kind_number other == kind_number kind)
-permits_is kind other e is permit = ap (λ o. (number_of o == kind_number kind) && is_permit e.decision) is ∙ ap (λ b. (kind_number other == kind_number kind) && b) permit ∙ and_true (kind_number other == kind_number kind) where
+permits_is kind other e is permit = ap (λ o. (number_of_kind o == kind_number kind) && is_permit e.decision) is ∙ ap (λ b. (kind_number other == kind_number kind) && b) permit ∙ and_true (kind_number other == kind_number kind) where
   and_true : (b : Bool) → (b && true) ≡ b
   and_true true = refl
   and_true false = refl
@@ -116,4 +117,4 @@ permits_no kind e denied = ap (λ b. (request_number e.ask == kind_number kind) 
 
 -- and neither does an opening, an end, or a frame that is no request
 pub permits_other : (kind : Kind) (e : Event) → kind_of e.ask ≡ None → permits_kind kind e ≡ false
-permits_other kind e none = ap (λ o. (number_of o == kind_number kind) && is_permit e.decision) none ∙ ap (λ b. b && is_permit e.decision) (kind_is_some kind)
+permits_other kind e none = ap (λ o. (number_of_kind o == kind_number kind) && is_permit e.decision) none ∙ ap (λ b. b && is_permit e.decision) (kind_is_some kind)

@@ -16,7 +16,8 @@ use Rattle.policy_model.specs.declared.event.Decision.{Decision}
 use Rattle.policy_model.specs.declared.event.Decision.TheVariants.{Permit, Deny, Lost}
 use Rattle.policy_model.specs.declared.event.Event.{Event}
 use Rattle.policy_model.specs.declared.phase.Row.{Row}
-use Rattle.policy_model.specs.Asks.{accepts, exports, decoys_from, is_challenge_for, is_denied_reply, is_export, is_lost, is_permit, is_reply, came_by_frame, permits_kind, request_number, reserves, takes_user, value_of}
+use Rattle.policy_model.specs.declared.reading.TheConstants.{DECOYS_FROM}
+use Rattle.policy_model.specs.Asks.{accepts, exports, is_challenge_for, is_denied_reply, is_export, is_lost, is_permit, is_reply, came_by_frame, permits_kind, request_number, reserves, takes_user, value_of}
 use Rattle.policy_model.specs.Decoys.{decoy_number}
 use Rattle.policy_model.specs.Journal.{ask_count, count_of, has_event, open_session_of}
 use Rattle.policy_model.specs.Legal.{IsNext}
@@ -130,10 +131,10 @@ pub record Taken (setup : Settings) (journal : List Event) (user : Name) (number
   pub some : eqb (current_sequence journal account) 0 ≡ false
   pub is : number ≡ current_sequence journal account - 1
 
-too_great : (n value : ℕ) → Permit (decoys_from + n) ≡ Permit value → nat_lt value decoys_from ≡ true → ⊥
+too_great : (n value : ℕ) → Permit (DECOYS_FROM + n) ≡ Permit value → nat_lt value DECOYS_FROM ≡ true → ⊥
 too_great n value h below =
-    let same : decoys_from + n ≡ value = cc in
-    let less : value < decoys_from = grind (arith, nat_tests, below) in
+    let same : DECOYS_FROM + n ≡ value = cc in
+    let less : value < DECOYS_FROM = grind (arith, nat_tests, below) in
     absurd (omega (arith, same, less))
 
 -- the value of a CHALLENGE for a user that can log in
@@ -143,7 +144,7 @@ live_value setup journal session user now value account live h =
     let permit : Permit (current_sequence journal account - 1) ≡ Permit value = (permit_from (is_held setup journal session user now) 12 (session_taking (last_taking_of journal user)) value _ here).1 in
     cc
 
-account_permit : (setup : Settings) (journal : List Event) (session : ℕ) (user : Name) (now value : ℕ) (o : Option Account) → account_of setup user ≡ o → account_verdict setup journal session user now o ≡ Permit value → nat_lt value decoys_from ≡ true → Taken setup journal user value
+account_permit : (setup : Settings) (journal : List Event) (session : ℕ) (user : Name) (now value : ℕ) (o : Option Account) → account_of setup user ≡ o → account_verdict setup journal session user now o ≡ Permit value → nat_lt value DECOYS_FROM ≡ true → Taken setup journal user value
 account_permit setup journal session user now value None is h below = absurd (too_great (decoy_number setup user) value h below)
 account_permit setup journal session user now value (Some account) is h below = go (is_live journal account) refl h where
   go : (b : Bool) → is_live journal account ≡ b → cond (not b) (decoy_challenge setup user) (cond (is_held setup journal session user now) (Deny 12 (session_taking (last_taking_of journal user))) (Permit (current_sequence journal account - 1))) ≡ Permit value → Taken setup journal user value
@@ -179,7 +180,7 @@ permitted_challenge setup journal e user next h =
 -- a permitted CHALLENGE of a legal journal that isn't a decoy
 pub taken_challenge : (setup : Settings) (journal : List Event) (e : Event) (user : Name) → IsNext setup journal e → reserves user e ≡ true → Taken setup journal user (value_of e.decision)
 taken_challenge setup journal e user next h =
-    let is = and_parts (takes_user user e) (nat_lt (value_of e.decision) decoys_from) h in
+    let is = and_parts (takes_user user e) (nat_lt (value_of e.decision) DECOYS_FROM) h in
     let j = permitted_challenge setup journal e user next is.0 in
     account_permit setup journal e.session user j.now (value_of e.decision) (account_of setup user) refl j.judged is.1
 

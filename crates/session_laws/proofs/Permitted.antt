@@ -12,7 +12,8 @@ use Rattle.policy_model.specs.declared.event.Decision.TheVariants.{Permit, Deny,
 use Rattle.policy_model.specs.declared.event.Event.{Event}
 use Rattle.policy_model.specs.declared.phase.Phase.{Phase}
 use Rattle.policy_model.specs.declared.phase.Phase.TheVariants.{Pre, Challenged, Verified, User, Over}
-use Rattle.policy_model.specs.Asks.{accepts, challenge_name, came_by_frame, decoys_from, ends_session, exports, gives_up, is_challenge_for, is_export, is_login_step, is_permit, is_reply, kind_of, opens, request_number, reserves, takes, takes_user, value_of}
+use Rattle.policy_model.specs.declared.reading.TheConstants.{DECOYS_FROM}
+use Rattle.policy_model.specs.Asks.{accepts, challenge_name, came_by_frame, ends_session, exports, gives_up, is_challenge_for, is_export, is_login_step, is_permit, is_reply, kind_of, opens, request_number, reserves, takes, takes_user, value_of}
 use Rattle.policy_model.specs.Journal.{ask_count}
 use Rattle.policy_model.specs.Legal.{IsNext}
 use Rattle.policy_model.specs.Phases.{is_over, phase_of, table_row}
@@ -79,8 +80,8 @@ takes_from user e h =
       named (asks.Challenge name now) h = ap (λ (n : Name). Some n) (same_from_same_name name user h)
       named _ h = absurd cc
 
-pub reserves_from : (user : Name) (e : Event) → reserves user e ≡ true → (takes_user user e ≡ true) × (nat_lt (value_of e.decision) decoys_from ≡ true)
-reserves_from user e h = and_parts (takes_user user e) (nat_lt (value_of e.decision) decoys_from) h
+pub reserves_from : (user : Name) (e : Event) → reserves user e ≡ true → (takes_user user e ≡ true) × (nat_lt (value_of e.decision) DECOYS_FROM ≡ true)
+reserves_from user e h = and_parts (takes_user user e) (nat_lt (value_of e.decision) DECOYS_FROM) h
 
 -- 3. What a session in Challenged may not
 

@@ -9,7 +9,8 @@ use Rattle.std.proofs.lemmas.List.{append-nil}
 use Rattle.request_catalogue.specs.declared.texts.Name.{Name}
 use Rattle.policy_model.specs.declared.account.Account.{Account}
 use Rattle.policy_model.specs.declared.event.Event.{Event}
-use Rattle.policy_model.specs.Asks.{accepts, decoys_from, leaves, reserves, takes, takes_user, value_of}
+use Rattle.policy_model.specs.declared.reading.TheConstants.{DECOYS_FROM}
+use Rattle.policy_model.specs.Asks.{accepts, leaves, reserves, takes, takes_user, value_of}
 use Rattle.policy_model.specs.Legal.{IsLegal, IsNext}
 use Rattle.policy_model.specs.Logins.{account_of, challenged_user, current_sequence, holder_of, is_live, is_user, last_taking_of, replies_of, reply_for}
 use Rattle.policy_model.specs.Settings.{IsInRange, Settings, are_distinct, are_grants, is_account, is_number, same_name}
@@ -40,7 +41,7 @@ reserves_live setup journal e user next reserved =
     }
 
 -- one for a user that can log in isn't a decoy, since a chain has less than 10,000 passwords
-below_decoys : (value sequence : ℕ) → value ≡ sequence - 1 → sequence ≤ 9999 → nat_lt value decoys_from ≡ true
+below_decoys : (value sequence : ℕ) → value ≡ sequence - 1 → sequence ≤ 9999 → nat_lt value DECOYS_FROM ≡ true
 below_decoys value sequence is le = grind (arith, nat_tests, is, le)
 
 found_fits : {X : Type 0} (p q : X → Bool) (xs : List X) (x : X) → list_all q xs ≡ true → find p xs ≡ Some x → q x ≡ true
@@ -66,7 +67,7 @@ live_reserves setup journal e user account r next taken found live =
     let value = live_challenge setup journal e user account next taken found live in
     let few = sequence_few setup user account r found in
     let less : current_sequence journal account ≤ 9999 = omega (arith, few) in
-    and_from (takes_user user e) (nat_lt (value_of e.decision) decoys_from) taken (below_decoys (value_of e.decision) (current_sequence journal account) value less)
+    and_from (takes_user user e) (nat_lt (value_of e.decision) DECOYS_FROM) taken (below_decoys (value_of e.decision) (current_sequence journal account) value less)
 
 -- 2. A permitted REPLY
 
@@ -94,12 +95,12 @@ pub reserves_none : (user : Name) (e : Event) → takes e ≡ false → reserves
 reserves_none user e kept = false_from_ne_true (reserves user e) (λ h. false≢true (sym kept ∙ (takes_from user e (reserves_from user e h).0).0))
 
 -- a decoy reserves nobody
-pub decoy_reserves_none : (user : Name) (e : Event) → nat_le decoys_from (value_of e.decision) ≡ true → reserves user e ≡ false
+pub decoy_reserves_none : (user : Name) (e : Event) → nat_le DECOYS_FROM (value_of e.decision) ≡ true → reserves user e ≡ false
 decoy_reserves_none user e decoy = false_from_ne_true (reserves user e) (λ h. let low = (reserves_from user e h).1 in too_low (value_of e.decision) decoy low) where
-  too_low : (value : ℕ) → nat_le decoys_from value ≡ true → nat_lt value decoys_from ≡ true → ⊥
+  too_low : (value : ℕ) → nat_le DECOYS_FROM value ≡ true → nat_lt value DECOYS_FROM ≡ true → ⊥
   too_low value high low =
-      let a : decoys_from ≤ value = grind (arith, nat_tests, high) in
-      let b : value < decoys_from = grind (arith, nat_tests, low) in
+      let a : DECOYS_FROM ≤ value = grind (arith, nat_tests, high) in
+      let b : value < DECOYS_FROM = grind (arith, nat_tests, low) in
       omega (arith, a, b)
 
 after_none : (o : Option ℕ) (e : Event) → (leaves e ≡ true → is_holder e.session o ≡ false) → holder_after o e ≡ o

@@ -2,7 +2,8 @@
 use Rattle.std.proofs.Common.{◌≡◌, ◌≢◌, ℕ, ◌<◌, Bool, true, false, cond, List, [], ◌∷◌, ◌++◌, Option, Some, None, refl, ap, ◌∙◌}
 use Rattle.std.specs.Prelude.{nat_le}
 use Rattle.policy_model.specs.declared.event.Event.{Event}
-use Rattle.policy_model.specs.Asks.{accepts, challenge_name, decoys_from, takes, value_of}
+use Rattle.policy_model.specs.declared.reading.TheConstants.{DECOYS_FROM}
+use Rattle.policy_model.specs.Asks.{accepts, challenge_name, takes, value_of}
 use Rattle.policy_model.specs.Journal.{is_own, last_event}
 use Rattle.policy_model.specs.Logins.{challenged_user, is_decoy, user_named, verified_user, was_decoyed}
 use Rattle.policy_model.specs.Runs.{AreNumbered}
@@ -27,19 +28,19 @@ challenged_user-new journal last session all lt = ap user_named (last_event-new 
 
 -- 2. Whether it was a decoy
 
-decoy_cond : (b : Bool) (e : Event) (o : Option Event) → is_decoy (cond b (Some e) o) ≡ cond b (nat_le decoys_from (value_of e.decision)) (is_decoy o)
+decoy_cond : (b : Bool) (e : Event) (o : Option Event) → is_decoy (cond b (Some e) o) ≡ cond b (nat_le DECOYS_FROM (value_of e.decision)) (is_decoy o)
 decoy_cond true e o = refl
 decoy_cond false e o = refl
 
-pub was_decoyed-push : (journal : List Event) (e : Event) (session : ℕ) → was_decoyed (journal ++ e ∷ []) session ≡ cond (is_own session takes e) (nat_le decoys_from (value_of e.decision)) (was_decoyed journal session)
+pub was_decoyed-push : (journal : List Event) (e : Event) (session : ℕ) → was_decoyed (journal ++ e ∷ []) session ≡ cond (is_own session takes e) (nat_le DECOYS_FROM (value_of e.decision)) (was_decoyed journal session)
 unfolding was_decoyed
 was_decoyed-push journal e session = ap is_decoy (last_event-push journal e session takes) ∙ decoy_cond (is_own session takes e) e (last_event journal session takes)
 
-pub was_decoyed-own : (journal : List Event) (e : Event) (session : ℕ) → e.session ≡ session → was_decoyed (journal ++ e ∷ []) session ≡ cond (takes e) (nat_le decoys_from (value_of e.decision)) (was_decoyed journal session)
-was_decoyed-own journal e session own = was_decoyed-push journal e session ∙ ap (λ b. cond b (nat_le decoys_from (value_of e.decision)) (was_decoyed journal session)) (own_is e session takes own)
+pub was_decoyed-own : (journal : List Event) (e : Event) (session : ℕ) → e.session ≡ session → was_decoyed (journal ++ e ∷ []) session ≡ cond (takes e) (nat_le DECOYS_FROM (value_of e.decision)) (was_decoyed journal session)
+was_decoyed-own journal e session own = was_decoyed-push journal e session ∙ ap (λ b. cond b (nat_le DECOYS_FROM (value_of e.decision)) (was_decoyed journal session)) (own_is e session takes own)
 
 pub was_decoyed-kept : (journal : List Event) (e : Event) (session : ℕ) → is_own session takes e ≡ false → was_decoyed (journal ++ e ∷ []) session ≡ was_decoyed journal session
-was_decoyed-kept journal e session kept = was_decoyed-push journal e session ∙ ap (λ b. cond b (nat_le decoys_from (value_of e.decision)) (was_decoyed journal session)) kept
+was_decoyed-kept journal e session kept = was_decoyed-push journal e session ∙ ap (λ b. cond b (nat_le DECOYS_FROM (value_of e.decision)) (was_decoyed journal session)) kept
 
 pub was_decoyed-other : (journal : List Event) (e : Event) (session : ℕ) → e.session ≢ session → was_decoyed (journal ++ e ∷ []) session ≡ was_decoyed journal session
 was_decoyed-other journal e session other = was_decoyed-kept journal e session (other_is e session takes other)

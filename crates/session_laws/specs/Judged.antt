@@ -1,6 +1,6 @@
 -- Inner: what is decided of an ask, by what is kept of its session.
 use Rattle.std.specs.Prelude.{ℕ, ◌+◌, ◌==◌, ◌&&◌, ◌||◌, Bool, true, false, not, if◌then◌else◌}
-use Rattle.request_catalogue.specs.Rules.{asks_spent, not_in_phase, once_only}
+use Rattle.request_catalogue.specs.declared.rules.TheConstants.{ASKS_SPENT, NOT_IN_PHASE, ONCE_ONLY}
 use Rattle.policy_model.specs.declared.event.Ask.{Ask}
 use Rattle.policy_model.specs.declared.event.Ask.TheVariants as asks
 use Rattle.policy_model.specs.declared.event.Decision.{Decision}
@@ -17,23 +17,23 @@ is_over_phase _ = false
 
 -- an opening and an end, by the worker's open session, 0 where it has none, and how many were opened
 abbrev pub opening_decision : ℕ → ℕ → Decision
-opening_decision session openings = if session == 0 then Permit (openings + 1) else Deny not_in_phase 0
+opening_decision session openings = if session == 0 then Permit (openings + 1) else Deny NOT_IN_PHASE 0
 
 abbrev pub closing_decision : ℕ → Decision
-closing_decision session = if session == 0 then Deny not_in_phase 0 else Permit 0
+closing_decision session = if session == 0 then Deny NOT_IN_PHASE 0 else Permit 0
 
 -- any other ask, by the session, its phase, the asks that it made, and what else is decided of it
 abbrev pub request_decision : ℕ → ℕ → Phase → ℕ → Ask → Decision → Decision
 request_decision requests session phase asked ask decision =
-    if session == 0 || is_over_phase phase then Deny not_in_phase (request_number ask)
-    else (if asked == requests then Deny asks_spent requests
+    if session == 0 || is_over_phase phase then Deny NOT_IN_PHASE (request_number ask)
+    else (if asked == requests then Deny ASKS_SPENT requests
     else decision)
 
 -- a request of a kind, by its cell of the phase table, whether one of the kind was permitted, and what else is decided of it
 abbrev pub cell_decision : Row → Bool → Ask → Decision → Decision
 cell_decision row had ask decision =
-    if not row.permitted then Deny not_in_phase (request_number ask)
-    else (if row.once && had then Deny once_only (request_number ask)
+    if not row.permitted then Deny NOT_IN_PHASE (request_number ask)
+    else (if row.once && had then Deny ONCE_ONLY (request_number ask)
     else decision)
 
 -- a request that nothing but the table may refuse

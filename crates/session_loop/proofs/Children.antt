@@ -1,7 +1,7 @@
 -- The children of a session, one after the other.
 use Rattle.std.proofs.Common.{◌≡◌, ◌≢◌, ℕ, ◌+◌, Bool, true, false, ◌&&◌, List, [], ◌∷◌, ◌++◌, Option, Some, None, Result, Ok, Err, refl, sym, ap, subst, ◌∙◌, append_assoc, append-nil, arith}
-use Rattle.std.specs.Prelude.{IfSome}
-use Rattle.std.specs.List.{AllByRecursion, flat_map}
+use Rattle.std.specs.Prelude.{IfSome, IsSomeAnd}
+use Rattle.std.specs.List.{AllByRecursion, flat_map, list_any}
 use Rattle.std.proofs.lemmas.List.Concat.{flat_map-append}
 use Rattle.imsg_frame.specs.Message.{Message}
 use Rattle.outside.specs.declared.act.Act.{Act}
@@ -11,7 +11,7 @@ use Rattle.outside.specs.declared.act.Role.{Role}
 use Rattle.outside.specs.declared.act.Role.TheVariants.{Pre}
 use Rattle.outside.specs.declared.act.Talk.{Talk}
 use Rattle.outside.specs.Link.{Exchanged, Link}
-use Rattle.outside.specs.Scene.{Did, IsUnused, Played, Scene, bytes_at, came_count, is_coming, planned_bytes}
+use Rattle.outside.specs.Scene.{Did, IsUnused, Played, Scene, bytes_at, came_count, is_coming, is_failed_start, planned_bytes}
 use Rattle.outside.specs.Told.{Goes}
 use Rattle.outside.proofs.Scenes.{Played-then, Plays-then}
 use Rattle.outside.proofs.Told.{Goes-then}
@@ -28,12 +28,13 @@ use Rattle.policy_model.specs.Settings.{Settings}
 use Rattle.request_catalogue.specs.declared.width.Width.{Width}
 use Rattle.child_keeper.specs.Starts.{ChangesChild}
 use Rattle.child_keeper.specs.Tickets as tickets
-use Rattle.service_model.specs.Acts.{Finishes, Starts, has_failed_start, operations_by, operations_of}
+use Rattle.service_model.specs.Acts.{Finishes, Starts, operations_by, operations_of}
 use Rattle.service_model.specs.Answers.{answer_value, answers, reply_bytes, reply_to}
-use Rattle.service_model.specs.Parts.{CameByMessage, EndsSession, HandsOver, IsPart, IsRequestStep, Part, exported_by, final_acts, message_bytes, requests_of, step_bytes}
+use Rattle.service_model.specs.Parts.{EndsSession, HandsOver, IsPart, IsRequestStep, Part, exported_by, final_acts, message_bytes, requests_of, step_bytes}
 use Rattle.service_model.specs.Places.{Step, place_of, step_acts, step_places, worker_places}
+use Rattle.service_model.specs.Requests.{CameBy}
 use Rattle.service_model.specs.Service.{Service}
-use Rattle.service_model.specs.Sittings.{EndsFirst, IsEnding, IsUserOf}
+use Rattle.service_model.specs.Sittings.{EndsFirst, IsEnding}
 use Rattle.service_model.specs.Stories.{talk_of}
 use Rattle.service_model.specs.Users.{user_role}
 use Rattle.service_model.proofs.Lists.{All-push, count-append}
@@ -71,7 +72,7 @@ and_left false b h = absurd cc
 abbrev done_step : List Event → Event → Message → List Act → Step
 done_step front e message acts = record { place = place_of front e; message = Some message; acts = acts }
 
-export_is : (service : Service) (front : List Event) (e : Event) (message : Message) (user : Role) (outcome : Result (Unit {0}) Failed) → CameByMessage service (Some message) e.ask → exports e ≡ true → user ≡ user_role service.setup (place_of front e) → IsRequestStep service (done_step front e message (Finish (Pre e.session) ∷ Start user outcome ∷ []))
+export_is : (service : Service) (front : List Event) (e : Event) (message : Message) (user : Role) (outcome : Result (Unit {0}) Failed) → CameBy service message e.ask → exports e ≡ true → user ≡ user_role service.setup (place_of front e) → IsRequestStep service (done_step front e message (Finish (Pre e.session) ∷ Start user outcome ∷ []))
 unfolding operations_of
 export_is service front e message user outcome came exported is = record {
   request = export_request e.ask (and_left (is_export e.ask) (is_permit e.decision) exported);
@@ -161,11 +162,11 @@ planned_before part b m a same planned = planned ∙ ap (λ plan. bytes_at part.
 abbrev AllPlanned : List Part → Scene → Scene → Type 0
 AllPlanned parts b a = AllByRecursion (λ part. part.taken ++ part.unread ≡ bytes_at part.role b.plan (came_count b.acts)) parts
 
-user_of : (setup : Settings) (o : Option Step) (final : Step) (role : Role) → o ≡ Some final → role ≡ user_role setup final.place → IsUserOf setup o role
-user_of setup o final role is same = subst (λ x. IsUserOf setup x role) (sym is) same
+user_of : (setup : Settings) (o : Option Step) (final : Step) (role : Role) → o ≡ Some final → role ≡ user_role setup final.place → IsSomeAnd o (λ step. role ≡ user_role setup step.place)
+user_of setup o final role is same = subst (λ x. IsSomeAnd x (λ step. role ≡ user_role setup step.place)) (sym is) same
 
 abbrev acts_failed : Option Step → Bool
-acts_failed o = has_failed_start (final_acts o)
+acts_failed o = list_any is_failed_start (final_acts o)
 
 -- a session that its first child ended
 ends_first : (service : Service) (why : Why) (pre : Part) → why ≢ whys.KeeperFault → IsPart service [] (EndsSession why) pre → EndsFirst service why pre
@@ -216,7 +217,7 @@ two w user why e state a b c s u v first second =
         first.role ∙ ap Pre (sym same),
         record {
           first = first.is;
-          started = ap acts_failed first.ends ∙ ap has_failed_start first.starts;
+          started = ap acts_failed first.ends ∙ ap (list_any is_failed_start) first.starts;
           verified = user_of service.setup pre.final first.final part.role first.ends (second.role ∙ first.verified);
           second = subst (λ x. IsPart service x (EndsSession why) part) (sym first.state_is) second.is;
           served = second.served;
@@ -247,7 +248,7 @@ one_alone w user failed e state a b c s u v first hung end =
     let done : step_acts (requests_of pre ++ end.ending ∷ []) ≡ step_acts (requests_of pre) ++ HangUp ∷ [] = acts-append (requests_of pre) (end.ending ∷ []) ∙ ap (λ xs. step_acts (requests_of pre) ++ (xs ++ [])) end.acts in
     record {
       parts = pre ∷ [];
-      are = λ opening opened same. (opened, first.role ∙ ap Pre (sym same), (first.is, ap acts_failed first.ends ∙ ap has_failed_start first.starts));
+      are = λ opening opened same. (opened, first.role ∙ ap Pre (sym same), (first.is, ap acts_failed first.ends ∙ ap (list_any is_failed_start) first.starts));
       ending = end.ending;
       ends = subst (λ role. IsEnding w.session role whys.KeeperFault end.ending) (sym first.role) end.ends;
       steps = subst (λ steps. Steps w.worker steps a c) (sym all) (Steps-then w.worker (requests_of pre) (end.ending ∷ []) a b c first.steps end.steps);

@@ -1,5 +1,6 @@
 -- A worker's story, with one more session and with its last accept.
 use Rattle.std.proofs.Common.{◌≡◌, ℕ, ◌+◌, ◌*◌, ◌<◌, ◌≤◌, Bool, true, false, cond, List, [], ◌∷◌, ◌++◌, length, map, Option, Some, None, refl, sym, ap, subst, ◌∙◌, append-nil, zero-add, arith}
+use Rattle.std.specs.Prelude.{option_map, unwrap_or}
 use Rattle.std.specs.List.{AllByRecursion, flat_map}
 use Rattle.std.proofs.lemmas.List.{map-append}
 use Rattle.std.proofs.lemmas.List.Concat.{flat_map-append}
@@ -21,8 +22,8 @@ use Rattle.policy_model.specs.Asks.{is_lost}
 use Rattle.service_model.specs.Ends.{is_keeper_end, is_link_end, is_lost_end}
 use Rattle.service_model.specs.Places.{Step, step_acts, step_places}
 use Rattle.service_model.specs.Service.{Service}
-use Rattle.service_model.specs.Sittings.{Follows, IsSitting, Sitting, all_steps, ends_by_loss}
 use Rattle.service_model.specs.Parts.{Part}
+use Rattle.service_model.specs.Sittings.{Follows, IsSitting, Sitting, all_steps}
 use Rattle.service_model.specs.Stories.{ArePlanned, IsPlanned, LastAccept, Unasked, last_acts, parts_of, story_acts, talk_of}
 use Rattle.service_model.proofs.Ends.{keeper_requests, link_requests, lost_ends, lost_places, lost_requests}
 use Rattle.service_model.proofs.Lists.{All-push, count-append, count-cons}
@@ -189,7 +190,7 @@ not_lost whys.LinkFault other = refl
 
 pub goes_on_behind : (s : Sitting) (why : Why) → EndsFor why s.ending → (why ≡ whys.LogLost → ⊥) → GoesOnBehind s
 goes_on_behind s why ended other = go s.ending ended where
-  go : (ending : Option Step) → EndsFor why ending → ends_by_loss ending ≡ false
+  go : (ending : Option Step) → EndsFor why ending → unwrap_or (option_map (λ e. is_lost_end e.place.event.ask) ending) true ≡ false
   go None ended = absurd (other ended)
   go (Some step) ended = ap is_lost_end ended ∙ not_lost why other
 

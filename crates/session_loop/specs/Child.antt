@@ -15,8 +15,9 @@ use Rattle.request_catalogue.specs.declared.width.Width.{Width}
 use Rattle.request_catalogue.specs.Widths.{frame_max}
 use Rattle.child_keeper.specs.Tickets.{NamesAccount, user_role}
 use Rattle.service_model.specs.Answers.{answers}
-use Rattle.service_model.specs.Parts.{CameByMessage, EndsSession, EndsSo, GoesOn, IsRequestStep, LastSent, by_link, step_bytes}
+use Rattle.service_model.specs.Parts.{EndsSession, EndsSo, GoesOn, IsRequestStep, LastSent, by_link, step_bytes}
 use Rattle.service_model.specs.Places.{Step, place_of, step_acts}
+use Rattle.service_model.specs.Requests.{CameBy}
 use Rattle.service_model.specs.Service.{Service}
 use Rattle.service_model.specs.Users.{role_of, user_at}
 use Rattle.session_asking.specs.declared.asking.Turn.{Turn}
@@ -74,7 +75,7 @@ pub record HandsOn (w : Whose) (e : Event) (state : List ℕ) (before after : Mo
   pub message : Message
   pub body : message.body ≡ state
   pub exported : exports e ≡ true
-  pub came : CameByMessage w.service (Some message) e.ask
+  pub came : CameBy w.service message e.ask
   pub session_is : e.session ≡ w.session
   pub steps : Steps w.worker (served ++ export_step front e message ∷ []) before.seen after.seen
   pub each : AllByRecursion (IsRequestStep w.service) served

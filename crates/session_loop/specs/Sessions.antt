@@ -1,6 +1,6 @@
 -- Inner: what the children of a session had, and how it ended.
 use Rattle.std.specs.Prelude.{◌≡◌, ◌≢◌, ℕ, ◌+◌, ◌<◌, ◌≤◌, true, false, List, [], ◌∷◌, ◌++◌, map, Option, Some, None, Result, Ok, Err}
-use Rattle.std.specs.List.{AllByRecursion, flat_map}
+use Rattle.std.specs.List.{AllByRecursion, flat_map, list_any}
 use Rattle.outside.specs.declared.act.Act.{Act}
 use Rattle.outside.specs.declared.act.Act.TheVariants.{Accept, HangUp}
 use Rattle.outside.specs.declared.act.Accepted.TheVariants.{Came}
@@ -10,7 +10,7 @@ use Rattle.outside.specs.declared.act.Role.TheVariants.{Pre}
 use Rattle.outside.specs.declared.faults.Faults.{Faults}
 use Rattle.outside.specs.Faults.{NoneFell}
 use Rattle.outside.specs.Link.{Link}
-use Rattle.outside.specs.Scene.{Did, GivenBack, Played, Scene, bytes_at, came_count}
+use Rattle.outside.specs.Scene.{Did, GivenBack, Played, Scene, bytes_at, came_count, is_failed_start}
 use Rattle.outside.specs.Told.{Goes, Rose}
 use Rattle.policy_model.specs.declared.event.Ask.TheVariants.{End}
 use Rattle.policy_model.specs.declared.event.Event.{Event}
@@ -20,7 +20,7 @@ use Rattle.policy_model.specs.Asks.{is_lost}
 use Rattle.policy_model.specs.Journal.{ask_count, open_session_of}
 use Rattle.policy_model.specs.Runs.{IsIdle, IsRun}
 use Rattle.policy_model.specs.Settings.{Settings}
-use Rattle.service_model.specs.Acts.{Starts, ending_operations, has_failed_start, operation_of}
+use Rattle.service_model.specs.Acts.{Starts, ending_operations, operation_of}
 use Rattle.service_model.specs.Parts.{EndsSession, IsPart, Part, requests_of}
 use Rattle.service_model.specs.Places.{Step, step_acts}
 use Rattle.service_model.specs.Service.{Service}
@@ -111,7 +111,7 @@ MayHandOver setup rights seen session e = (logged_in : LoggedIn) → IsNewUser l
 -- what followed the start of a session's first child: what the children had, and the end
 pub record HasChildren (service : Service) (session worker : ℕ) (why : Why) (old new : List Event) (before after : Option Scene) : Type 0 where
   pub parts : List Part
-  pub are : (opening : Step) → has_failed_start opening.acts ≡ false → opening.place.event.session ≡ session → AreParts service why opening parts
+  pub are : (opening : Step) → list_any is_failed_start opening.acts ≡ false → opening.place.event.session ≡ session → AreParts service why opening parts
   pub ending : Step
   pub ends : IsEnding session (live_role (Pre session) parts) why ending
   pub steps : Steps worker (flat_map requests_of parts ++ ending ∷ []) old new
@@ -123,7 +123,7 @@ pub record HasRest (service : Service) (session worker : ℕ) (why : Why) (old n
   pub start : Act
   pub asked_for : operation_of start ≡ Starts (Pre session)
   pub parts : List Part
-  pub are : (opening : Step) → has_failed_start opening.acts ≡ has_failed_start (start ∷ []) → opening.place.event.session ≡ session → AreParts service why opening parts
+  pub are : (opening : Step) → list_any is_failed_start opening.acts ≡ list_any is_failed_start (start ∷ []) → opening.place.event.session ≡ session → AreParts service why opening parts
   pub ending : Step
   pub ends : IsEnding session (live_role (Pre session) parts) why ending
   pub steps : Steps worker (flat_map requests_of parts ++ ending ∷ []) old new

@@ -1,5 +1,5 @@
-//! The sessions of a worker, served one after the other over the connections that come to its post. Read
-//! `child.rt` first.
+//! The sessions of a worker, served one after the other over the connections that come to its post.
+//! Read `child.rt` first. Nothing here need be believed; the run stands above.
 #![tactic(auto)]
 
 mod child;

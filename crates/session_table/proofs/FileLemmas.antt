@@ -2,11 +2,11 @@
 use Rattle.std.proofs.Common.{◌≡◌, ℕ, zero, suc, ◌+◌, ◌<◌, ◌≤◌, Bool, true, false, ◌&&◌, ◌||◌, ◌==◌, not, cond, eqb, List, [], ◌∷◌, ◌++◌, length, nat_le, Option, Some, None, is_none, unwrap_or, refl, sym, ap, subst, ◌∙◌, arith}
 use Rattle.std.specs.List.{find, list_any}
 use Rattle.std.proofs.lemmas.Bool.Decides.{nat_tests}
+use Rattle.request_catalogue.specs.declared.rules.TheConstants.{HANDLES_SPENT, MODE_NOT_GRANTED}
 use Rattle.request_catalogue.specs.declared.texts.Label.{Label}
-use Rattle.request_catalogue.specs.Rules.{handles_spent, mode_not_granted}
 use Rattle.policy_model.specs.declared.account.Grant.{Grant}
 use Rattle.policy_model.specs.declared.event.Decision.TheVariants.{Permit, Deny}
-use Rattle.policy_model.specs.Handles.{handle_numbers}
+use Rattle.policy_model.specs.declared.handles.TheConstants.{HANDLE_NUMBERS}
 use Rattle.policy_model.specs.Settings.{are_distinct, same_label}
 use Rattle.policy_model.specs.Verdict.{allows, grant_verdict}
 use Rattle.session_table.specs.declared.handles.LiveHandle.{LiveHandle}
@@ -166,24 +166,24 @@ none_found live (n ∷ ns) h = go (is_free n live) refl h (none_found live ns) w
 
 -- where fewer than eight files are open the least free handle is one of 1 to 8, and free
 pub least_is_free : (live : List LiveHandle) → length live < 8 → (1 ≤ free_of live) × (free_of live ≤ 8) × (is_free (free_of live) live ≡ true)
-least_is_free live lt = go (find (λ n. is_free n live) handle_numbers) refl where
-  numbers : AreNumbers handle_numbers
+least_is_free live lt = go (find (λ n. is_free n live) HANDLE_NUMBERS) refl where
+  numbers : AreNumbers HANDLE_NUMBERS
   numbers = (omega arith, omega arith, (omega arith, omega arith, (omega arith, omega arith, (omega arith, omega arith, (omega arith, omega arith, (omega arith, omega arith, (omega arith, omega arith, (omega arith, omega arith, tt))))))))
 
-  go : (o : Option ℕ) → find (λ n. is_free n live) handle_numbers ≡ o → (1 ≤ unwrap_or o 0) × (unwrap_or o 0 ≤ 8) × (is_free (unwrap_or o 0) live ≡ true)
-  go None h = let most : 8 ≤ length live = taken_length handle_numbers live refl (none_found live handle_numbers h) in absurd (omega (arith, most, lt))
-  go (Some n) h = found_number (λ k. is_free k live) handle_numbers n numbers h
+  go : (o : Option ℕ) → find (λ n. is_free n live) HANDLE_NUMBERS ≡ o → (1 ≤ unwrap_or o 0) × (unwrap_or o 0 ≤ 8) × (is_free (unwrap_or o 0) live ≡ true)
+  go None h = let most : 8 ≤ length live = taken_length HANDLE_NUMBERS live refl (none_found live HANDLE_NUMBERS h) in absurd (omega (arith, most, lt))
+  go (Some n) h = found_number (λ k. is_free k live) HANDLE_NUMBERS n numbers h
 
 -- what a permitted OPEN gives
 granted_is_new : (live : List LiveHandle) (grant : Option Grant) (mode : ℕ) → length live < 8 → IsNewHandle live (grant_verdict (free_of live) mode grant)
 granted_is_new live None mode lt = tt
 granted_is_new live (Some grant) mode lt = go (allows grant.mode mode) where
-  go : (b : Bool) → IsNewHandle live (cond b (Permit (free_of live)) (Deny mode_not_granted mode))
+  go : (b : Bool) → IsNewHandle live (cond b (Permit (free_of live)) (Deny MODE_NOT_GRANTED mode))
   go true = least_is_free live lt
   go false = tt
 
 pub open_is_new : (live : List LiveHandle) (grants : List Grant) (mode : ℕ) (name : Label) → IsNewHandle live (open_decision live grants mode name)
 open_is_new live grants mode name = go (nat_le 8 (length live)) refl where
-  go : (b : Bool) → nat_le 8 (length live) ≡ b → IsNewHandle live (cond b (Deny handles_spent 8) (grant_verdict (free_of live) mode (find (λ g. same_label g.name name) grants)))
+  go : (b : Bool) → nat_le 8 (length live) ≡ b → IsNewHandle live (cond b (Deny HANDLES_SPENT 8) (grant_verdict (free_of live) mode (find (λ g. same_label g.name name) grants)))
   go true is = tt
   go false is = granted_is_new live (find (λ g. same_label g.name name) grants) mode (grind (arith, nat_tests, is))

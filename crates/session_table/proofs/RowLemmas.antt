@@ -16,7 +16,8 @@ use Rattle.policy_model.specs.declared.event.Decision.TheVariants.{Permit, Deny,
 use Rattle.policy_model.specs.declared.event.Event.{Event}
 use Rattle.policy_model.specs.declared.phase.Phase.{Phase}
 use Rattle.policy_model.specs.declared.phase.Phase.TheVariants.{Pre, Challenged, Verified, User, Over}
-use Rattle.policy_model.specs.Asks.{accepts, came_by_frame, challenge_name, closes_file, decoys_from, ends_session, exports, handle_of, is_close, is_denied_reply, is_login_step, is_open, is_permit, is_reply, kind_of, mode_of, opens, opens_file, permits_kind, takes, value_of}
+use Rattle.policy_model.specs.declared.reading.TheConstants.{DECOYS_FROM}
+use Rattle.policy_model.specs.Asks.{accepts, came_by_frame, challenge_name, closes_file, ends_session, exports, handle_of, is_close, is_denied_reply, is_login_step, is_open, is_permit, is_reply, kind_of, mode_of, opens, opens_file, permits_kind, takes, value_of, label_named}
 use Rattle.policy_model.specs.Handles.{live_handles_of}
 use Rattle.policy_model.specs.Journal.{openings_of}
 use Rattle.policy_model.specs.Logins.{challenged_user, verified_user, was_decoyed}
@@ -34,7 +35,7 @@ use Rattle.session_table.specs.declared.rows.SessionRow.{SessionRow}
 use Rattle.session_table.specs.Files.{file_opened, files_after, files_by}
 use Rattle.session_table.specs.Marks.{has_mark, marks_after, marks_by, no_marks, with_mark}
 use Rattle.session_table.specs.Rows.{new_row, row_after}
-use Rattle.session_table.specs.Standing.{FitsRow, RowStands, StandsAfter, StandsNew, account_challenged, file_by, grant_number, grants_at, has_taken, is_before_user, is_granted, is_logged_in, label_named, number_by}
+use Rattle.session_table.specs.Standing.{FitsRow, RowStands, StandsAfter, StandsNew, account_challenged, file_by, grant_number, grants_at, has_taken, is_before_user, is_granted, is_logged_in, number_by}
 
 or_true : (b : Bool) → (b || true) ≡ true
 or_true true = refl
@@ -267,12 +268,12 @@ row_own setup row journal e number grant r f = record {
   was_challenged : accepts e ≡ true → row.phase ≡ Challenged
   was_challenged h = (f.accepting h).0
 
-  challenged : account_challenged setup (journal ++ e ∷ []) e.session ≡ cond (cond (takes e) (nat_le decoys_from (value_of e.decision)) (was_decoyed journal e.session)) (Some (length setup.accounts)) (number_by setup (cond (takes e) (challenge_name e.ask) (challenged_user journal e.session)))
+  challenged : account_challenged setup (journal ++ e ∷ []) e.session ≡ cond (cond (takes e) (nat_le DECOYS_FROM (value_of e.decision)) (was_decoyed journal e.session)) (Some (length setup.accounts)) (number_by setup (cond (takes e) (challenge_name e.ask) (challenged_user journal e.session)))
   challenged =
       ap (λ b. cond b (Some (length setup.accounts)) (number_by setup (challenged_user (journal ++ e ∷ []) e.session))) (was_decoyed-own journal e e.session refl)
-      ∙ ap (λ o. cond (cond (takes e) (nat_le decoys_from (value_of e.decision)) (was_decoyed journal e.session)) (Some (length setup.accounts)) (number_by setup o)) (challenged_user-own journal e e.session refl)
+      ∙ ap (λ o. cond (cond (takes e) (nat_le DECOYS_FROM (value_of e.decision)) (was_decoyed journal e.session)) (Some (length setup.accounts)) (number_by setup o)) (challenged_user-own journal e e.session refl)
 
-  account : (b : Bool) → takes e ≡ b → has_taken (phase_after row.phase e) ≡ true → cond (cond b (nat_le decoys_from (value_of e.decision)) (was_decoyed journal e.session)) (Some (length setup.accounts)) (number_by setup (cond b (challenge_name e.ask) (challenged_user journal e.session))) ≡ Some (cond b number row.account)
+  account : (b : Bool) → takes e ≡ b → has_taken (phase_after row.phase e) ≡ true → cond (cond b (nat_le DECOYS_FROM (value_of e.decision)) (was_decoyed journal e.session)) (Some (length setup.accounts)) (number_by setup (cond b (challenge_name e.ask) (challenged_user journal e.session))) ≡ Some (cond b number row.account)
   account true is has = (f.taking is).1
   account false is has = r.account (had_taken row.phase e is (λ h. (f.accepting h).0) f.exporting has)
 
@@ -286,7 +287,7 @@ row_own setup row journal e number grant r f = record {
   same_user is = challenged_user-own journal e e.session refl ∙ ap (λ b. cond b (challenge_name e.ask) (challenged_user journal e.session)) is
 
   same_decoy : takes e ≡ false → was_decoyed (journal ++ e ∷ []) e.session ≡ was_decoyed journal e.session
-  same_decoy is = was_decoyed-own journal e e.session refl ∙ ap (λ b. cond b (nat_le decoys_from (value_of e.decision)) (was_decoyed journal e.session)) is
+  same_decoy is = was_decoyed-own journal e e.session refl ∙ ap (λ b. cond b (nat_le DECOYS_FROM (value_of e.decision)) (was_decoyed journal e.session)) is
 
   user : (b : Bool) → accepts e ≡ b → is_logged_in (phase_after row.phase e) ≡ true → verified_user (journal ++ e ∷ []) e.session ≡ challenged_user (journal ++ e ∷ []) e.session
   user true is logged =

@@ -4,19 +4,20 @@ use Rattle.std.specs.List.{find}
 use Rattle.std.proofs.lemmas.Bool.Decides.{nat_tests}
 use Rattle.std.proofs.lemmas.List.{length-map}
 use Rattle.request_catalogue.specs.declared.kind.Kind.{Kind}
+use Rattle.request_catalogue.specs.declared.rules.TheConstants.{ASKS_SPENT, HANDLES_SPENT, NO_HANDLE, NOT_IN_PHASE, ONCE_ONLY}
 use Rattle.request_catalogue.specs.declared.texts.Label.{Label}
 use Rattle.request_catalogue.specs.declared.texts.Name.{Name}
-use Rattle.request_catalogue.specs.Rules.{asks_spent, handles_spent, no_handle, not_in_phase, once_only}
 use Rattle.policy_model.specs.declared.account.Grant.{Grant}
 use Rattle.policy_model.specs.declared.event.Ask.{Ask}
 use Rattle.policy_model.specs.declared.event.Ask.TheVariants as asks
 use Rattle.policy_model.specs.declared.event.Decision.{Decision}
 use Rattle.policy_model.specs.declared.event.Decision.TheVariants.{Permit, Deny}
 use Rattle.policy_model.specs.declared.event.Event.{Event}
+use Rattle.policy_model.specs.declared.handles.TheConstants.{HANDLE_NUMBERS}
 use Rattle.policy_model.specs.declared.phase.Phase.{Phase}
 use Rattle.policy_model.specs.declared.phase.Phase.TheVariants.{Pre, Challenged, Verified, User, Over}
 use Rattle.policy_model.specs.Asks.{accepts, came_by_frame, exports, handle_of, is_login_step, request_number}
-use Rattle.policy_model.specs.Handles.{free_handle_of, handle_numbers, handle_opening, live_handles_of}
+use Rattle.policy_model.specs.Handles.{free_handle_of, handle_opening, live_handles_of}
 use Rattle.policy_model.specs.Journal.{ask_count, has_event, last_event}
 use Rattle.policy_model.specs.Logins.{challenged_user, verified_user}
 use Rattle.policy_model.specs.Phases.{is_over, is_taking, phase_of, table_row}
@@ -81,10 +82,10 @@ unfolding open_verdict
 open_decides setup row journal session mode name r logged =
     let u = user_is setup row journal session r logged in
     let count : length row.handles ≡ length (live_handles_of journal session) = ap length r.handles ∙ length-map (live_handles_of journal session) (file_by (grants_at setup row.account)) in
-    let least : free_of row.handles ≡ free_handle_of journal session = ap (λ o. unwrap_or o 0) (find_same (λ n. is_free n row.handles) (λ n. is_none (handle_opening journal session n)) handle_numbers (λ n. free_opening setup row journal session n r)) in
-    ap (λ n. cond (nat_le 8 n) (Deny handles_spent 8) (grant_verdict (free_of row.handles) mode (find (λ g. same_label g.name name) (grants_at setup row.account)))) count
-    ∙ ap (λ n. cond (nat_le 8 (length (live_handles_of journal session))) (Deny handles_spent 8) (grant_verdict n mode (find (λ g. same_label g.name name) (grants_at setup row.account)))) least
-    ∙ ap (λ grants. cond (nat_le 8 (length (live_handles_of journal session))) (Deny handles_spent 8) (grant_verdict (free_handle_of journal session) mode (find (λ g. same_label g.name name) grants))) (sym u.grants)
+    let least : free_of row.handles ≡ free_handle_of journal session = ap (λ o. unwrap_or o 0) (find_same (λ n. is_free n row.handles) (λ n. is_none (handle_opening journal session n)) HANDLE_NUMBERS (λ n. free_opening setup row journal session n r)) in
+    ap (λ n. cond (nat_le 8 n) (Deny HANDLES_SPENT 8) (grant_verdict (free_of row.handles) mode (find (λ g. same_label g.name name) (grants_at setup row.account)))) count
+    ∙ ap (λ n. cond (nat_le 8 (length (live_handles_of journal session))) (Deny HANDLES_SPENT 8) (grant_verdict n mode (find (λ g. same_label g.name name) (grants_at setup row.account)))) least
+    ∙ ap (λ grants. cond (nat_le 8 (length (live_handles_of journal session))) (Deny HANDLES_SPENT 8) (grant_verdict (free_handle_of journal session) mode (find (λ g. same_label g.name name) grants))) (sym u.grants)
 
 used : (grants : List Grant) (live : List Event) (handle needed : ℕ) → use_by handle needed (file_at handle (map (file_by grants) live)) ≡ use_verdict handle needed (find (λ o. handle_of o == handle) live)
 used grants [] handle needed = refl
@@ -101,7 +102,7 @@ use_decides setup row journal session handle needed r =
 pub close_decides : (setup : Settings) (row : SessionRow) (journal : List Event) (session handle : ℕ) → RowStands setup row journal session → close_decision row.handles handle ≡ close_verdict journal session handle
 unfolding close_verdict
 close_decides setup row journal session handle r =
-    ap (λ b. cond (eqb handle 0 || b) (Deny no_handle handle) (Permit 0)) (free_opening setup row journal session handle r)
+    ap (λ b. cond (eqb handle 0 || b) (Deny NO_HANDLE handle) (Permit 0)) (free_opening setup row journal session handle r)
 
 -- 3. The rules that come before those of the kind
 
@@ -118,9 +119,9 @@ over_is journal session = go (is_over journal session) (has_event journal sessio
 cell_decides : (setup : Settings) (row : SessionRow) (journal : List Event) (session : ℕ) (ask : Ask) (kind : Kind) → RowStands setup row journal session → unwrap_or (kind_refusal row ask kind) (kind_verdict setup journal session ask) ≡ row_verdict setup journal session ask kind (table_row (phase_of journal session) kind)
 cell_decides setup row journal session ask kind r =
     same (table_row row.phase kind).permitted (table_row row.phase kind).once (has_mark kind row.bits)
-    ∙ ap (λ p. cond (not (table_row p kind).permitted) (Deny not_in_phase (request_number ask)) (cond ((table_row p kind).once && has_mark kind row.bits) (Deny once_only (request_number ask)) (kind_verdict setup journal session ask))) r.phase
-    ∙ ap (λ b. cond (not (table_row (phase_of journal session) kind).permitted) (Deny not_in_phase (request_number ask)) (cond ((table_row (phase_of journal session) kind).once && b) (Deny once_only (request_number ask)) (kind_verdict setup journal session ask))) (r.bits kind) where
-      same : (p o b : Bool) → unwrap_or (cond (not p) (Some (Deny not_in_phase (request_number ask))) (cond (o && b) (Some (Deny once_only (request_number ask))) None)) (kind_verdict setup journal session ask) ≡ cond (not p) (Deny not_in_phase (request_number ask)) (cond (o && b) (Deny once_only (request_number ask)) (kind_verdict setup journal session ask))
+    ∙ ap (λ p. cond (not (table_row p kind).permitted) (Deny NOT_IN_PHASE (request_number ask)) (cond ((table_row p kind).once && has_mark kind row.bits) (Deny ONCE_ONLY (request_number ask)) (kind_verdict setup journal session ask))) r.phase
+    ∙ ap (λ b. cond (not (table_row (phase_of journal session) kind).permitted) (Deny NOT_IN_PHASE (request_number ask)) (cond ((table_row (phase_of journal session) kind).once && b) (Deny ONCE_ONLY (request_number ask)) (kind_verdict setup journal session ask))) (r.bits kind) where
+      same : (p o b : Bool) → unwrap_or (cond (not p) (Some (Deny NOT_IN_PHASE (request_number ask))) (cond (o && b) (Some (Deny ONCE_ONLY (request_number ask))) None)) (kind_verdict setup journal session ask) ≡ cond (not p) (Deny NOT_IN_PHASE (request_number ask)) (cond (o && b) (Deny ONCE_ONLY (request_number ask)) (kind_verdict setup journal session ask))
       same false o b = refl
       same true true true = refl
       same true true false = refl
@@ -148,12 +149,12 @@ pub refusal_decides : (setup : Settings) (row : SessionRow) (journal : List Even
 refusal_decides setup row journal session ask r some by =
     let zero : eqb session 0 ≡ false = grind (arith, nat_tests, some) in
     steps (is_over_phase row.phase) (eqb row.asked setup.requests) (own_refusal row ask)
-    ∙ ap (λ p. cond (is_over_phase p) (Deny not_in_phase (request_number ask)) (cond (eqb row.asked setup.requests) (Deny asks_spent setup.requests) (unwrap_or (own_refusal row ask) (kind_verdict setup journal session ask)))) r.phase
-    ∙ ap (λ b. cond b (Deny not_in_phase (request_number ask)) (cond (eqb row.asked setup.requests) (Deny asks_spent setup.requests) (unwrap_or (own_refusal row ask) (kind_verdict setup journal session ask)))) (over_is journal session)
-    ∙ ap (λ n. cond (is_over journal session) (Deny not_in_phase (request_number ask)) (cond (eqb n setup.requests) (Deny asks_spent setup.requests) (unwrap_or (own_refusal row ask) (kind_verdict setup journal session ask)))) r.asked
-    ∙ ap (λ d. cond (is_over journal session) (Deny not_in_phase (request_number ask)) (cond (eqb (ask_count journal session) setup.requests) (Deny asks_spent setup.requests) d)) (own_decides setup row journal session ask r by)
-    ∙ sym (ap (λ z. cond (z || is_over journal session) (Deny not_in_phase (request_number ask)) (cond (eqb (ask_count journal session) setup.requests) (Deny asks_spent setup.requests) (own_verdict setup journal session ask))) zero) where
-      steps : (o a : Bool) (own : Option Decision) → unwrap_or (cond o (Some (Deny not_in_phase (request_number ask))) (cond a (Some (Deny asks_spent setup.requests)) own)) (kind_verdict setup journal session ask) ≡ cond o (Deny not_in_phase (request_number ask)) (cond a (Deny asks_spent setup.requests) (unwrap_or own (kind_verdict setup journal session ask)))
+    ∙ ap (λ p. cond (is_over_phase p) (Deny NOT_IN_PHASE (request_number ask)) (cond (eqb row.asked setup.requests) (Deny ASKS_SPENT setup.requests) (unwrap_or (own_refusal row ask) (kind_verdict setup journal session ask)))) r.phase
+    ∙ ap (λ b. cond b (Deny NOT_IN_PHASE (request_number ask)) (cond (eqb row.asked setup.requests) (Deny ASKS_SPENT setup.requests) (unwrap_or (own_refusal row ask) (kind_verdict setup journal session ask)))) (over_is journal session)
+    ∙ ap (λ n. cond (is_over journal session) (Deny NOT_IN_PHASE (request_number ask)) (cond (eqb n setup.requests) (Deny ASKS_SPENT setup.requests) (unwrap_or (own_refusal row ask) (kind_verdict setup journal session ask)))) r.asked
+    ∙ ap (λ d. cond (is_over journal session) (Deny NOT_IN_PHASE (request_number ask)) (cond (eqb (ask_count journal session) setup.requests) (Deny ASKS_SPENT setup.requests) d)) (own_decides setup row journal session ask r by)
+    ∙ sym (ap (λ z. cond (z || is_over journal session) (Deny NOT_IN_PHASE (request_number ask)) (cond (eqb (ask_count journal session) setup.requests) (Deny ASKS_SPENT setup.requests) (own_verdict setup journal session ask))) zero) where
+      steps : (o a : Bool) (own : Option Decision) → unwrap_or (cond o (Some (Deny NOT_IN_PHASE (request_number ask))) (cond a (Some (Deny ASKS_SPENT setup.requests)) own)) (kind_verdict setup journal session ask) ≡ cond o (Deny NOT_IN_PHASE (request_number ask)) (cond a (Deny ASKS_SPENT setup.requests) (unwrap_or own (kind_verdict setup journal session ask)))
       steps true a own = refl
       steps false true own = refl
       steps false false own = refl

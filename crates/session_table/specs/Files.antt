@@ -1,16 +1,16 @@
 -- Inner: the files that a session has open, as a list.
 use Rattle.std.specs.Prelude.{ℕ, ◌≡◌, ◌++◌, ◌≤◌, ◌==◌, ◌||◌, Bool, true, List, [], ◌∷◌, filter, length, not, Option, Some, None, is_none, nat_le, unwrap_or, if◌then◌else◌}
 use Rattle.std.specs.List.{find}
+use Rattle.request_catalogue.specs.declared.rules.TheConstants.{HANDLES_SPENT, MODE_LACKING, NO_HANDLE}
 use Rattle.request_catalogue.specs.declared.texts.Label.{Label}
-use Rattle.request_catalogue.specs.Rules.{handles_spent, mode_lacking, no_handle}
 use Rattle.policy_model.specs.declared.account.Grant.{Grant}
 use Rattle.policy_model.specs.declared.event.Ask.{Ask}
 use Rattle.policy_model.specs.declared.event.Ask.TheVariants as asks
 use Rattle.policy_model.specs.declared.event.Decision.{Decision}
 use Rattle.policy_model.specs.declared.event.Decision.TheVariants.{Permit, Deny}
 use Rattle.policy_model.specs.declared.event.Event.{Event}
+use Rattle.policy_model.specs.declared.handles.TheConstants.{HANDLE_NUMBERS}
 use Rattle.policy_model.specs.Asks.{handle_of, is_permit, mode_of, opens_file, value_of}
-use Rattle.policy_model.specs.Handles.{handle_numbers}
 use Rattle.policy_model.specs.Settings.{same_label}
 use Rattle.policy_model.specs.Verdict.{allows, grant_verdict}
 use Rattle.session_table.specs.declared.handles.LiveHandle.{LiveHandle}
@@ -25,7 +25,7 @@ is_free handle live = is_none (file_at handle live)
 
 -- the least handle of 1 to 8 that is free, and 0 where there is none
 abbrev pub free_of : List LiveHandle → ℕ
-free_of live = unwrap_or (find (λ n. is_free n live) handle_numbers) 0
+free_of live = unwrap_or (find (λ n. is_free n live) HANDLE_NUMBERS) 0
 
 -- the files but the one of this handle
 abbrev pub without : ℕ → List LiveHandle → List LiveHandle
@@ -43,7 +43,7 @@ AreHandles live = AreUpTo 8 live
 -- the decision on an OPEN: rules 19, 20, 21, else the least free handle
 abbrev pub open_decision : List LiveHandle → List Grant → ℕ → Label → Decision
 open_decision live grants mode name =
-    if nat_le 8 (length live) then Deny handles_spent 8
+    if nat_le 8 (length live) then Deny HANDLES_SPENT 8
     else grant_verdict (free_of live) mode (find (λ g. same_label g.name name) grants)
 
 -- what a permit gives is a handle of 1 to 8 that is free
@@ -53,8 +53,8 @@ IsNewHandle live _ = Unit {0}
 
 -- the decision on a use of a file: rules 17 and 18
 abbrev pub use_by : ℕ → ℕ → Option LiveHandle → Decision
-use_by handle needed None = Deny no_handle handle
-use_by handle needed (Some file) = if allows file.mode needed then Permit 0 else Deny mode_lacking handle
+use_by handle needed None = Deny NO_HANDLE handle
+use_by handle needed (Some file) = if allows file.mode needed then Permit 0 else Deny MODE_LACKING handle
 
 -- the decision on a READ or WRITE; 0 is the client's connection
 abbrev pub use_decision : List LiveHandle → ℕ → ℕ → Decision
@@ -62,7 +62,7 @@ use_decision live handle needed = if handle == 0 then Permit 0 else use_by handl
 
 -- the decision on a CLOSE: rule 17
 abbrev pub close_decision : List LiveHandle → ℕ → Decision
-close_decision live handle = if handle == 0 || is_free handle live then Deny no_handle handle else Permit 0
+close_decision live handle = if handle == 0 || is_free handle live then Deny NO_HANDLE handle else Permit 0
 
 -- what is told of a file
 abbrev pub told_of : Option LiveHandle → Option (ℕ × ℕ)

@@ -1,8 +1,8 @@
 -- Inner: the rules that come before those of a request's own kind, and what a row decides for each journal that it stands for.
 use Rattle.std.specs.Prelude.{ℕ, ◌≡◌, ◌≢◌, ◌==◌, ◌&&◌, not, true, List, Option, Some, None, unwrap_or, if◌then◌else◌}
 use Rattle.request_catalogue.specs.declared.kind.Kind.{Kind}
+use Rattle.request_catalogue.specs.declared.rules.TheConstants.{ASKS_SPENT, NOT_IN_PHASE, ONCE_ONLY}
 use Rattle.request_catalogue.specs.declared.texts.Label.{Label}
-use Rattle.request_catalogue.specs.Rules.{asks_spent, not_in_phase, once_only}
 use Rattle.policy_model.specs.declared.account.Grant.{Grant}
 use Rattle.policy_model.specs.declared.event.Ask.{Ask}
 use Rattle.policy_model.specs.declared.event.Ask.TheVariants as asks
@@ -22,8 +22,8 @@ use Rattle.session_table.specs.Standing.{RowStands, grants_at, is_logged_in}
 -- rule 6 where the phase doesn't permit the kind, rule 7 where one was permitted that may be only once
 abbrev pub kind_refusal : SessionRow → Ask → Kind → Option Decision
 kind_refusal row ask kind =
-    if not (table_row row.phase kind).permitted then Some (Deny not_in_phase (request_number ask))
-    else (if (table_row row.phase kind).once && has_mark kind row.bits then Some (Deny once_only (request_number ask))
+    if not (table_row row.phase kind).permitted then Some (Deny NOT_IN_PHASE (request_number ask))
+    else (if (table_row row.phase kind).once && has_mark kind row.bits then Some (Deny ONCE_ONLY (request_number ask))
     else None)
 
 abbrev pub cell_refusal : SessionRow → Ask → Option Kind → Option Decision
@@ -38,8 +38,8 @@ own_refusal row ask = cell_refusal row ask (kind_of ask)
 -- the denial of an ask by one of the rules 1 to 7: rule 6 where the session is over, rule 1 where it has made so many asks
 abbrev pub refusal_of : SessionRow → ℕ → Ask → Option Decision
 refusal_of row requests ask =
-    if is_over_phase row.phase then Some (Deny not_in_phase (request_number ask))
-    else (if row.asked == requests then Some (Deny asks_spent requests)
+    if is_over_phase row.phase then Some (Deny NOT_IN_PHASE (request_number ask))
+    else (if row.asked == requests then Some (Deny ASKS_SPENT requests)
     else own_refusal row ask)
 
 -- for each journal that the row stands for, what isn't refused so is decided by the rules of the request's kind

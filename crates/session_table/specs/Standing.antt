@@ -5,12 +5,12 @@ use Rattle.request_catalogue.specs.declared.kind.Kind.{Kind}
 use Rattle.request_catalogue.specs.declared.texts.Label.{Label}
 use Rattle.request_catalogue.specs.declared.texts.Name.{Name}
 use Rattle.policy_model.specs.declared.account.Grant.{Grant}
-use Rattle.policy_model.specs.declared.event.Ask.{Ask}
-use Rattle.policy_model.specs.declared.event.Ask.TheVariants as asks
 use Rattle.policy_model.specs.declared.event.Event.{Event}
 use Rattle.policy_model.specs.declared.phase.Phase.{Phase}
 use Rattle.policy_model.specs.declared.phase.Phase.TheVariants.{Pre, Challenged, Verified, User}
-use Rattle.policy_model.specs.Asks.{accepts, challenge_name, decoys_from, exports, is_denied_reply, opens, opens_file, permits_kind, takes, value_of}
+use Rattle.policy_model.specs.declared.reading.TheConstants.{DECOYS_FROM}
+use Rattle.policy_model.specs.Asks.{label_named}
+use Rattle.policy_model.specs.Asks.{accepts, challenge_name, exports, is_denied_reply, opens, opens_file, permits_kind, takes, value_of}
 use Rattle.policy_model.specs.Handles.{live_handles_of}
 use Rattle.policy_model.specs.Journal.{ask_count, count_of, has_event, openings_of}
 use Rattle.policy_model.specs.Logins.{challenged_user, verified_user, was_decoyed}
@@ -30,7 +30,7 @@ number_by setup (Some user) = account_number setup user
 
 -- the account that a permitted CHALLENGE is for: that of its user, and the number of accounts for a decoy
 abbrev pub account_taken : Settings → Event → Option ℕ
-account_taken setup e = if nat_le decoys_from (value_of e.decision) then Some (length setup.accounts) else number_by setup (challenge_name e.ask)
+account_taken setup e = if nat_le DECOYS_FROM (value_of e.decision) then Some (length setup.accounts) else number_by setup (challenge_name e.ask)
 
 -- the account that a session's last permitted CHALLENGE is for
 abbrev pub account_challenged : Settings → List Event → ℕ → Option ℕ
@@ -53,11 +53,6 @@ is_before_user Pre = true
 is_before_user Challenged = true
 is_before_user Verified = true
 is_before_user _ = false
-
--- the file that an OPEN names
-abbrev pub label_named : Ask → Option Label
-label_named (asks.OpenFile mode name) = Some name
-label_named _ = None
 
 -- the number of the grant of a file's name, if there is one
 abbrev pub grant_number : List Grant → Option Label → Option ℕ

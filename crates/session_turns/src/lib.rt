@@ -1,6 +1,6 @@
-//! A worker's turns at the book that all workers share. Whoever serves a session sees of the others only
-//! that the journal may have grown by their events since (`Joins`), and that these say nothing of its own
-//! session (`SessionStays`).
+//! A worker's turns at the book that all workers share. Whoever serves a session sees of the others
+//! only that the journal may have grown by their events since (`Joins`), and that these say nothing of
+//! its own session (`SessionStays`). Nothing here need be believed; the session loop stands above.
 #![tactic(auto)]
 
 mod at_cell;

@@ -2,6 +2,7 @@ use Rattle.std.proofs.Common.{◌≡◌, ℕ, ◌+◌, List, length, take, Optio
 use Rattle.std.specs.Prelude.{nat_le, option_map}
 use Rattle.std.specs.Bool.{then_some}
 use Rattle.std.proofs.lemmas.Grind.{common_steps}
+use Rattle.request_catalogue.specs.Results.{◌>>=◌}
 use Rattle.outside.specs.Files.{Contents, SameFiles}
 use Rattle.outside.specs.Told.{Goes}
 use Rattle.policy_model.specs.Settings.{Settings}
@@ -10,7 +11,7 @@ use Rattle.account_file.specs.declared.fault.SetupRule.TheVariants as rules
 use Rattle.account_file.specs.declared.fault.SetupError.{SetupError}
 use Rattle.account_file.specs.declared.fault.SetupError.TheVariants as setup_errors
 use Rattle.account_file.specs.Entries.{entries_of}
-use Rattle.account_file.specs.Faults.{Answers, demand, ◌>>=◌}
+use Rattle.account_file.specs.Faults.{Answers, demand_at}
 use Rattle.account_file.specs.Setups.{setup_of, top}
 use Rattle.setup_reading.specs.Read.{IsSetupError, IsSetupIn, error_of_setup, judged_setup, setup_in}
 
@@ -21,7 +22,7 @@ short-front m bytes = grind (arith, common_steps)
 -- so the first 8,388,609 bytes are judged as the whole file is
 judged-front : (bytes : List ℕ) → judged_setup (take 8388609 bytes) ≡ judged_setup bytes
 unfolding judged_setup
-judged-front bytes = ap (λ short. demand (top keys.File) rules.TooLong short >>= setup_of) (short-front 8388608 bytes)
+judged-front bytes = ap (λ short. demand_at (top keys.File) rules.TooLong short >>= setup_of) (short-front 8388608 bytes)
 
 -- the front that was read of a file
 abbrev pub IsFrontOf : {A : Type 0} → (A → List ℕ) → Option A → Option Contents → List ℕ → Type 0

@@ -1,6 +1,7 @@
 -- Believed: the setup in a file, or why there is none.
 use Rattle.std.specs.Prelude.{◌≡◌, ℕ, nat_le, List, length, Option, Some, None, option_map, Result, Ok, Err, IfSome}
 use Rattle.std.specs.Bool.{then_some}
+use Rattle.request_catalogue.specs.Results.{◌>>=◌}
 use Rattle.outside.specs.Files.{Contents}
 use Rattle.policy_model.specs.Settings.{Settings}
 use Rattle.file_front.specs.declared.front.FrontError.{FrontError}
@@ -11,14 +12,14 @@ use Rattle.account_file.specs.declared.fault.SetupFault.{SetupFault}
 use Rattle.account_file.specs.declared.fault.SetupKey.TheVariants as keys
 use Rattle.account_file.specs.declared.fault.SetupRule.TheVariants as rules
 use Rattle.account_file.specs.Entries.{SetupEntries, entries_of}
-use Rattle.account_file.specs.Faults.{demand, ◌>>=◌}
+use Rattle.account_file.specs.Faults.{demand_at}
 use Rattle.account_file.specs.Setups.{setup_of, top}
 use Rattle.setup_reading.specs.declared.reading.SetupFileError.{SetupFileError}
 use Rattle.setup_reading.specs.declared.reading.SetupFileError.TheVariants as errors
 
 -- the setup that the bytes of a file spell, or its first fault; a file has at most 8,388,608 bytes
 unfoldable pub judged_setup : List ℕ → Result SetupEntries SetupFault
-judged_setup bytes = demand (top keys.File) rules.TooLong (then_some (nat_le (length bytes) 8388608) bytes) >>= setup_of
+judged_setup bytes = demand_at (top keys.File) rules.TooLong (then_some (nat_le (length bytes) 8388608) bytes) >>= setup_of
 
 -- what the file of this name says of a setup, if there is one
 abbrev pub setup_in : Contents → List ℕ → Option (Result SetupEntries SetupFault)

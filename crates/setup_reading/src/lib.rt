@@ -1,4 +1,5 @@
-//! The setup that stands in a file. Believe `specs/Read.antt`; the modes `audit` and `renew` stand above.
+//! The setup that stands in a file. Believe `specs/Read.antt`; the reading of a service and the modes
+//! `audit`, `renew` and `recover` stand above.
 #![tactic(auto)]
 
 mod reading;

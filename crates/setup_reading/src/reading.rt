@@ -5,7 +5,7 @@ ghost use Rattle.outside.specs.Files.{SameFiles};
 ghost use Rattle.outside.specs.Told.{Goes, Rose};
 ghost use Rattle.account_file.specs.declared.fault.SetupError.TheVariants.{Refused};
 ghost use Rattle.account_file.specs.Entries.{entries_of};
-ghost use Rattle.account_file.specs.Faults.{Answers, fault_of};
+ghost use Rattle.account_file.specs.Faults.{Answers, spot_fault};
 ghost use Rattle.account_file.specs.Setups.{top};
 ghost use Rattle.setup_reading.specs.declared.reading.SetupFileError.{SetupFileError};
 ghost use Rattle.setup_reading.specs.Read.{IsSetupError, IsSetupIn, error_of_front, error_of_setup, judged_setup};
@@ -86,7 +86,7 @@ fn judged_setup(alloc: Global, bytes: &[u8]) -> Result<Setup, SetupError>
 
 /// A file has too many bytes for a setup.
 fn too_long() -> Result<Setup, SetupError>
-    ensures { result ≡ Err (Refused (fault_of (top SetupKey.File) SetupRule.TooLong)) }
+    ensures { result ≡ Err (Refused (spot_fault (top SetupKey.File) SetupRule.TooLong)) }
 {
     Err(SetupError::Refused(SetupFault {
         key: SetupKey::File,

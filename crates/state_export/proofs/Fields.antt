@@ -8,8 +8,9 @@ use Rattle.std.proofs.lemmas.List.{take-append-drop, length-take-le, length-appe
 use Rattle.std.proofs.lemmas.Nat.{from_le_bytes-to_le_bytes_2}
 use Rattle.request_catalogue.specs.Fields.{number_at}
 use Rattle.request_catalogue.proofs.Numbers.{IsBytes, IsBytes-part, wide16, to_le_bytes-number_at}
+use Rattle.request_catalogue.specs.Results.{demand, ◌>>=◌}
 use Rattle.state_export.specs.declared.fault.StateFault.TheVariants.{Length, Missing, Tag}
-use Rattle.state_export.specs.Reading.{Field, content_of, demand, field_of, ◌>>=◌}
+use Rattle.state_export.specs.Reading.{Field, content_of, field_of}
 use Rattle.state_export.specs.Spelling.{field_bytes}
 
 -- what was demanded under a test was there

@@ -7,6 +7,7 @@ use Rattle.std.proofs.lemmas.Bool.{leb-true, le-leb}
 use Rattle.std.proofs.lemmas.List.{take-append-drop, length-append, length-take-le, take_at, drop_at}
 use Rattle.std.proofs.lemmas.Nat.{from_le_bytes-to_le_bytes_4}
 use Rattle.request_catalogue.specs.Fields.{number_at}
+use Rattle.request_catalogue.specs.Results.{demand, ◌>>=◌}
 use Rattle.request_catalogue.specs.Texts.{is_name}
 use Rattle.request_catalogue.specs.TextBytes.{name_bytes}
 use Rattle.request_catalogue.proofs.Numbers.{IsBytes, wide32, number_at-below, to_le_bytes-number_at}
@@ -14,7 +15,7 @@ use Rattle.state_export.specs.declared.fault.ImportFault.{ImportFault}
 use Rattle.state_export.specs.declared.fault.ImportFault.TheVariants.{Head}
 use Rattle.state_export.specs.declared.fault.StateFault.{StateFault}
 use Rattle.state_export.specs.declared.import.Import.{Import}
-use Rattle.state_export.specs.Reading.{demand, import_of, imported, state_of, ◌>>=◌}
+use Rattle.state_export.specs.Reading.{import_of, imported, state_of}
 use Rattle.state_export.specs.Spelling.{ImportValue, IsImport, StateValue, import_bytes, import_value, state_bytes}
 use Rattle.state_export.proofs.Fields.{after, behind_is_bytes}
 use Rattle.state_export.proofs.States.{state_read, state_written}

@@ -10,10 +10,11 @@ use Rattle.std.proofs.lemmas.Nat.{from_le_bytes-to_le_bytes_4}
 use Rattle.std.proofs.lemmas.Slice.Eq.{bytes_eq-Decides}
 use Rattle.request_catalogue.specs.Fields.{number_at}
 use Rattle.request_catalogue.proofs.Numbers.{IsBytes, wide32, last_number, number_at-below, to_le_bytes-number_at}
+use Rattle.request_catalogue.specs.Results.{demand, ◌>>=◌}
 use Rattle.state_export.specs.declared.fault.StateFault.{StateFault}
 use Rattle.state_export.specs.declared.fault.StateFault.TheVariants.{Magic, Trailing}
 use Rattle.state_export.specs.declared.state.State.{State}
-use Rattle.state_export.specs.Reading.{Field, demand, field_of, state_of, ◌>>=◌}
+use Rattle.state_export.specs.Reading.{Field, field_of, state_of}
 use Rattle.state_export.specs.Spelling.{IsState, StateValue, counts_bytes, field_bytes, state_bytes, value_of}
 use Rattle.state_export.proofs.Fields.{IsField, after, bound, demanded, field_read, field_written, field_is_bytes, behind_is_bytes}
 

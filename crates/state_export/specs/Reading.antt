@@ -1,26 +1,16 @@
 -- Believed: the state that bytes spell and the import record that they spell, or their first fault.
-use Rattle.std.specs.Prelude.{ℕ, List, codes, drop, length, take, Option, Some, None, Result, Ok, Err, nat_le, slice_index, ◌==◌, ◌&&◌}
+use Rattle.std.specs.Prelude.{ℕ, List, codes, drop, length, take, Result, Ok, Err, nat_le, slice_index, ◌==◌, ◌&&◌}
 use Rattle.std.specs.Bool.{then_some}
 use Rattle.std.specs.Int.{w16, w32}
 use Rattle.std.specs.Str.{bytes_eq}
 use Rattle.request_catalogue.specs.Fields.{number_at}
+use Rattle.request_catalogue.specs.Results.{demand, ◌>>=◌}
 use Rattle.request_catalogue.specs.Texts.{is_name}
 use Rattle.state_export.specs.declared.fault.ImportFault.{ImportFault}
 use Rattle.state_export.specs.declared.fault.ImportFault.TheVariants.{Head, State as InState}
 use Rattle.state_export.specs.declared.fault.StateFault.{StateFault}
 use Rattle.state_export.specs.declared.fault.StateFault.TheVariants.{Length, Magic, Missing, Tag, Trailing}
 use Rattle.state_export.specs.Spelling.{ImportValue, StateValue}
-
--- what is there, or else the fault
-abbrev pub demand : {A F : Type 0} → F → Option A → Result A F
-demand fault (Some a) = Ok a
-demand fault None = Err fault
-
--- the left fault first, then what follows from the value
-infixl 10 ◌>>=◌
-abbrev pub ◌>>=◌ : {A B F : Type 0} → Result A F → (A → Result B F) → Result B F
-Ok a >>= next = next a
-Err fault >>= next = Err fault
 
 -- a field that was read: its content, and what stands behind it
 pub record Field : Type 0 where

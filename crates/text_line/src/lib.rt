@@ -1,6 +1,6 @@
 //! A short text that is written one part behind the other: words, numbers in decimal digits, bytes
 //! in hexadecimal ones. The log's lines and the stored functions are written by it. And the number that
-//! a word spells.
+//! a word spells: believe `specs/Reading.antt`. The log, the stored functions and the modes stand above.
 #![tactic(auto)]
 
 ghost use Rattle.std.specs.Prelude.{◌≡◌, ◌≤◌, ◌+◌, ◌*◌, ◌^◌, ◌&&◌, ◌++◌, length, nat_le, nat_lt};

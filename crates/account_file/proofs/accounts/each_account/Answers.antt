@@ -6,7 +6,7 @@ use Rattle.policy_model.specs.declared.account.Account.{Account}
 use Rattle.policy_model.specs.Settings.{is_account, same_name}
 use Rattle.toml.specs.Data.{Data, get, as_str}
 use Rattle.toml.specs.View.{view}
-use Rattle.account_file.specs.Accounts.{account_of, account_behind, uid_at, uids_of}
+use Rattle.account_file.specs.Accounts.{read_account, account_behind, uid_at, uids_of}
 use Rattle.account_file.specs.Entries.{account_entry}
 use Rattle.account_file.specs.Trees.{strings_at}
 use Rattle.account_file.proofs.EachLemmas.{read_none, read_stop, read_more, read_all, handed_on, distinct_more, list_all_more, filter_map_more, view_at, none_left}
@@ -16,12 +16,12 @@ pub loop-item-init : goal.loop-item-init
 loop-item-init c = rw c.new-accounts.ensures.items (record { read = read_none account_behind (map view c.args.items.now); earlier_names = refl; earlier_uids = refl; len = refl; legal = refl; names = refl; uids = refl })
 
 -- an account behind the items before it is one at the next place, behind the accounts of these names and numbers
-behind : (place i : ℕ) (all : List Data) (value : Data) (accounts seen : List Account) → strings_at (codes "name") (take i all) ≡ map (λ (a : Account). name_bytes a.name) accounts → uids_of (take i all) ≡ map (λ (a : Account). a.uid) accounts → i < length all → place ≡ i + 1 → seen ≡ accounts → account_behind (take i all) value ≡ account_of place (map (λ (a : Account). name_bytes a.name) seen) (map (λ (a : Account). a.uid) seen) value
+behind : (place i : ℕ) (all : List Data) (value : Data) (accounts seen : List Account) → strings_at (codes "name") (take i all) ≡ map (λ (a : Account). name_bytes a.name) accounts → uids_of (take i all) ≡ map (λ (a : Account). a.uid) accounts → i < length all → place ≡ i + 1 → seen ≡ accounts → account_behind (take i all) value ≡ read_account place (map (λ (a : Account). name_bytes a.name) seen) (map (λ (a : Account). a.uid) seen) value
 behind place i all value accounts seen names uids lt at same =
     let long : length (take i all) + 1 ≡ place = ap (λ (n : ℕ). n + 1) (length-take-le i all (omega arith)) ∙ sym at in
-    ap (λ (n : ℕ). account_of n (strings_at (codes "name") (take i all)) (uids_of (take i all)) value) long
-    ∙ ap (λ (ns : List (List ℕ)). account_of place ns (uids_of (take i all)) value) (names ∙ ap (map (λ (a : Account). name_bytes a.name)) (sym same))
-    ∙ ap (λ (us : List ℕ). account_of place (map (λ (a : Account). name_bytes a.name) seen) us value) (uids ∙ ap (map (λ (a : Account). a.uid)) (sym same))
+    ap (λ (n : ℕ). read_account n (strings_at (codes "name") (take i all)) (uids_of (take i all)) value) long
+    ∙ ap (λ (ns : List (List ℕ)). read_account place ns (uids_of (take i all)) value) (names ∙ ap (map (λ (a : Account). name_bytes a.name)) (sym same))
+    ∙ ap (λ (us : List ℕ). read_account place (map (λ (a : Account). name_bytes a.name) seen) us value) (uids ∙ ap (map (λ (a : Account). a.uid)) (sym same))
 
 pub overflow_cast-place : goal.overflow_cast-place
 overflow_cast-place c = omega (arith, c.loop-item.invariant.len, c.loop-item.accounts.ok.0)

@@ -5,7 +5,7 @@ use Rattle.policy_model.specs.declared.account.Grant.{Grant}
 use Rattle.policy_model.specs.Settings.{is_number, same_label}
 use Rattle.toml.specs.Data.{Data, get, as_str}
 use Rattle.toml.specs.View.{view}
-use Rattle.account_file.specs.Accounts.{grant_of, grant_behind}
+use Rattle.account_file.specs.Accounts.{read_grant, grant_behind}
 use Rattle.account_file.specs.Entries.{grant_entry}
 use Rattle.account_file.proofs.EachLemmas.{read_none, read_stop, read_more, read_all, refused_on, distinct_more, list_all_more, filter_map_more, view_at, none_left}
 use Rattle.account_file.specs.Trees.{strings_at}
@@ -16,9 +16,9 @@ pub loop-item-init : goal.loop-item-init
 loop-item-init c = rw c.new-grants.ensures.items (record { read = read_none (grant_behind c.args.account) (map view c.args.items.now); names = refl; len = refl; modes = refl; different = refl })
 
 -- a grant behind the items before it is one behind the grants of these names
-behind : (account : ℕ) (earlier : List Data) (value : Data) (grants seen : List Grant) → strings_at (codes "name") earlier ≡ map (λ (g : Grant). label_bytes g.name) grants → seen ≡ grants → grant_behind account earlier value ≡ grant_of account (map (λ (g : Grant). label_bytes g.name) seen) value
+behind : (account : ℕ) (earlier : List Data) (value : Data) (grants seen : List Grant) → strings_at (codes "name") earlier ≡ map (λ (g : Grant). label_bytes g.name) grants → seen ≡ grants → grant_behind account earlier value ≡ read_grant account (map (λ (g : Grant). label_bytes g.name) seen) value
 behind account earlier value grants seen names same =
-    ap (λ (ns : List (List ℕ)). grant_of account ns value) (names ∙ ap (map (λ (g : Grant). label_bytes g.name)) (sym same))
+    ap (λ (ns : List (List ℕ)). read_grant account ns value) (names ∙ ap (map (λ (g : Grant). label_bytes g.name)) (sym same))
 
 pub returns-in_err-grant-clause-read : goal.returns-in_err-grant-clause-read
 returns-in_err-grant-clause-read c =

@@ -13,4 +13,4 @@ returns-else-may_follow c = λ events kept.
     let place : c.in-Ok.logged.number ≡ length events + 1 = omega (arith, c.if-logged-history.false, counted) in
     let says : Says (length events + 1) c.args.line.now (event_said c.in-Ok.logged) = record { read = c.in-Ok.ensures.exact ∙ ap Ok (said_value (length events + 1) c.in-Ok.logged place); shown = said_shown c.in-Ok.logged.what } in
     let event : c.event_said-event.result ≡ event_said c.in-Ok.logged = c.event_said-event.ensures in
-    (omega (arith, c.if-history-ge-EVENTS_MAX.false, counted), illegal_by c.args.setup.now events c.args.line.now (event_said c.in-Ok.logged) says (subst (λ (e : Event). MayFollow c.args.setup.now events e → ⊥) event (c.if-may_follow.ensures events kept)))
+    (omega (arith, c.if-history-ge-EVENTS_LIMIT.false, counted), illegal_by c.args.setup.now events c.args.line.now (event_said c.in-Ok.logged) says (subst (λ (e : Event). MayFollow c.args.setup.now events e → ⊥) event (c.if-may_follow.ensures events kept)))

@@ -1,7 +1,7 @@
 use Rattle.std.proofs.Common.{◌*◌, length, Result, Ok, Err, sym, ap, ◌∙◌}
 use Rattle.std.specs.Prelude.{IsOk, OnOk}
+use Rattle.request_catalogue.specs.Texts.{is_typed_reply}
 use Rattle.hex.specs.Hex.{encode_lower}
-use Rattle.request_catalogue.specs.Texts.{is_reply}
 use Rattle.drill_plan.proofs.Texts.{is_password_text}
 use Rattle.drill_plan.proofs.early.put_reply.Goals as goal
 
@@ -13,4 +13,4 @@ pub put-requires : goal.put-requires
 put-requires c =
     let fits = c.encode_to_slice-fits.ensures.fits.1 (sym (ap (λ bs. 2 * length bs) c.to_be_bytes.ensures)) in
     let written = on_ok c.encode_to_slice-fits.result _ fits c.encode_to_slice-fits.ensures.written ∙ ap encode_lower c.to_be_bytes.ensures in
-    ap is_reply written ∙ is_password_text c.args.password
+    ap is_typed_reply written ∙ is_password_text c.args.password

@@ -27,8 +27,8 @@ pub returns-in_err-n-clause-only : goal.returns-in_err-n-clause-only
 returns-in_err-n-clause-only c = λ algo n seed used is.
     let found : c.front_algo.result ≡ Some c.in_ok-algo.algo = c.ok_or.ensures.ok_part ∙ ap result_ok c.in_ok-algo.was in
     let pieces = parts_only c.args.text.now c.challenge_word.result.now _ _ _ _ _ algo c.in_ok-algo.algo n seed used c.front_algo.result is c.front_algo.ensures.only found c.challenge_word.ensures.text c.parts_of-parts.ensures.parts in
-    let some : c.number_of.result ≡ Some n = number_only is.digits c.parts_of-parts.result.digits.now n c.number_of.result is.number pieces.2 c.number_of.ensures in
-    let none : c.number_of.result ≡ None = c.ok_or-2.ensures.ok_part ∙ ap result_ok c.in_err-n.was in
+    let some : c.read_number.result ≡ Some n = number_only is.digits c.parts_of-parts.result.digits.now n c.read_number.result is.number pieces.2 c.read_number.ensures.value in
+    let none : c.read_number.result ≡ None = c.ok_or-2.ensures.ok_part ∙ ap result_ok c.in_err-n.was in
     absurd (false≢true (ap is_some (sym none ∙ some)))
 
 pub returns-in_err-seed-clause-only : goal.returns-in_err-seed-clause-only
@@ -59,7 +59,7 @@ returns-clause-found c =
     let begins : text ≡ challenge_word algo ++ drop (length (challenge_word algo)) text = rw found at c.front_algo.ensures.found in
     let cut : take (length text - length front) (drop (length front) text) ≡ drop (length (challenge_word algo)) text = take_rest text (length front) ∙ ap (λ (w : List ℕ). drop (length w) text) c.challenge_word.ensures.text in
     let pieces = subst (λ (t : List ℕ). ArePieces t parts.gap.now parts.digits.now parts.second_gap.now parts.name.now parts.rest.now) cut c.parts_of-parts.ensures.parts in
-    let number = number_found parts.digits.now c.in_ok-n.n c.number_of.result pieces.digits_is.passes (c.ok_or-2.ensures.ok_part ∙ ap result_ok c.in_ok-n.was) c.number_of.ensures in
+    let number = number_found parts.digits.now c.in_ok-n.n c.read_number.result (c.ok_or-2.ensures.ok_part ∙ ap result_ok c.in_ok-n.was) c.read_number.ensures.value in
     let seeded : c.of.result ≡ Some c.in_ok-seed.seed = c.ok_or-3.ensures.ok_part ∙ ap result_ok c.in_ok-seed.was in
     let legal : is_seed_text parts.name.now ≡ true = sym c.of.ensures.rule ∙ ap is_some seeded in
     let lower = rw seeded at c.of.ensures.found in
@@ -75,7 +75,7 @@ returns-clause-only c = λ algo n seed used is.
     let front = c.challenge_word.result.now in
     let found : c.front_algo.result ≡ Some c.in_ok-algo.algo = c.ok_or.ensures.ok_part ∙ ap result_ok c.in_ok-algo.was in
     let pieces = parts_only text front _ _ _ _ _ algo c.in_ok-algo.algo n seed used c.front_algo.result is c.front_algo.ensures.only found c.challenge_word.ensures.text c.parts_of-parts.ensures.parts in
-    let some : c.number_of.result ≡ Some n = number_only is.digits parts.digits.now n c.number_of.result is.number pieces.2 c.number_of.ensures in
+    let some : c.read_number.result ≡ Some n = number_only is.digits parts.digits.now n c.read_number.result is.number pieces.2 c.read_number.ensures.value in
     let seeded : c.of.result ≡ Some c.in_ok-seed.seed = c.ok_or-3.ensures.ok_part ∙ ap result_ok c.in_ok-seed.was in
     let lower = rw seeded at c.of.ensures.found in
     let within : length parts.rest.now ≤ length text = omega (arith, c.parts_of-parts.ensures.within, ap length (take_rest text (length front)), length-drop (length front) text) in

@@ -4,10 +4,9 @@ use Rattle.outside.specs.Told.{Gains, Rose}
 use Rattle.outside.proofs.Told.{Gains-none}
 use Rattle.policy_model.specs.Journal.{has_lost}
 use Rattle.service_model.specs.Service.{Service}
+use Rattle.serve_mode.proofs.StillLemmas.{IsServiceOf, read_by, read_is}
 use Rattle.serve_mode.specs.Commands.{source_of}
-use Rattle.serve_mode.specs.Services.{IsServiceOf}
 use Rattle.serve_mode.specs.Steps.{run_end, service_by}
-use Rattle.serve_mode.proofs.StillLemmas.{read_by, read_is}
 use Rattle.serve_mode.proofs.Promises.{not_served_why, served_ended, told_before, unready_why, unserved_ended, writes_more}
 use Rattle.serve_mode.proofs.run.run_serve.Goals as goal
 

@@ -1,4 +1,5 @@
 use Rattle.std.proofs.Common.{subst}
+use Rattle.policy_laws.proofs.Strangers.{strangers_are_told_alike}
 use Rattle.session_core.specs.Parts.{setup_of}
 use Rattle.session_core.proofs.ReplayLemmas.{consequences}
 use Rattle.monitor_book.specs.Kept.{IsBook}
@@ -12,3 +13,8 @@ pub returns-clause-consequences : goal.returns-clause-consequences
 returns-clause-consequences g c =
     let kept : IsBook c.args.self = subst IsBook c.self.view_is c.self.invariant.0 in
     consequences (setup_of c.args.self.core) c.args.self.journal kept.history.run.legal
+
+pub returns-clause-alike : goal.returns-clause-alike
+returns-clause-alike g c =
+    let kept : IsBook c.args.self = subst IsBook c.self.view_is c.self.invariant.0 in
+    strangers_are_told_alike (setup_of c.args.self.core) c.args.self.journal kept.history.run.legal

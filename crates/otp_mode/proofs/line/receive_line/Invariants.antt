@@ -1,7 +1,7 @@
 use Rattle.std.proofs.Common.{◌≡◌, ◌-◌, ◌≤◌, [], length, take}
 use Rattle.outside.specs.Link.{Exchanged}
 use Rattle.outside.specs.Told.{Goes}
-use Rattle.otp_extended.proofs.line.receive_line.Given as goal
+use Rattle.otp_mode.proofs.line.receive_line.Given as goal
 
 abbrev pub invariant-loop-filled : goal.invariant-loop-filled
 invariant-loop-filled g l =

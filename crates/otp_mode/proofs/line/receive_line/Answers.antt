@@ -3,9 +3,9 @@ use Rattle.std.specs.List.{list_any}
 use Rattle.std.specs.Prelude.{◌==◌}
 use Rattle.std.proofs.lemmas.Grind.{common_steps}
 use Rattle.outside.proofs.Exchanges.{Exchanges-then}
-use Rattle.otp_mode.proofs.PhraseLemmas.{newline-within, received-all, received-full, received-newline, take-joined}
-use Rattle.otp_mode.proofs.phrase.receive_line.Goals as goal
-use Rattle.otp_mode.proofs.phrase.receive_line.Goals.{then-n-eq0-via-then-n-eq0, then-n-eq0-via-else-n-eq0+then-contains}
+use Rattle.otp_mode.proofs.LineLemmas.{newline-within, received-all, received-full, received-newline, take-joined}
+use Rattle.otp_mode.proofs.line.receive_line.Goals as goal
+use Rattle.otp_mode.proofs.line.receive_line.Goals.{then-n-eq0-via-then-n-eq0, then-n-eq0-via-else-n-eq0+then-contains}
 
 -- what was received joins what stands before it in the buffer
 pub loop-filled-preserved : goal.loop-filled-preserved

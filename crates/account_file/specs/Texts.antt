@@ -1,17 +1,12 @@
--- Inner: what a setup file says of its texts and its counts.
+-- Inner: what a setup file says of its texts.
 use Rattle.std.specs.Prelude.{Bool, ◌&&◌}
-use Rattle.policy_model.specs.Settings.{is_text}
 use Rattle.account_file.specs.declared.settings.Texts.{Texts}
-use Rattle.account_file.specs.declared.settings.Counts.{Counts}
-use Rattle.account_file.specs.Entries.{TextEntries, CountEntries}
+use Rattle.account_file.specs.Entries.{TextEntries}
+use Rattle.policy_model.specs.Settings.{is_text}
 
 -- what a file says of these texts
 abbrev pub text_entries : Texts → TextEntries
 text_entries t = record { socket = t.socket.now; launcher = t.launcher.now; vault = t.vault.now; words = t.words.now; banner = t.banner.now }
-
--- what a file says of these counts
-abbrev pub count_entries : Counts → CountEntries
-count_entries c = record { workers = c.workers; connections = c.connections; requests = c.requests; tries = c.tries; hold = c.hold }
 
 -- texts of a setup
 abbrev pub are_legal : Texts → Bool

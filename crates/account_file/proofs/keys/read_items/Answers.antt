@@ -3,7 +3,7 @@ use Rattle.toml.specs.View.{view}
 use Rattle.toml.specs.declared.value.Value.{Value}
 use Rattle.account_file.specs.declared.fault.SetupFault.{SetupFault}
 use Rattle.account_file.proofs.KeyLemmas.{items_few, items_many}
-use Rattle.account_file.proofs.keys.items_of.Goals as goal
+use Rattle.account_file.proofs.keys.read_items.Goals as goal
 
 pub returns-then-len-most-clause-read : goal.returns-then-len-most-clause-read
 returns-then-len-most-clause-read c =

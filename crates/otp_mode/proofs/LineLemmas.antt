@@ -10,12 +10,11 @@ use Rattle.std.specs.Bool.{then_some}
 use Rattle.std.specs.Str.Lines.{strip_carriage_return}
 use Rattle.outside.specs.Link.{Exchanged, Link}
 use Rattle.outside.specs.Told.{Goes}
-use Rattle.otp_mode.specs.Phrase.{first_line}
-use Rattle.otp_extended.specs.Inner.{ReceivedLine}
-use Rattle.otp_extended.specs.Lines.{line_of}
+use Rattle.otp_mode.specs.Inner.{ReceivedLine}
+use Rattle.otp_mode.specs.Lines.{first_line, line_of}
 
 -- a newline's place, or the length
-abbrev newline_or_len : List ℕ → ℕ
+abbrev pub newline_or_len : List ℕ → ℕ
 newline_or_len xs = position_or_len (λ c. c == 10) xs
 
 -- bytes put behind the first ones stand behind them

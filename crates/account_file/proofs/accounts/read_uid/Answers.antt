@@ -4,7 +4,7 @@ use Rattle.toml.specs.Data.{get_member}
 use Rattle.toml.specs.View.{table_view}
 use Rattle.account_file.specs.declared.fault.SetupFault.{SetupFault}
 use Rattle.account_file.proofs.KeyLemmas.{uid_read}
-use Rattle.account_file.proofs.accounts.uid_of.Goals as goal
+use Rattle.account_file.proofs.accounts.read_uid.Goals as goal
 
 pub returns-then-is_numbered-clause-read : goal.returns-then-is_numbered-clause-read
 returns-then-is_numbered-clause-read c =
