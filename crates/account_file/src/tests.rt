@@ -57,7 +57,7 @@ fn push_text(text: &mut String, more: &str) -> Result<(), AllocError> {
 }
 
 /// The file with changes.
-fn read_text(rt: &HostRuntime, changes: &str) -> Result<String, AllocError> {
+fn text_with(rt: &HostRuntime, changes: &str) -> Result<String, AllocError> {
     let mut text = String::new(rt.alloc());
     for (i, line) in LINES.iter().enumerate() {
         push_text(&mut text, line_at(changes, i).unwrap_or(*line))?;
@@ -87,7 +87,7 @@ fn is_refused_so(rt: &HostRuntime, line: &str) -> Result<bool, Fail> {
     let (key, rest) = line.split_once(' ').ok_or("a key")?;
     let (rule, rest) = rest.split_once(' ').ok_or("a rule")?;
     let (account, changes) = number_at(rest)?;
-    let text = read_text(rt, changes)?;
+    let text = text_with(rt, changes)?;
     let account = u32::try_from(account).unwrap_or(0);
     Ok(is_so(refusal(rt, text.as_str()), key, rule, account))
 }
@@ -165,7 +165,7 @@ fn are_both(accounts: &[Account]) -> bool {
 
 #[test]
 fn a_whole_setup(rt: HostRuntime) -> Result<(), Fail> {
-    let text = read_text(&rt, "8 hold = 3600000|info = [1000, 1]|banner = \"Hi ~\"")?;
+    let text = text_with(&rt, "8 hold = 3600000|info = [1000, 1]|banner = \"Hi ~\"")?;
     match read_setup(rt.alloc(), text.as_bytes()) {
         Ok(setup) => {
             let parts = setup.parts();
@@ -298,7 +298,7 @@ fn the_first_of_several_faults(rt: HostRuntime) -> Result<(), Fail> {
 
 /// Whether the file is read with these with changes.
 fn is_read_with(rt: &HostRuntime, changes: &str, salt: &[u8], frames: Width) -> Result<bool, Fail> {
-    let text = read_text(rt, changes)?;
+    let text = text_with(rt, changes)?;
     Ok(match read_setup(rt.alloc(), text.as_bytes()) {
         Ok(setup) => {
             let parts = setup.parts();
@@ -337,7 +337,7 @@ const TAKEN: &str = "
 #[test]
 fn what_is_taken(rt: HostRuntime) -> Result<(), Fail> {
     for line in TAKEN.lines().skip(1) {
-        let text = read_text(&rt, line.trim_start())?;
+        let text = text_with(&rt, line.trim_start())?;
         assert!(rt; refusal(&rt, text.as_str()).is_none(), "of {line}");
     }
     Ok(())
