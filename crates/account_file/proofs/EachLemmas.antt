@@ -1,108 +1,52 @@
 -- Items that are read one behind the other.
-use Rattle.std.proofs.Common.{◌≡◌, ℕ, zero, suc, ◌+◌, ◌<◌, ◌≤◌, Bool, true, false, not, List, [], ◌∷◌, ◌++◌, length, map, take, drop, get_or, refl, sym, ap, ◌∙◌, subst, arith, ◌||◌, append_assoc, length-append, Option, Some, Result, Ok, Err}
-use Rattle.std.specs.List.{list_all, list_any, filter_map, range_with_len, cons_option}
+use Rattle.std.proofs.Common.{◌≡◌, ℕ, zero, suc, ◌+◌, ◌<◌, ◌≤◌, Bool, true, false, not, List, [], ◌∷◌, ◌++◌, length, map, drop, get_or, refl, sym, ap, ◌∙◌, subst, arith, ◌||◌, Result, Ok, Err}
+use Rattle.std.specs.List.{list_all, list_any}
 use Rattle.std.proofs.lemmas.Bool.{and_parts, and_from, false≢true}
-use Rattle.std.proofs.lemmas.List.{take_at, append-nil, take_more, drop_more}
-use Rattle.std.proofs.lemmas.List.Elements.{filter_map-append}
+use Rattle.std.proofs.lemmas.List.{drop_more}
 use Rattle.std.proofs.lemmas.List.Folds.{list_any-append}
 use Rattle.std.specs.Prelude.{IsErrAnd}
 use Rattle.account_file.specs.declared.fault.SetupError.{SetupError}
 use Rattle.account_file.specs.declared.fault.SetupError.TheVariants.{Refused, OutOfMemory}
 use Rattle.account_file.specs.Faults.{Answers}
-use Rattle.std.proofs.Math.Seq.{get_or-append_seam}
 use Rattle.request_catalogue.specs.Results.{◌>>=◌}
 use Rattle.toml.specs.Data.{Data, array, no_items}
 use Rattle.toml.specs.View.{view}
 use Rattle.toml.specs.declared.value.Value.{Value}
 use Rattle.policy_model.specs.Settings.{are_distinct}
 use Rattle.account_file.specs.declared.fault.SetupFault.{SetupFault}
-use Rattle.account_file.specs.Trees.{all_read, each}
-
--- the items from one on, behind the items before
-abbrev pub each_from : {A : Type 0} → (List Data → Data → Result A SetupFault) → List Data → List Data → Result (List A) SetupFault
-each_from read earlier [] = Ok []
-each_from read earlier (d ∷ ds) = do
-  a ← read earlier d
-  rest ← each_from read (earlier ++ d ∷ []) ds
-  Ok (a ∷ rest)
+use Rattle.account_file.specs.Trees.{read_behind}
 
 -- what no item stands for
 abbrev pub nothing : Data
 nothing = array no_items
 
--- the item behind others is read behind them
-here : {A : Type 0} (read : List Data → Data → Result A SetupFault) (earlier : List Data) (d : Data) (rest : List Data) → read (take (length earlier) (earlier ++ d ∷ rest)) (get_or (earlier ++ d ∷ rest) (length earlier) nothing) ≡ read earlier d
-here read earlier d rest = rw (take_at earlier (d ∷ rest) (length earlier) refl, get_or-append_seam earlier d rest nothing) refl
-
--- the items from one on, read by their places
-from_place : {A : Type 0} (read : List Data → Data → Result A SetupFault) (earlier rest : List Data) → all_read (map (λ i. read (take i (earlier ++ rest)) (get_or (earlier ++ rest) i nothing)) (range_with_len (length earlier) (length rest))) ≡ each_from read earlier rest
-from_place read earlier [] = refl
-from_place {A} read earlier (d ∷ ds) =
-    let all : List Data = earlier ++ d ∷ ds in
-    let more : List Data = earlier ++ d ∷ [] in
-    let joined : more ++ ds ≡ all = append_assoc earlier (d ∷ []) ds in
-    let long : length more ≡ length earlier + 1 = length-append earlier (d ∷ []) in
-    let next : all_read (map (λ i. read (take i all) (get_or all i nothing)) (range_with_len (length earlier + 1) (length ds))) ≡ each_from read more ds =
-    ap (λ (n : ℕ). all_read (map (λ i. read (take i all) (get_or all i nothing)) (range_with_len n (length ds)))) (sym long)
-    ∙ ap (λ (x : List Data). all_read (map (λ i. read (take i x) (get_or x i nothing)) (range_with_len (length more) (length ds)))) (sym joined)
-    ∙ from_place read more ds in
-    ap (λ (r : Result A SetupFault). r >>= (λ a. all_read (map (λ i. read (take i all) (get_or all i nothing)) (range_with_len (length earlier + 1) (length ds))) >>= (λ rest. Ok (a ∷ rest)))) (here read earlier d ds)
-    ∙ ap (λ (r : Result (List A) SetupFault). read earlier d >>= (λ a. r >>= (λ rest. Ok (a ∷ rest)))) next
-
--- what was read, with what follows
-abbrev pub after : {A : Type 0} → List A → Result (List A) SetupFault → Result (List A) SetupFault
-after xs r = r >>= (λ ys. Ok (xs ++ ys))
-
--- what was read of the items so far, with what follows, is what all items are read as
-pub record IsReadTo {A : Type 0} (read : List Data → Data → Result A SetupFault) (all : List Data) (i : ℕ) (xs : List A) : Type 0 where
-  pub so_far : after xs (each_from read (take i all) (drop i all)) ≡ each read all
-
--- nothing behind nothing
-after-none : {A : Type 0} (r : Result (List A) SetupFault) → after [] r ≡ r
-after-none (Ok ys) = refl
-after-none (Err f) = refl
+-- the items left, behind what was read so far, are read as all items
+pub record IsReadTo {A : Type 0} (read : List A → Data → Result A SetupFault) (all : List Data) (i : ℕ) (xs : List A) : Type 0 where
+  pub so_far : read_behind read xs (drop i all) ≡ read_behind read [] all
 
 -- before the first item
-pub read_none : {A : Type 0} (read : List Data → Data → Result A SetupFault) (all : List Data) → IsReadTo read all 0 []
-read_none read all = record { so_far = after-none (each_from read [] all) ∙ sym (from_place read [] all) }
+pub read_none : {A : Type 0} (read : List A → Data → Result A SetupFault) (all : List Data) → IsReadTo read all 0 []
+read_none read all = record { so_far = refl }
 
--- an item that has a fault
-stop_at : {A : Type 0} (read : List Data → Data → Result A SetupFault) (earlier : List Data) (d : Data) (rest : List Data) (xs : List A) (f : SetupFault) → read earlier d ≡ Err f → after xs (each_from read earlier (d ∷ rest)) ≡ Err f
-stop_at {A} read earlier d rest xs f e = ap (λ (r : Result A SetupFault). after xs (r >>= (λ a. each_from read (earlier ++ d ∷ []) rest >>= (λ ys. Ok (a ∷ ys))))) e
+-- an item, and those behind it
+abbrev pub and_then : {A : Type 0} → (List A → Data → Result A SetupFault) → List A → List Data → Result A SetupFault → Result (List A) SetupFault
+and_then read xs rest r = r >>= (λ a. read_behind read (xs ++ a ∷ []) rest)
 
--- an item that is read
-more_by : {A : Type 0} (xs : List A) (a : A) (r : Result (List A) SetupFault) → after xs (r >>= (λ ys. Ok (a ∷ ys))) ≡ after (xs ++ a ∷ []) r
-more_by xs a (Ok ys) = ap (λ (zs : List _). Ok zs) (sym (append_assoc xs (a ∷ []) ys))
-more_by xs a (Err f) = refl
-
-more_at : {A : Type 0} (read : List Data → Data → Result A SetupFault) (earlier : List Data) (d : Data) (rest : List Data) (xs : List A) (a : A) → read earlier d ≡ Ok a → after xs (each_from read earlier (d ∷ rest)) ≡ after (xs ++ a ∷ []) (each_from read (earlier ++ d ∷ []) rest)
-more_at {A} read earlier d rest xs a e =
-    ap (λ (r : Result A SetupFault). after xs (r >>= (λ b. each_from read (earlier ++ d ∷ []) rest >>= (λ ys. Ok (b ∷ ys))))) e
-    ∙ more_by xs a (each_from read (earlier ++ d ∷ []) rest)
+-- the items left begin with the one at their place
+left_at : {A : Type 0} (read : List A → Data → Result A SetupFault) (all : List Data) (i : ℕ) (xs : List A) (d : Data) → i < length all → get_or all i nothing ≡ d → read_behind read xs (drop i all) ≡ and_then read xs (drop (i + 1) all) (read xs d)
+left_at read all i xs d lt e = ap (read_behind read xs) (drop_more all i nothing lt ∙ ap (λ (x : Data). x ∷ drop (i + 1) all) e)
 
 -- the items with a fault at a place have that fault
-pub read_stop : {A : Type 0} (read : List Data → Data → Result A SetupFault) (all : List Data) (i : ℕ) (xs : List A) (d : Data) (f : SetupFault) → IsReadTo read all i xs → i < length all → get_or all i nothing ≡ d → read (take i all) d ≡ Err f → each read all ≡ Err f
-read_stop read all i xs d f is lt e fault =
-    let cut : drop i all ≡ d ∷ drop (i + 1) all = drop_more all i nothing lt ∙ ap (λ (x : Data). x ∷ drop (i + 1) all) e in
-    sym is.so_far ∙ ap (λ (ds : List Data). after xs (each_from read (take i all) ds)) cut ∙ stop_at read (take i all) d (drop (i + 1) all) xs f fault
+pub read_stop : {A : Type 0} (read : List A → Data → Result A SetupFault) (all : List Data) (i : ℕ) (xs : List A) (d : Data) (f : SetupFault) → IsReadTo read all i xs → i < length all → get_or all i nothing ≡ d → read xs d ≡ Err f → read_behind read [] all ≡ Err f
+read_stop read all i xs d f is lt e fault = sym is.so_far ∙ left_at read all i xs d lt e ∙ ap (and_then read xs (drop (i + 1) all)) fault
 
 -- one item more
-pub read_more : {A : Type 0} (read : List Data → Data → Result A SetupFault) (all : List Data) (i : ℕ) (xs : List A) (d : Data) (a : A) → IsReadTo read all i xs → i < length all → get_or all i nothing ≡ d → read (take i all) d ≡ Ok a → IsReadTo read all (i + 1) (xs ++ a ∷ [])
-read_more read all i xs d a is lt e value =
-    let cut : drop i all ≡ d ∷ drop (i + 1) all = drop_more all i nothing lt ∙ ap (λ (x : Data). x ∷ drop (i + 1) all) e in
-    let front : take (i + 1) all ≡ take i all ++ d ∷ [] = take_more all i nothing lt ∙ ap (λ (x : Data). take i all ++ x ∷ []) e in
-    record {
-      so_far =
-          ap (λ (t : List Data). after (xs ++ a ∷ []) (each_from read t (drop (i + 1) all))) front
-          ∙ sym (more_at read (take i all) d (drop (i + 1) all) xs a value)
-          ∙ sym (ap (λ (ds : List Data). after xs (each_from read (take i all) ds)) cut)
-          ∙ is.so_far;
-    }
+pub read_more : {A : Type 0} (read : List A → Data → Result A SetupFault) (all : List Data) (i : ℕ) (xs : List A) (d : Data) (a : A) → IsReadTo read all i xs → i < length all → get_or all i nothing ≡ d → read xs d ≡ Ok a → IsReadTo read all (i + 1) (xs ++ a ∷ [])
+read_more read all i xs d a is lt e value = record { so_far = sym (left_at read all i xs d lt e ∙ ap (and_then read xs (drop (i + 1) all)) value) ∙ is.so_far }
 
 -- all items
-pub read_all : {A : Type 0} (read : List Data → Data → Result A SetupFault) (all : List Data) (i : ℕ) (xs : List A) → IsReadTo read all i xs → drop i all ≡ [] → each read all ≡ Ok xs
-read_all read all i xs is none =
-    sym is.so_far ∙ ap (λ (ds : List Data). after xs (each_from read (take i all) ds)) none ∙ ap (λ (ys : List _). Ok ys) (append-nil xs)
+pub read_all : {A : Type 0} (read : List A → Data → Result A SetupFault) (all : List Data) (i : ℕ) (xs : List A) → IsReadTo read all i xs → drop i all ≡ [] → read_behind read [] all ≡ Ok xs
+read_all read all i xs is none = sym is.so_far ∙ ap (read_behind read xs) none
 
 -- or false
 or_nothing : (b : Bool) → (b || (false || false)) ≡ b
@@ -129,13 +73,6 @@ list_all_more p [] x passes here = rw here refl
 list_all_more p (y ∷ ys) x passes here =
     let parts = and_parts (p y) (list_all p ys) passes in
     and_from _ _ parts.0 (list_all_more p ys x parts.1 here)
-
--- one item more of what some items have
-pub filter_map_more : {B : Type 0} (p : Data → Option B) (all : List Data) (i : ℕ) (d : Data) (b : B) → i < length all → get_or all i nothing ≡ d → p d ≡ Some b → filter_map p (take (i + 1) all) ≡ filter_map p (take i all) ++ b ∷ []
-filter_map_more {B} p all i d b lt e some =
-    ap (filter_map p) (take_more all i nothing lt ∙ ap (λ (x : Data). take i all ++ x ∷ []) e)
-    ∙ filter_map-append p (take i all) (d ∷ [])
-    ∙ ap (λ (o : Option B). filter_map p (take i all) ++ cons_option o []) some
 
 -- a refusal that is handed on
 pub refused_on : {A B : Type 0} (view : A → B) (r : Result A SetupError) (f : SetupFault) (expected : Result B SetupFault) → IsErrAnd r (λ e. e ≡ Refused f) → expected ≡ Err f → Answers view r expected

@@ -16,7 +16,8 @@ use Rattle.account_file.specs.declared.fault.SetupKey.TheVariants.{Info}
 use Rattle.account_file.specs.declared.fault.SetupRule.TheVariants.{Kind}
 use Rattle.account_file.specs.Faults.{demand_at}
 use Rattle.account_file.specs.Keys.{number_in}
-use Rattle.account_file.specs.Setups.{all_some, top, info_items, read_info}
+use Rattle.account_file.specs.Numbers.{read_info}
+use Rattle.account_file.specs.Setups.{all_some, top, info_items}
 use Rattle.account_file.specs.Trees.{data_of}
 use Rattle.account_file.proofs.KeyLemmas.{data_of-view}
 

@@ -14,9 +14,9 @@ use Rattle.toml.specs.declared.value.Value.{Value}
 use Rattle.account_file.specs.declared.fault.SetupRule.TheVariants as rules
 use Rattle.account_file.specs.declared.fault.Spot.{Spot}
 use Rattle.account_file.specs.declared.fault.SetupFault.{SetupFault}
-use Rattle.account_file.specs.Accounts.{new_string, read_new_string, read_uid}
+use Rattle.account_file.specs.Accounts.{untaken}
 use Rattle.account_file.specs.Faults.{spot_fault, demand_at}
-use Rattle.account_file.specs.Keys.{read_string, read_number}
+use Rattle.account_file.specs.Keys.{read_string, read_spelled, passed, read_number}
 use Rattle.account_file.specs.Levels.{keys_at}
 use Rattle.account_file.specs.Trees.{data_of, read_items, are_known}
 use Rattle.account_file.specs.declared.known.Level.{Level}
@@ -25,6 +25,11 @@ use Rattle.account_file.specs.declared.known.Level.{Level}
 pub list_any-map : {X Y : Type 0} (p : X → Bool) (f : Y → X) (ys : List Y) → list_any p (map f ys) ≡ list_any (λ y. p (f y)) ys
 list_any-map p f [] = refl
 list_any-map p f (y ∷ ys) = rw (list_any-map p f ys) refl
+
+-- the images of images
+pub map_map : {X Y Z : Type 0} (f : Y → Z) (g : X → Y) (xs : List X) → map f (map g xs) ≡ map (λ x. f (g x)) xs
+map_map f g [] = refl
+map_map {X} {Y} {Z} f g (x ∷ xs) = ap (λ (zs : List Z). f (g x) ∷ zs) (map_map f g xs)
 
 -- a key of a map has a meaning
 abbrev pub is_known_at : Level → String Global → Bool
@@ -36,13 +41,12 @@ keys_known known [] = refl
 keys_known known (e ∷ es) = rw (keys_known known es) refl
 
 -- a string that passes a test, beside others that may have it
-pub new_string_read : {G : Type 0} (spot : Spot) (test : List ℕ → Bool) (f : G → List ℕ) (others : List G) (value : Option Data) (text bytes name : List ℕ) (taken : Bool) → read_string spot value ≡ Ok text → bytes ≡ text → name ≡ bytes → true ≡ test bytes → taken ≡ list_any (λ g. bytes_eq (f g) name) others → read_new_string spot test (map f others) value ≡ demand_at spot rules.Twice (then_some (not taken) name)
-new_string_read spot test f others value text bytes name taken read cut same legal among =
-    let here : text ≡ name = sym (same ∙ cut) in
+pub new_string_read : {E G : Type 0} (spot : Spot) (test : List ℕ → Bool) (f : E → List ℕ) (entry : G → E) (others : List G) (value : Option Data) (text bytes name : List ℕ) (taken : Bool) → read_string spot value ≡ Ok text → bytes ≡ text → name ≡ bytes → true ≡ test bytes → taken ≡ list_any (λ g. bytes_eq (f (entry g)) name) others → untaken spot (λ n. list_any (λ e. bytes_eq (f e) n) (map entry others)) (read_spelled spot (passed test) value) ≡ demand_at spot rules.Twice (then_some (not taken) name)
+new_string_read {E} spot test f entry others value text bytes name taken read cut same legal among =
     let passes : test name ≡ true = ap test same ∙ sym legal in
-    let any : list_any (λ other. bytes_eq other name) (map f others) ≡ taken = list_any-map (λ other. bytes_eq other name) f others ∙ sym among in
-    let first : read_new_string spot test (map f others) value ≡ new_string spot test (map f others) text = ap (λ (r : Result (List ℕ) SetupFault). r >>= new_string spot test (map f others)) read in
-    first ∙ ap (new_string spot test (map f others)) here ∙ rw (passes, any) refl
+    let any : list_any (λ (e : E). bytes_eq (f e) name) (map entry others) ≡ taken = list_any-map (λ (e : E). bytes_eq (f e) name) entry others ∙ sym among in
+    ap (λ (r : Result (List ℕ) SetupFault). untaken spot (λ n. list_any (λ (e : E). bytes_eq (f e) n) (map entry others)) (r >>= (λ b. demand_at spot rules.Text (passed test b)))) (read ∙ ap (λ (b : List ℕ). Ok b) (sym (same ∙ cut)))
+    ∙ rw (passes, any) refl
 
 -- the items of an array that is kept, as a list
 pub data_of-view : (vs : List Value) → data_of (items_view vs) ≡ map view vs
@@ -69,8 +73,8 @@ items_many spot most d vs e many =
     items_by spot most d vs e ∙ rw test refl
 
 -- a user number, beside others that may have it
-pub uid_read : {G : Type 0} (spot : Spot) (f : G → ℕ) (others : List G) (value : Option Data) (uid : ℕ) (taken : Bool) → read_number spot 1 4294967294 value ≡ Ok uid → taken ≡ list_any (λ g. f g == uid) others → read_uid spot (map f others) value ≡ demand_at spot rules.Twice (then_some (not taken) uid)
-uid_read spot f others value uid taken read among =
-    let any : list_any (λ other. other == uid) (map f others) ≡ taken = list_any-map (λ other. other == uid) f others ∙ sym among in
-    ap (λ (r : Result ℕ SetupFault). r >>= (λ n. demand_at spot rules.Twice (then_some (not (list_any (λ other. other == n) (map f others))) n))) read
+pub uid_read : {E G : Type 0} (spot : Spot) (f : E → ℕ) (entry : G → E) (others : List G) (value : Option Data) (uid : ℕ) (taken : Bool) → read_number spot 1 4294967294 value ≡ Ok uid → taken ≡ list_any (λ g. f (entry g) == uid) others → untaken spot (λ n. list_any (λ e. f e == n) (map entry others)) (read_number spot 1 4294967294 value) ≡ demand_at spot rules.Twice (then_some (not taken) uid)
+uid_read {E} spot f entry others value uid taken read among =
+    let any : list_any (λ (e : E). f e == uid) (map entry others) ≡ taken = list_any-map (λ (e : E). f e == uid) entry others ∙ sym among in
+    ap (untaken spot (λ n. list_any (λ (e : E). f e == n) (map entry others))) read
     ∙ ap (λ (t : Bool). demand_at spot rules.Twice (then_some (not t) uid)) any

@@ -4,6 +4,7 @@ pub mod Entries
 pub mod Faults
 pub mod Keys
 pub mod Levels
+pub mod Numbers
 pub mod Setups
 pub mod Spellings
 pub mod Trees

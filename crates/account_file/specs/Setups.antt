@@ -2,14 +2,14 @@
 use Rattle.std.specs.Prelude.{ℕ, ◌+◌, ◌*◌, List, [], ◌∷◌, Option, Some, None, Result, Ok, length, codes, ◌==◌, nat_le, if◌then◌else◌}
 use Rattle.std.specs.Bool.{then_some}
 use Rattle.std.specs.List.{list_all}
-use Rattle.std.specs.Option.{is_some, option_map, option_and_then}
+use Rattle.std.specs.Option.{is_some, option_map, option_and_then, option_map_or}
 use Rattle.std.specs.Str.Lossy.{utf8_valid_len}
 use Rattle.toml.specs.Data.{Data, Members, get_member, as_array, as_integer}
 use Rattle.toml.specs.Parse.{parse_document}
-use Rattle.request_catalogue.specs.declared.width.Width.{Width}
 use Rattle.request_catalogue.specs.declared.width.Width.TheVariants.{Narrow}
 use Rattle.request_catalogue.specs.Results.{◌>>=◌}
 use Rattle.policy_model.specs.declared.ranges.TheConstants.{EVENTS_LIMIT}
+use Rattle.request_catalogue.specs.Texts.{is_text}
 use Rattle.policy_model.specs.Settings.{are_distinct}
 use Rattle.account_file.specs.declared.fault.SetupKey.{SetupKey}
 use Rattle.account_file.specs.declared.fault.SetupKey.TheVariants as keys
@@ -17,11 +17,11 @@ use Rattle.account_file.specs.declared.fault.SetupRule.TheVariants as rules
 use Rattle.account_file.specs.declared.fault.SetupFault.{SetupFault}
 use Rattle.account_file.specs.declared.fault.Spot.{Spot}
 use Rattle.account_file.specs.declared.settings.Counts.{Counts}
-use Rattle.account_file.specs.Accounts.{read_accounts}
+use Rattle.account_file.specs.Accounts.{next_account}
 use Rattle.account_file.specs.Entries.{SetupEntries, TextEntries}
 use Rattle.account_file.specs.Faults.{demand_at}
-use Rattle.account_file.specs.Keys.{read_text, number_in, read_number, read_seed, read_width}
-use Rattle.account_file.specs.Trees.{data_of, are_known}
+use Rattle.account_file.specs.Keys.{read_spelled, passed, number_in, read_number, width_named, seed_spelled}
+use Rattle.account_file.specs.Trees.{data_of, are_known, read_each}
 
 -- a key outside the accounts
 abbrev pub top : SetupKey → Spot
@@ -35,29 +35,14 @@ setup_keys = codes "socket" ∷ codes "launcher" ∷ codes "vault" ∷ codes "wo
 abbrev pub document_of : List ℕ → Option Members
 document_of bytes = if utf8_valid_len bytes == length bytes then parse_document bytes else None
 
--- the banner, empty where it is not there
-abbrev pub read_banner : Option Data → Result (List ℕ) SetupFault
-read_banner None = Ok []
-read_banner (Some value) = read_text (top keys.Banner) 0 200 (Some value)
-
--- the salt of decoys, in lower case; `decoy` where it is not there
-abbrev pub read_salt : Option Data → Result (List ℕ) SetupFault
-read_salt None = Ok (codes "decoy")
-read_salt (Some value) = read_seed (top keys.Salt) (Some value)
-
--- the width of frames, narrow where it is not there
-abbrev pub read_frames : Option Data → Result Width SetupFault
-read_frames None = Ok Narrow
-read_frames (Some value) = read_width (top keys.Frames) (Some value)
-
--- the texts
+-- the texts; the banner is empty where it is not there
 abbrev pub read_texts : Members → Result TextEntries SetupFault
 read_texts entries = do
-  socket ← read_text (top keys.Socket) 1 100 (get_member (codes "socket") entries)
-  launcher ← read_text (top keys.Launcher) 1 255 (get_member (codes "launcher") entries)
-  vault ← read_text (top keys.Vault) 1 255 (get_member (codes "vault") entries)
-  words ← read_text (top keys.Words) 1 255 (get_member (codes "words") entries)
-  banner ← read_banner (get_member (codes "banner") entries)
+  socket ← read_spelled (top keys.Socket) (passed (is_text 1 100)) (get_member (codes "socket") entries)
+  launcher ← read_spelled (top keys.Launcher) (passed (is_text 1 255)) (get_member (codes "launcher") entries)
+  vault ← read_spelled (top keys.Vault) (passed (is_text 1 255)) (get_member (codes "vault") entries)
+  words ← read_spelled (top keys.Words) (passed (is_text 1 255)) (get_member (codes "words") entries)
+  banner ← option_map_or (λ value. read_spelled (top keys.Banner) (passed (is_text 0 200)) (Some value)) (get_member (codes "banner") entries) (Ok [])
   Ok (record { socket = socket; launcher = launcher; vault = vault; words = words; banner = banner })
 
 -- the numbers
@@ -83,32 +68,21 @@ info_items items = do
   info ← demand_at (top keys.Info) rules.Range (all_some (λ d. option_and_then (number_in 1 1000) (as_integer d)) few)
   demand_at (top keys.Info) rules.Twice (then_some (are_distinct ◌==◌ info) info)
 
--- the numbers of information, none where the key is not there
-abbrev pub read_info : Option Data → Result (List ℕ) SetupFault
-read_info None = Ok []
-read_info (Some value) = do
-  items ← demand_at (top keys.Info) rules.Kind (as_array value)
-  info_items (data_of items)
-
--- numbers by which a run makes no more events than it may
-abbrev pub product_of : Counts → Result Counts SetupFault
-product_of counts = demand_at (top keys.Requests) rules.Product (then_some (nat_le (counts.workers * (counts.connections * (counts.requests + 3))) EVENTS_LIMIT) counts)
-
--- the setup of a document's entries
+-- the setup of a document's entries; where they are not there, the salt is `decoy`, frames are narrow, and there are no numbers of information and no accounts
 abbrev pub read_settings : Members → Result SetupEntries SetupFault
 read_settings entries = do
   texts ← read_texts entries
-  salt ← read_salt (get_member (codes "salt") entries)
-  frames ← read_frames (get_member (codes "frames") entries)
+  salt ← option_map_or (λ value. read_spelled (top keys.Salt) seed_spelled (Some value)) (get_member (codes "salt") entries) (Ok (codes "decoy"))
+  frames ← option_map_or (λ value. read_spelled (top keys.Frames) width_named (Some value)) (get_member (codes "frames") entries) (Ok Narrow)
   counts ← read_counts entries
-  info ← read_info (get_member (codes "info") entries)
-  bounded ← product_of counts
-  accounts ← read_accounts (get_member (codes "account") entries)
+  info ← option_map_or (λ value. demand_at (top keys.Info) rules.Kind (as_array value) >>= (λ items. info_items (data_of items))) (get_member (codes "info") entries) (Ok [])
+  bounded ← demand_at (top keys.Requests) rules.Product (then_some (nat_le (counts.workers * (counts.connections * (counts.requests + 3))) EVENTS_LIMIT) counts)
+  accounts ← read_each (top keys.Account) 1024 next_account (get_member (codes "account") entries)
   Ok (record { texts = texts; salt = salt; frames = frames; counts = bounded; info = info; accounts = accounts })
 
 -- the setup that the bytes of a file spell, or its first fault
 unfoldable pub setup_of : List ℕ → Result SetupEntries SetupFault
 setup_of bytes = do
   entries ← demand_at (top keys.File) rules.NotToml (document_of bytes)
-  known ← demand_at (top keys.Other) rules.Unknown (then_some (are_known setup_keys entries) entries)
+  known ← demand_at (top keys.Other) rules.Unknown (passed (are_known setup_keys) entries)
   read_settings known

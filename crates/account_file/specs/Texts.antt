@@ -1,8 +1,8 @@
 -- Inner: what a setup file says of its texts.
 use Rattle.std.specs.Prelude.{Bool, ◌&&◌}
+use Rattle.request_catalogue.specs.Texts.{is_text}
 use Rattle.account_file.specs.declared.settings.Texts.{Texts}
 use Rattle.account_file.specs.Entries.{TextEntries}
-use Rattle.policy_model.specs.Settings.{is_text}
 
 -- what a file says of these texts
 abbrev pub text_entries : Texts → TextEntries

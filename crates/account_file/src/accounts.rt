@@ -1,19 +1,20 @@
 //! The accounts of a setup file.
 
-ghost use Rattle.std.specs.Prelude.{◌≡◌, ℕ, ◌+◌, ◌≤◌, ◌<◌, List, Some, true, false, IfOk, map, codes, length, ◌==◌};
+ghost use Rattle.std.specs.Prelude.{◌≡◌, ℕ, ◌+◌, ◌≤◌, ◌<◌, List, [], true, false, IfOk, map, codes, length, ◌==◌};
 ghost use Rattle.std.specs.List.{list_all, list_any};
-ghost use Rattle.std.specs.Option.{option_and_then};
 ghost use Rattle.std.specs.Str.{bytes_eq};
 ghost use Rattle.request_catalogue.specs.Texts.{is_name};
 ghost use Rattle.request_catalogue.specs.TextBytes.{name_bytes};
 ghost use Rattle.policy_model.specs.Settings.{is_account, are_accounts, are_distinct, same_name};
-ghost use Rattle.toml.specs.Data.{get, get_member, as_str, as_integer};
+ghost use Rattle.toml.specs.Data.{get_member};
 ghost use Rattle.toml.specs.View.{view, table_view};
-ghost use Rattle.account_file.specs.Accounts.{read_new_string, read_uid, uid_at, read_account_keys, read_account, account_behind, read_accounts};
+ghost use Rattle.account_file.specs.declared.fault.SetupKey.TheVariants as setup_keys;
+ghost use Rattle.account_file.specs.Accounts.{untaken, read_account_keys, read_account, next_account};
 ghost use Rattle.account_file.specs.Entries.{account_entry};
 ghost use Rattle.account_file.specs.Faults.{Reads, Answers};
-ghost use Rattle.account_file.specs.Keys.{number_in};
-ghost use Rattle.account_file.specs.Trees.{each};
+ghost use Rattle.account_file.specs.Keys.{read_spelled, passed, read_number};
+ghost use Rattle.account_file.specs.Setups.{top};
+ghost use Rattle.account_file.specs.Trees.{read_behind, read_each};
 
 use crate::fault::{SetupError, SetupFault, SetupKey, SetupRule, Spot};
 use crate::grants::read_grants;
@@ -31,7 +32,7 @@ const ACCOUNTS_MAX: usize = 1_024;
 
 /// The accounts of a setup, none where the key isn't there.
 pub fn read_accounts(alloc: Global, table: &Table) -> Result<Accounts, SetupError>
-    ensures read { Answers (map account_entry) result (read_accounts (get_member (codes "account") (table_view table.now))) }
+    ensures read { Answers (map account_entry) result (read_each (top setup_keys.Account) 1024 next_account (get_member (codes "account") (table_view table.now))) }
     ensures in_range { IfOk result (λ a. are_accounts a ≡ true) }
 {
     let Some(value) = entry(table, "account") else {
@@ -44,7 +45,7 @@ pub fn read_accounts(alloc: Global, table: &Table) -> Result<Accounts, SetupErro
 /// The accounts that the items of an array spell.
 fn each_account(alloc: Global, items: &[Value]) -> Result<Vec<Account>, SetupError>
     requires { length items.now ≤ 1024 }
-    ensures read { Answers (λ v. map account_entry v.items) result (each account_behind (map view items.now)) }
+    ensures read { Answers (λ v. map account_entry v.items) result (read_behind next_account [] (map view items.now)) }
     ensures len { IfOk result (λ v. length v.items ≡ length items.now) }
     ensures legal { IfOk result (λ v. list_all is_account v.items ≡ true) }
     ensures names { IfOk result (λ v. are_distinct (λ a b. same_name a.name b.name) v.items ≡ true) }
@@ -67,8 +68,6 @@ fn read_account(
     earlier: &[Account],
 ) -> Result<Account, SetupError>
     ensures read { Answers account_entry result (read_account place (map (λ a. name_bytes a.name) earlier.now) (map (λ a. a.uid) earlier.now) (view item.now)) }
-    ensures named { IfOk result (λ a. option_and_then as_str (get (codes "name") (view item.now)) ≡ Some (name_bytes a.name)) }
-    ensures numbered { IfOk result (λ a. uid_at (view item.now) ≡ Some a.uid) }
     ensures new_name { IfOk result (λ a. list_any (λ e. same_name e.name a.name) earlier.now ≡ false) }
     ensures new_uid { IfOk result (λ a. list_any (λ e. e.uid == a.uid) earlier.now ≡ false) }
     ensures legal { IfOk result (λ a. is_account a ≡ true) }
@@ -94,8 +93,6 @@ fn keys_of(
     earlier: &[Account],
 ) -> Result<Account, SetupError>
     ensures read { Answers account_entry result (read_account_keys place (map (λ a. name_bytes a.name) earlier.now) (map (λ a. a.uid) earlier.now) (table_view table.now)) }
-    ensures named { IfOk result (λ a. option_and_then as_str (get_member (codes "name") (table_view table.now)) ≡ Some (name_bytes a.name)) }
-    ensures numbered { IfOk result (λ a. option_and_then (number_in 1 4294967294) (option_and_then as_integer (get_member (codes "uid") (table_view table.now))) ≡ Some a.uid) }
     ensures new_name { IfOk result (λ a. list_any (λ e. same_name e.name a.name) earlier.now ≡ false) }
     ensures new_uid { IfOk result (λ a. list_any (λ e. e.uid == a.uid) earlier.now ≡ false) }
     ensures legal { IfOk result (λ a. is_account a ≡ true) }
@@ -128,8 +125,7 @@ fn keys_of(
 
 /// The name of an account, which none of the others has.
 fn name_of(table: &Table, spot: Spot, others: &[Account]) -> Result<Name, SetupFault>
-    ensures read { Reads name_bytes result (read_new_string spot is_name (map (λ a. name_bytes a.name) others.now) (get_member (codes "name") (table_view table.now))) }
-    ensures named { IfOk result (λ n. option_and_then as_str (get_member (codes "name") (table_view table.now)) ≡ Some (name_bytes n)) }
+    ensures read { Reads name_bytes result (untaken spot (λ name. list_any (λ other. bytes_eq other name) (map (λ a. name_bytes a.name) others.now)) (read_spelled spot (passed is_name) (get_member (codes "name") (table_view table.now)))) }
     ensures new { IfOk result (λ n. list_any (λ e. same_name e.name n) others.now ≡ false) }
 {
     let text = read_string(table, "name", spot)?;
@@ -144,8 +140,7 @@ fn name_of(table: &Table, spot: Spot, others: &[Account]) -> Result<Name, SetupF
 
 /// The user number of an account, which none of the others has.
 fn read_uid(table: &Table, spot: Spot, others: &[Account]) -> Result<u32, SetupFault>
-    ensures read { Reads (λ n. n) result (read_uid spot (map (λ a. a.uid) others.now) (get_member (codes "uid") (table_view table.now))) }
-    ensures numbered { IfOk result (λ n. option_and_then (number_in 1 4294967294) (option_and_then as_integer (get_member (codes "uid") (table_view table.now))) ≡ Some n) }
+    ensures read { Reads (λ n. n) result (untaken spot (λ uid. list_any (λ other. other == uid) (map (λ a. a.uid) others.now)) (read_number spot 1 4294967294 (get_member (codes "uid") (table_view table.now)))) }
     ensures new { IfOk result (λ n. list_any (λ e. e.uid == n) others.now ≡ false) }
     ensures within { IfOk result (λ n. (1 ≤ n) × (n ≤ 4294967294)) }
 {

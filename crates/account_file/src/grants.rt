@@ -1,18 +1,19 @@
 //! The grants of an account.
 
-ghost use Rattle.std.specs.Prelude.{◌≡◌, ℕ, ◌≤◌, List, Some, true, false, IfOk, map, codes, length};
+ghost use Rattle.std.specs.Prelude.{◌≡◌, ℕ, ◌≤◌, List, [], true, false, IfOk, map, codes, length};
 ghost use Rattle.std.specs.List.{list_all, list_any};
-ghost use Rattle.std.specs.Option.{option_and_then};
 ghost use Rattle.std.specs.Str.{bytes_eq};
 ghost use Rattle.request_catalogue.specs.Texts.{is_label};
 ghost use Rattle.request_catalogue.specs.TextBytes.{label_bytes};
 ghost use Rattle.policy_model.specs.Settings.{is_number, are_grants, are_distinct, same_label};
-ghost use Rattle.toml.specs.Data.{get, get_member, as_str};
+ghost use Rattle.toml.specs.Data.{get_member};
 ghost use Rattle.toml.specs.View.{view, table_view};
-ghost use Rattle.account_file.specs.Accounts.{read_new_string, read_grant, grant_behind, read_grants};
-ghost use Rattle.account_file.specs.Trees.{each};
+ghost use Rattle.account_file.specs.declared.fault.SetupKey.TheVariants as setup_keys;
+ghost use Rattle.account_file.specs.Accounts.{spot_in, untaken, read_grant};
 ghost use Rattle.account_file.specs.Entries.{grant_entry};
 ghost use Rattle.account_file.specs.Faults.{Reads, Answers};
+ghost use Rattle.account_file.specs.Keys.{read_spelled, passed};
+ghost use Rattle.account_file.specs.Trees.{read_behind, read_each};
 
 use crate::fault::{SetupError, SetupFault, SetupKey, SetupRule, Spot};
 use crate::keys::{entry, read_items, read_number, read_string};
@@ -27,7 +28,7 @@ const GRANTS_MAX: usize = 64;
 
 /// The grants of the account at a place from 1, none where the key isn't there.
 pub fn read_grants(alloc: Global, table: &Table, account: u32) -> Result<Grants, SetupError>
-    ensures read { Answers (map grant_entry) result (read_grants account (get_member (codes "grants") (table_view table.now))) }
+    ensures read { Answers (map grant_entry) result (read_each (spot_in account setup_keys.Grants) 64 (read_grant account) (get_member (codes "grants") (table_view table.now))) }
     ensures in_range { IfOk result (λ g. are_grants g ≡ true) }
 {
     let Some(value) = entry(table, "grants") else {
@@ -39,7 +40,7 @@ pub fn read_grants(alloc: Global, table: &Table, account: u32) -> Result<Grants,
 
 /// The grants that the items of an array spell.
 fn each_grant(alloc: Global, items: &[Value], account: u32) -> Result<Vec<Grant>, SetupError>
-    ensures read { Answers (λ v. map grant_entry v.items) result (each (grant_behind account) (map view items.now)) }
+    ensures read { Answers (λ v. map grant_entry v.items) result (read_behind (read_grant account) [] (map view items.now)) }
     ensures len { IfOk result (λ v. length v.items ≡ length items.now) }
     ensures modes { IfOk result (λ v. list_all (λ g. is_number 1 3 g.mode) v.items ≡ true) }
     ensures different { IfOk result (λ v. are_distinct (λ a b. same_label a.name b.name) v.items ≡ true) }
@@ -54,8 +55,7 @@ fn each_grant(alloc: Global, items: &[Value], account: u32) -> Result<Vec<Grant>
 
 /// A grant behind others of the account at a place from 1.
 fn read_grant(item: &Value, account: u32, earlier: &[Grant]) -> Result<Grant, SetupFault>
-    ensures read { Reads grant_entry result (read_grant account (map (λ g. label_bytes g.name) earlier.now) (view item.now)) }
-    ensures named { IfOk result (λ g. option_and_then as_str (get (codes "name") (view item.now)) ≡ Some (label_bytes g.name)) }
+    ensures read { Reads grant_entry result (read_grant account (map grant_entry earlier.now) (view item.now)) }
     ensures new { IfOk result (λ g. list_any (λ e. bytes_eq (label_bytes e.name) (label_bytes g.name)) earlier.now ≡ false) }
     ensures in_range { IfOk result (λ g. is_number 1 3 g.mode ≡ true) }
 {
@@ -75,8 +75,7 @@ fn read_grant(item: &Value, account: u32, earlier: &[Grant]) -> Result<Grant, Se
 
 /// The name of a grant, which none of the others has.
 fn label_of(table: &Table, spot: Spot, others: &[Grant]) -> Result<Label, SetupFault>
-    ensures read { Reads label_bytes result (read_new_string spot is_label (map (λ g. label_bytes g.name) others.now) (get_member (codes "name") (table_view table.now))) }
-    ensures named { IfOk result (λ l. option_and_then as_str (get_member (codes "name") (table_view table.now)) ≡ Some (label_bytes l)) }
+    ensures read { Reads label_bytes result (untaken spot (λ name. list_any (λ other. bytes_eq other.name name) (map grant_entry others.now)) (read_spelled spot (passed is_label) (get_member (codes "name") (table_view table.now)))) }
     ensures new { IfOk result (λ l. list_any (λ e. bytes_eq (label_bytes e.name) (label_bytes l)) others.now ≡ false) }
 {
     let text = read_string(table, "name", spot)?;

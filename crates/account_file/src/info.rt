@@ -10,7 +10,8 @@ ghost use Rattle.account_file.specs.Faults.{spot_fault, Answers};
 ghost use Rattle.account_file.specs.declared.fault.SetupKey.TheVariants.{Info};
 ghost use Rattle.account_file.specs.declared.fault.SetupError.TheVariants.{Refused};
 ghost use Rattle.account_file.specs.Keys.{number_in};
-ghost use Rattle.account_file.specs.Setups.{top, all_some, info_items, read_info};
+ghost use Rattle.account_file.specs.Numbers.{read_info};
+ghost use Rattle.account_file.specs.Setups.{top, all_some, info_items};
 
 use crate::fault::{SetupError, SetupKey, SetupRule, Spot};
 use crate::keys::{entry, number_in};

@@ -1,5 +1,6 @@
 -- Names, labels and seeds are texts in UTF-8.
 use Rattle.std.proofs.Common.{◌≡◌, ℕ, ◌<◌, Bool, true, ◌&&◌, List, [], ◌∷◌, length, nat_le, arith}
+use Rattle.std.specs.Char.{is_ascii_lowercase}
 use Rattle.std.specs.List.{list_all}
 use Rattle.std.specs.Str.{IsAscii, IsUtf8}
 use Rattle.std.proofs.lemmas.Bool.{and_parts}
@@ -7,7 +8,7 @@ use Rattle.std.proofs.lemmas.Bool.Decides.{nat_tests}
 use Rattle.std.proofs.lemmas.Str.{IsUtf8-from_ascii}
 use Rattle.std.proofs.lemmas.Str.Ascii.{IsAscii-cons, IsAscii-nil}
 use Rattle.otp_hash.specs.Seeds.{is_seed, is_seed_byte}
-use Rattle.request_catalogue.specs.Texts.{begins_name, continues_label, continues_name, is_label, is_lowercase, is_name}
+use Rattle.request_catalogue.specs.Texts.{begins_name, continues_label, continues_name, is_label, is_name}
 
 -- bytes that pass a test which only ASCII passes
 all_ascii : (p : ℕ → Bool) → ((c : ℕ) → p c ≡ true → c < 128) → (bytes : List ℕ) → list_all p bytes ≡ true → IsAscii bytes
@@ -22,7 +23,7 @@ name_first c legal = grind (arith, nat_tests, legal)
 name_next : (c : ℕ) → continues_name c ≡ true → c < 128
 name_next c legal = grind (arith, nat_tests, legal)
 
-label_first : (c : ℕ) → is_lowercase c ≡ true → c < 128
+label_first : (c : ℕ) → is_ascii_lowercase c ≡ true → c < 128
 label_first c legal = grind (arith, nat_tests, legal)
 
 label_next : (c : ℕ) → continues_label c ≡ true → c < 128
@@ -42,8 +43,8 @@ label_ascii : (bytes : List ℕ) → is_label bytes ≡ true → IsAscii bytes
 unfolding is_label
 label_ascii [] legal = IsAscii-nil
 label_ascii (c ∷ cs) legal =
-    let parts = and_parts (nat_le (length (c ∷ cs)) 64 && is_lowercase c) (list_all continues_label cs) legal in
-    IsAscii-cons c cs (label_first c (and_parts (nat_le (length (c ∷ cs)) 64) (is_lowercase c) parts.0).1) (all_ascii continues_label label_next cs parts.1)
+    let parts = and_parts (nat_le (length (c ∷ cs)) 64 && is_ascii_lowercase c) (list_all continues_label cs) legal in
+    IsAscii-cons c cs (label_first c (and_parts (nat_le (length (c ∷ cs)) 64) (is_ascii_lowercase c) parts.0).1) (all_ascii continues_label label_next cs parts.1)
 
 seed_ascii : (bytes : List ℕ) → is_seed bytes ≡ true → IsAscii bytes
 unfolding is_seed

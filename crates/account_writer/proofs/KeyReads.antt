@@ -1,19 +1,18 @@
 -- What is written at a key is read there.
-use Rattle.std.proofs.Common.{◌≡◌, ℕ, ◌<◌, ◌^◌, Bool, true, false, not, ◌&&◌, List, [], ◌∷◌, map, length, nat_le, refl, ap, ◌∙◌, arith, Some, Result, Ok, ◌==◌}
+use Rattle.std.proofs.Common.{◌≡◌, ℕ, ◌<◌, ◌^◌, Bool, true, false, not, ◌&&◌, List, [], ◌∷◌, map, length, nat_le, refl, ap, ◌∙◌, arith, Some, Result, Ok}
 use Rattle.std.specs.Bool.{then_some}
 use Rattle.std.specs.Char.{is_ascii_alphanumeric, to_ascii_lowercase}
 use Rattle.std.specs.Int.{w64, from_be_bytes, to_be_bytes}
-use Rattle.std.specs.List.{list_all, list_any}
+use Rattle.std.specs.List.{list_all}
 use Rattle.std.specs.Option.{option_map}
 use Rattle.std.specs.Result.{result_ok}
-use Rattle.std.specs.Str.{bytes_eq}
 use Rattle.std.proofs.lemmas.Bool.{and_parts, and_from}
 use Rattle.std.proofs.lemmas.Bool.Decides.{nat_tests}
 use Rattle.std.proofs.lemmas.Nat.{from_be_bytes-to_be_bytes_8}
 use Rattle.hex.specs.Hex.{IsBytes}
 use Rattle.hex.specs.declared.error.FromHexError.{FromHexError}
 use Rattle.hex.proofs.HexLemmas.{decode_sized-encode_lower}
-use Rattle.toml.specs.Data.{Data, string, boolean, array}
+use Rattle.toml.specs.Data.{Data, string, array}
 use Rattle.toml.specs.View.{items_of}
 use Rattle.otp_hash.specs.declared.chain.Algo.{Algo}
 use Rattle.otp_hash.specs.declared.chain.Algo.TheVariants as algos
@@ -22,35 +21,31 @@ use Rattle.otp_hash.specs.Seeds.{is_seed, is_seed_byte, is_seed_text}
 use Rattle.otp_hash.specs.SeedBytes.{seed_bytes}
 use Rattle.request_catalogue.specs.declared.width.Width.{Width}
 use Rattle.request_catalogue.specs.declared.width.Width.TheVariants.{Narrow, Wide}
-use Rattle.request_catalogue.specs.Results.{◌>>=◌}
-use Rattle.policy_model.specs.Settings.{is_text, is_number}
-use Rattle.account_file.specs.declared.fault.SetupFault.{SetupFault}
+use Rattle.request_catalogue.specs.Texts.{is_text}
+use Rattle.policy_model.specs.Settings.{is_number, password_text}
 use Rattle.account_file.specs.declared.fault.SetupRule.TheVariants as rules
 use Rattle.account_file.specs.declared.fault.Spot.{Spot}
-use Rattle.account_file.specs.Accounts.{read_new_string, read_uid}
+use Rattle.account_file.specs.Accounts.{untaken}
 use Rattle.account_file.specs.Faults.{demand_at}
-use Rattle.account_file.specs.Keys.{read_text, read_number, read_algo, read_width, read_seed, read_password, read_truth}
+use Rattle.account_file.specs.Keys.{read_spelled, passed, read_number, width_named, seed_spelled, password_spelled}
 use Rattle.account_file.specs.Trees.{data_of}
 use Rattle.account_file.specs.Trees as trees
-use Rattle.otp_hash.specs.Names.{algo_name}
-use Rattle.account_writer.specs.Tables.{width_word, password_text, number}
+use Rattle.otp_hash.specs.Names.{algo_name, algo_named}
+use Rattle.account_writer.specs.Tables.{width_word, number}
 
-pub text_read : (spot : Spot) (low high : ℕ) (bytes : List ℕ) → is_text low high bytes ≡ true → read_text spot low high (Some (string bytes)) ≡ Ok bytes
+pub text_read : (spot : Spot) (low high : ℕ) (bytes : List ℕ) → is_text low high bytes ≡ true → read_spelled spot (passed (is_text low high)) (Some (string bytes)) ≡ Ok bytes
 text_read spot low high bytes legal = ap (λ (b : Bool). demand_at spot rules.Text (then_some b bytes)) legal
 
 pub number_read : (spot : Spot) (low high n : ℕ) → is_number low high n ≡ true → read_number spot low high (Some (number n)) ≡ Ok n
 number_read spot low high n legal = ap (λ (b : Bool). demand_at spot rules.Range (then_some b n)) legal
 
-pub algo_read : (spot : Spot) (a : Algo) → read_algo spot (Some (string (algo_name a))) ≡ Ok a
+pub algo_read : (spot : Spot) (a : Algo) → read_spelled spot algo_named (Some (string (algo_name a))) ≡ Ok a
 algo_read spot algos.Md5 = refl
 algo_read spot algos.Sha1 = refl
 
-pub width_read : (spot : Spot) (w : Width) → read_width spot (Some (string (width_word w))) ≡ Ok w
+pub width_read : (spot : Spot) (w : Width) → read_spelled spot width_named (Some (string (width_word w))) ≡ Ok w
 width_read spot Narrow = refl
 width_read spot Wide = refl
-
-pub truth_read : (spot : Spot) (b : Bool) → read_truth spot (Some (boolean b)) ≡ Ok b
-truth_read spot b = refl
 
 -- a byte of a seed is a letter or a digit, and in lower case
 seed_byte : (c : ℕ) → is_seed_byte c ≡ true → (is_ascii_alphanumeric c ≡ true) × (to_ascii_lowercase c ≡ c)
@@ -72,7 +67,7 @@ seed_text bytes legal =
     let all = seed_bytes_pass bytes parts.1 in
     (and_from _ _ parts.0 all.0, all.1)
 
-pub seed_read : (spot : Spot) (s : Seed) → read_seed spot (Some (string (seed_bytes s))) ≡ Ok (seed_bytes s)
+pub seed_read : (spot : Spot) (s : Seed) → read_spelled spot seed_spelled (Some (string (seed_bytes s))) ≡ Ok (seed_bytes s)
 seed_read spot s =
     let is = seed_text (seed_bytes s) s.legal in
     ap (λ (b : Bool). demand_at spot rules.Text (then_some b (map to_ascii_lowercase (seed_bytes s)))) is.0
@@ -82,20 +77,20 @@ seed_read spot s =
 are_bytes : (n : ℕ) → IsBytes (to_be_bytes w64 n)
 are_bytes n i = search (arith)
 
-pub password_read : (spot : Spot) (password : ℕ) → password < 2 ^ 64 → read_password spot (Some (string (password_text password))) ≡ Ok password
+pub password_read : (spot : Spot) (password : ℕ) → password < 2 ^ 64 → read_spelled spot password_spelled (Some (string (password_text password))) ≡ Ok password
 password_read spot password fits =
     ap (λ (r : Result (List ℕ) FromHexError). demand_at spot rules.Text (option_map (from_be_bytes w64) (result_ok r))) (decode_sized-encode_lower (to_be_bytes w64 password) 8 refl (are_bytes password))
     ∙ ap (λ (n : ℕ). demand_at spot rules.Text (Some n)) (from_be_bytes-to_be_bytes_8 password fits)
 
--- a string that passes a test, and that no other is the same as
-pub new_string_read : (spot : Spot) (test : List ℕ → Bool) (others : List (List ℕ)) (bytes : List ℕ) → test bytes ≡ true → list_any (λ other. bytes_eq other bytes) others ≡ false → read_new_string spot test others (Some (string bytes)) ≡ Ok bytes
-new_string_read spot test others bytes legal new =
-    ap (λ (b : Bool). demand_at spot rules.Text (then_some b bytes) >>= (λ legal. demand_at spot rules.Twice (then_some (not (list_any (λ other. bytes_eq other legal) others)) legal))) legal
+-- a string that passes a test, and that isn't taken
+pub new_string_read : (spot : Spot) (test is_taken : List ℕ → Bool) (bytes : List ℕ) → test bytes ≡ true → is_taken bytes ≡ false → untaken spot is_taken (read_spelled spot (passed test) (Some (string bytes))) ≡ Ok bytes
+new_string_read spot test is_taken bytes legal new =
+    ap (λ (b : Bool). untaken spot is_taken (demand_at spot rules.Text (then_some b bytes))) legal
     ∙ ap (λ (b : Bool). demand_at spot rules.Twice (then_some (not b) bytes)) new
 
-pub uid_read : (spot : Spot) (others : List ℕ) (uid : ℕ) → is_number 1 4294967294 uid ≡ true → list_any (λ other. other == uid) others ≡ false → read_uid spot others (Some (number uid)) ≡ Ok uid
-uid_read spot others uid legal new =
-    ap (λ (r : Result ℕ SetupFault). r >>= (λ n. demand_at spot rules.Twice (then_some (not (list_any (λ other. other == n) others)) n))) (number_read spot 1 4294967294 uid legal)
+pub uid_read : (spot : Spot) (is_taken : ℕ → Bool) (uid : ℕ) → is_number 1 4294967294 uid ≡ true → is_taken uid ≡ false → untaken spot is_taken (read_number spot 1 4294967294 (Some (number uid))) ≡ Ok uid
+uid_read spot is_taken uid legal new =
+    ap (untaken spot is_taken) (number_read spot 1 4294967294 uid legal)
     ∙ ap (λ (b : Bool). demand_at spot rules.Twice (then_some (not b) uid)) new
 
 -- the items of an array that is written

@@ -2,7 +2,7 @@
 use Rattle.std.proofs.Common.{◌≡◌, ℕ, ◌+◌, ◌*◌, ◌≤◌, Bool, true, cond, List, [], ◌∷◌, map, length, nat_le, le-leb, eq-eqb, refl, ap, ◌∙◌, arith, Option, Some, None, Result, Ok, codes, ◌==◌}
 use Rattle.std.specs.Bool.{then_some}
 use Rattle.std.specs.List.{list_all}
-use Rattle.std.specs.Option.{is_some, option_and_then, option_map}
+use Rattle.std.specs.Option.{is_some, option_and_then, option_map, option_map_or}
 use Rattle.std.specs.Str.{IsUtf8}
 use Rattle.std.specs.Str.Lossy.{utf8_valid_len}
 use Rattle.std.proofs.lemmas.Bool.{and_parts}
@@ -14,20 +14,24 @@ use Rattle.toml.specs.Parse.{parse_document}
 use Rattle.toml.specs.View.{items_of}
 use Rattle.otp_hash.specs.SeedBytes.{seed_bytes}
 use Rattle.request_catalogue.specs.declared.width.Width.{Width}
+use Rattle.request_catalogue.specs.declared.width.Width.TheVariants.{Narrow}
 use Rattle.request_catalogue.specs.Results.{◌>>=◌}
 use Rattle.policy_model.specs.declared.account.Account.{Account}
 use Rattle.policy_model.specs.declared.account.Grant.{Grant}
+use Rattle.policy_model.specs.declared.ranges.TheConstants.{EVENTS_LIMIT}
 use Rattle.policy_model.specs.Settings.{IsInRange, Settings, are_distinct, are_numbers, is_number}
+use Rattle.request_catalogue.specs.Texts.{is_text}
 use Rattle.account_file.specs.declared.fault.SetupFault.{SetupFault}
 use Rattle.account_file.specs.declared.fault.SetupKey.TheVariants as keys
 use Rattle.account_file.specs.declared.fault.SetupRule.TheVariants as rules
 use Rattle.account_file.specs.declared.settings.Counts.{Counts}
-use Rattle.account_file.specs.Accounts.{read_accounts}
+use Rattle.account_file.specs.Accounts.{next_account}
 use Rattle.account_file.specs.Entries.{AccountEntry, SetupEntries, TextEntries, account_entry, entries_of}
 use Rattle.account_file.specs.Faults.{demand_at}
-use Rattle.account_file.specs.Keys.{number_in, read_number, read_text}
-use Rattle.account_file.specs.Setups.{all_some, read_banner, read_counts, read_frames, info_items, read_info, product_of, read_salt, read_settings, setup_keys, setup_of, read_texts, top}
-use Rattle.account_file.specs.Trees.{are_known}
+use Rattle.account_file.specs.Keys.{number_in, passed, read_number, read_spelled, seed_spelled, width_named}
+use Rattle.account_file.specs.Numbers.{read_info}
+use Rattle.account_file.specs.Setups.{all_some, read_counts, info_items, read_settings, setup_keys, setup_of, read_texts, top}
+use Rattle.account_file.specs.Trees.{are_known, read_each}
 use Rattle.account_writer.specs.Tables.{account_data, grant_data, is_writable, number, setup_members}
 use Rattle.account_writer.proofs.AccountReads.{accounts_read}
 use Rattle.account_writer.proofs.KeyReads.{data_of-items, number_read, seed_read, text_read, width_read}
@@ -35,11 +39,11 @@ use Rattle.account_writer.proofs.KeyReads.{data_of-items, number_read, seed_read
 -- 1. The parts of a setup, one after the other
 
 texts_by : (ms : Members) (socket launcher vault words banner : List ℕ)
-    → read_text (top keys.Socket) 1 100 (get_member (codes "socket") ms) ≡ Ok socket
-    → read_text (top keys.Launcher) 1 255 (get_member (codes "launcher") ms) ≡ Ok launcher
-    → read_text (top keys.Vault) 1 255 (get_member (codes "vault") ms) ≡ Ok vault
-    → read_text (top keys.Words) 1 255 (get_member (codes "words") ms) ≡ Ok words
-    → read_banner (get_member (codes "banner") ms) ≡ Ok banner
+    → read_spelled (top keys.Socket) (passed (is_text 1 100)) (get_member (codes "socket") ms) ≡ Ok socket
+    → read_spelled (top keys.Launcher) (passed (is_text 1 255)) (get_member (codes "launcher") ms) ≡ Ok launcher
+    → read_spelled (top keys.Vault) (passed (is_text 1 255)) (get_member (codes "vault") ms) ≡ Ok vault
+    → read_spelled (top keys.Words) (passed (is_text 1 255)) (get_member (codes "words") ms) ≡ Ok words
+    → option_map_or (λ value. read_spelled (top keys.Banner) (passed (is_text 0 200)) (Some value)) (get_member (codes "banner") ms) (Ok []) ≡ Ok banner
     → read_texts ms ≡ Ok (record { socket = socket; launcher = launcher; vault = vault; words = words; banner = banner })
 texts_by ms socket launcher vault words banner a b c d e = rw (a, b, c, d, e) refl
 
@@ -52,14 +56,18 @@ counts_by : (ms : Members) (workers connections requests tries hold : ℕ)
     → read_counts ms ≡ Ok (record { workers = workers; connections = connections; requests = requests; tries = tries; hold = hold })
 counts_by ms workers connections requests tries hold a b c d e = rw (a, b, c, d, e) refl
 
+-- numbers by which a run makes no more events than it may
+abbrev product_of : Counts → Result Counts SetupFault
+product_of counts = demand_at (top keys.Requests) rules.Product (then_some (nat_le (counts.workers * (counts.connections * (counts.requests + 3))) EVENTS_LIMIT) counts)
+
 settings_by : (ms : Members) (texts : TextEntries) (salt : List ℕ) (frames : Width) (counts : Counts) (info : List ℕ) (accounts : List AccountEntry)
     → read_texts ms ≡ Ok texts
-    → read_salt (get_member (codes "salt") ms) ≡ Ok salt
-    → read_frames (get_member (codes "frames") ms) ≡ Ok frames
+    → option_map_or (λ value. read_spelled (top keys.Salt) seed_spelled (Some value)) (get_member (codes "salt") ms) (Ok (codes "decoy")) ≡ Ok salt
+    → option_map_or (λ value. read_spelled (top keys.Frames) width_named (Some value)) (get_member (codes "frames") ms) (Ok Narrow) ≡ Ok frames
     → read_counts ms ≡ Ok counts
     → read_info (get_member (codes "info") ms) ≡ Ok info
     → product_of counts ≡ Ok counts
-    → read_accounts (get_member (codes "account") ms) ≡ Ok accounts
+    → read_each (top keys.Account) 1024 next_account (get_member (codes "account") ms) ≡ Ok accounts
     → read_settings ms ≡ Ok (record { texts = texts; salt = salt; frames = frames; counts = counts; info = info; accounts = accounts })
 settings_by ms texts salt frames counts info accounts a b c d e f g = rw (a, b, c, d, e, f, g) refl
 
@@ -114,7 +122,7 @@ keys_known s accounts = refl
 
 -- what follows from a document's entries
 abbrev known_of : Members → Result SetupEntries SetupFault
-known_of entries = demand_at (top keys.Other) rules.Unknown (then_some (are_known setup_keys entries) entries) >>= read_settings
+known_of entries = demand_at (top keys.Other) rules.Unknown (passed (are_known setup_keys) entries) >>= read_settings
 
 -- a text that parses is the setup of its table
 document_read : (bytes : List ℕ) (ms : Members) (e : SetupEntries) → IsUtf8 bytes → parse_document bytes ≡ Some ms → are_known setup_keys ms ≡ true → read_settings ms ≡ Ok e → setup_of bytes ≡ Ok e

@@ -1,9 +1,7 @@
 -- Inner: the tables that are printed for the parts of a setup.
 use Rattle.std.specs.Prelude.{ℕ, pos, Bool, ◌&&◌, List, map, codes, nat_le, nat_lt}
 use Rattle.std.specs.Cmp.Lexicographic.{slice_cmp}
-use Rattle.std.specs.Int.{w64, to_be_bytes}
 use Rattle.std.specs.Ordering.{nat_cmp, match_ordering}
-use Rattle.hex.specs.Hex.{encode_lower}
 use Rattle.otp_hash.specs.Names.{algo_name}
 use Rattle.otp_hash.specs.SeedBytes.{seed_bytes}
 use Rattle.request_catalogue.specs.declared.width.Width.{Width}
@@ -11,7 +9,7 @@ use Rattle.request_catalogue.specs.declared.width.Width.TheVariants.{Narrow, Wid
 use Rattle.request_catalogue.specs.TextBytes.{name_bytes, label_bytes}
 use Rattle.policy_model.specs.declared.account.Account.{Account}
 use Rattle.policy_model.specs.declared.account.Grant.{Grant}
-use Rattle.policy_model.specs.Settings.{Settings}
+use Rattle.policy_model.specs.Settings.{Settings, password_text}
 use Rattle.otp_ledger.specs.declared.ledger.Current.{Current}
 use Rattle.toml.specs.Data.{Data, string, integer, boolean, array, table, Members, no_members, member}
 use Rattle.toml.specs.View.{items_of}
@@ -25,10 +23,6 @@ put_member k d (member l e ms) = match_ordering (slice_cmp nat_cmp k l) (member 
 abbrev pub width_word : Width → List ℕ
 width_word Narrow = codes "narrow"
 width_word Wide = codes "wide"
-
--- a password in 16 hexadecimal digits, the most significant first
-abbrev pub password_text : ℕ → List ℕ
-password_text password = encode_lower (to_be_bytes w64 password)
 
 -- a whole number
 abbrev pub number : ℕ → Data

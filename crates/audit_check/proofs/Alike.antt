@@ -11,7 +11,8 @@ use Rattle.policy_model.specs.Legal.{session_of}
 use Rattle.policy_model.specs.Logins.{challenged_user, current_password, replies_of, was_decoyed}
 use Rattle.policy_model.specs.Phases.{phase_of}
 use Rattle.policy_model.specs.Settings.{Settings}
-use Rattle.policy_model.specs.Verdict.{account_named, is_holder, verdict_of}
+use Rattle.policy_model.specs.Verdict.{verdict_of}
+use Rattle.policy_model.specs.Cases.{account_named, is_holder}
 use Rattle.audit_check.specs.Legal.{holds_user, is_challenged_phase, is_password_of, may_be_decided, readings_decide}
 use Rattle.audit_check.proofs.Shown.{asked_same, challenged_same, decoyed_same, holder_same, open_same, phase_same, plain, replies_same}
 use Rattle.audit_check.proofs.ShownVerdicts.{next_same, password_same, session_of_same, verdict_same}

@@ -12,6 +12,7 @@ use Rattle.decision_log.specs.declared.logged.LineFault.{LineFault}
 use Rattle.decision_log.specs.Log.{line_of, lines_after}
 use Rattle.decision_log.specs.Reading.{line_read}
 use Rattle.decision_log.specs.Values.{IsLine, line_value, LineValue}
+use Rattle.decision_log.proofs.EventLines.{line_is}
 use Rattle.decision_log.proofs.Lines.{line_back}
 use Rattle.audit_check.specs.Legal.{IsLegalLog, MayFollow}
 use Rattle.audit_check.proofs.SameEvents.{same_event}
@@ -88,7 +89,7 @@ stands_next setup text rest line behind events e st parts few says next =
     record {
       cut =
           st.cut
-          ∙ ap (λ r. lines_after 0 events ++ r) (parts ∙ ap (λ l. l ++ behind) back.1)
+          ∙ ap (λ r. lines_after 0 events ++ r) (parts ∙ ap (λ l. l ++ behind) (back.1 ∙ sym (line_is (length events + 1) e)))
           ∙ sym (append_assoc (lines_after 0 events) (line_of (length events + 1) e) behind)
           ∙ ap (λ n. lines_after 0 events ++ line_of n e ++ behind) (sym place)
           ∙ ap (λ t. t ++ behind) (sym (lines_push 0 events e));

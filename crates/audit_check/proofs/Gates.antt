@@ -18,7 +18,8 @@ use Rattle.policy_model.specs.Journal.{ask_count, count_of, events_of, has_event
 use Rattle.policy_model.specs.Logins.{account_of, challenged_user, current_sequence, holder_of, is_live, last_taking_of, session_taking, verified_user, was_decoyed}
 use Rattle.policy_model.specs.Phases.{is_over, phase_of, table_row}
 use Rattle.policy_model.specs.Settings.{Settings}
-use Rattle.policy_model.specs.Verdict.{account_named, account_verdict, challenge_verdict, info_verdict, is_held, is_holder, kind_verdict, login_verdict, reply_verdict, request_verdict, sequence_of, verdict_of}
+use Rattle.policy_model.specs.Verdict.{account_verdict, challenge_verdict, info_verdict, is_held, kind_verdict, reply_verdict, request_verdict, verdict_of}
+use Rattle.policy_model.specs.Cases.{account_named, is_holder, login_verdict, sequence_of}
 use Rattle.policy_laws.specs.Strangers.{without_readings}
 use Rattle.policy_model.proofs.Verdicts.{verdict_of-request}
 use Rattle.audit_check.specs.Following.{IsRecent, is_local, rests_on_accounts}

@@ -10,7 +10,8 @@ use Rattle.policy_model.specs.declared.event.Ask.TheVariants as asks
 use Rattle.policy_model.specs.declared.event.Decision.{Decision}
 use Rattle.policy_model.specs.declared.event.Event.{Event}
 use Rattle.policy_model.specs.declared.ranges.TheConstants.{EVENTS_LIMIT}
-use Rattle.policy_model.specs.Asks.{is_lost, is_reply, shown_of}
+use Rattle.policy_model.specs.Asks.{is_lost, shown_of}
+use Rattle.policy_model.specs.Cases.{is_reply}
 use Rattle.policy_model.specs.Journal.{has_lost, kept_events, open_session_of}
 use Rattle.policy_model.specs.Legal.{IsLegal, IsNext, session_of}
 use Rattle.policy_model.specs.Runs.{IsOfWorker}
@@ -20,7 +21,8 @@ use Rattle.policy_laws.specs.Strangers.{without_readings}
 use Rattle.policy_model.proofs.Lists.{filter-push}
 use Rattle.policy_model.proofs.Runs.{next_decision, next_session}
 use Rattle.session_laws.proofs.ByEvents.{by_events}
-use Rattle.decision_log.specs.Log.{line_of, line_text, lines_after, log_text}
+use Rattle.decision_log.specs.Log.{line_of, lines_after, log_text}
+use Rattle.decision_log.specs.LineTexts.{line_text}
 use Rattle.decision_log.specs.Values.{AskValue, IsLine, LineValue, ask_value, line_value}
 use Rattle.audit_check.specs.declared.answer.Audit.{Audit}
 use Rattle.audit_check.specs.declared.answer.Audit.TheVariants as audits
@@ -31,6 +33,7 @@ use Rattle.audit_check.proofs.Fronts.{legal_none, legal_push}
 use Rattle.audit_check.proofs.Replies.{given_may, reply_is}
 use Rattle.audit_check.specs.Said.{AreSaid, IsLogOf}
 use Rattle.audit_check.specs.Written.{IsJournalOf}
+use Rattle.decision_log.proofs.EventLines.{line_is}
 use Rattle.decision_log.proofs.Writable.{IsWritable, kept_writable}
 
 -- 1. What is shown of an event
@@ -126,7 +129,7 @@ value_line number e = ap (line_with number e) (value_shown e.ask) where
 
 shown_lines : (count : ℕ) (events : List Event) → lines_after count (map shown_event events) ≡ lines_after count events
 shown_lines count [] = refl
-shown_lines count (e ∷ events) = ap (λ v. line_text v ++ lines_after (count + 1) (map shown_event events)) (value_line (count + 1) e) ∙ ap (λ t. line_of (count + 1) e ++ t) (shown_lines (count + 1) events)
+shown_lines count (e ∷ events) = ap (λ t. t ++ lines_after (count + 1) (map shown_event events)) (line_is (count + 1) (shown_event e) ∙ ap line_text (value_line (count + 1) e) ∙ sym (line_is (count + 1) e)) ∙ ap (λ t. line_of (count + 1) e ++ t) (shown_lines (count + 1) events)
 
 shown_said : (count : ℕ) (events : List Event) → count + length events ≤ EVENTS_LIMIT → AllByRecursion IsWritable events → AreSaid count (map shown_event events)
 shown_said count [] few all = tt

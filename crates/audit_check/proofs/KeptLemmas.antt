@@ -14,13 +14,14 @@ use Rattle.policy_model.specs.declared.event.Ask.TheVariants as asks
 use Rattle.policy_model.specs.declared.event.Decision.{Decision}
 use Rattle.policy_model.specs.declared.event.Decision.TheVariants.{Permit, Deny}
 use Rattle.policy_model.specs.declared.event.Event.{Event}
-use Rattle.policy_model.specs.Asks.{accepts, is_begin, is_permit, is_reply, leaves, moment_of, request_number, reserves, takes, value_of}
+use Rattle.policy_model.specs.Asks.{accepts, is_begin, is_permit, leaves, moment_of, request_number, reserves, takes, value_of, is_user}
+use Rattle.policy_model.specs.Cases.{is_reply, is_decoy, user_named, account_named, is_holder, login_verdict, sequence_of, taking_moment}
 use Rattle.policy_model.specs.Journal.{last_event, open_session_of}
 use Rattle.policy_model.specs.Legal.{opening_session, session_of}
-use Rattle.policy_model.specs.Logins.{account_of, challenged_user, current_sequence, holder_of, is_decoy, is_user, last_taking_of, replies_of, reply_for, session_taking, user_named, was_accepted, was_decoyed}
+use Rattle.policy_model.specs.Logins.{account_of, challenged_user, current_sequence, holder_of, last_taking_of, replies_of, reply_for, session_taking, was_accepted, was_decoyed}
 use Rattle.policy_model.specs.Phases.{is_over}
 use Rattle.policy_model.specs.Settings.{IsInRange, Settings, account_number, same_name}
-use Rattle.policy_model.specs.Verdict.{account_named, account_verdict, decoy_challenge, decoy_verdict, is_holder, is_next_password, login_verdict, reply_verdict, request_verdict, sequence_of, taking_moment, user_verdict, verdict_of}
+use Rattle.policy_model.specs.Verdict.{account_verdict, decoy_challenge, decoy_verdict, is_next_password, reply_verdict, request_verdict, user_verdict, verdict_of}
 use Rattle.policy_model.proofs.LoginLemmas.{current_password-is, last_taking_of-none, last_taking_of-push, replies_of-push}
 use Rattle.policy_model.proofs.Verdicts.{session_of-other, verdict_of-request}
 use Rattle.session_laws.specs.Tied.{ReservesLive, holder_after}

@@ -18,12 +18,13 @@ use Rattle.policy_model.specs.declared.ranges.TheConstants.{EVENTS_LIMIT}
 use Rattle.policy_model.specs.Settings.{Settings}
 use Rattle.policy_laws.specs.Strangers.{without_readings}
 use Rattle.decision_log.specs.declared.logged.LineFault.{LineFault}
-use Rattle.decision_log.specs.Log.{ask_text, decision_text, line_of, line_text, lines_after, spaced, value_text, why_text}
+use Rattle.decision_log.specs.Log.{line_of, lines_after, spaced, why_text}
+use Rattle.decision_log.specs.LineTexts.{asked_text, decided_text, line_text, shown_text}
 use Rattle.decision_log.specs.Parts.{ends_part}
 use Rattle.decision_log.specs.Reading.{line_read}
 use Rattle.decision_log.specs.Values.{AskValue, Begin, Banner, Challenge, Reply, Abandon, Export, Import, ReadAt, WriteAt, OpenFile, CloseFile, Info, Note, Finish, Bad, End, IsAsk, IsLine, IsShown, IsValue, IsWhy, LineValue, line_value}
 use Rattle.decision_log.proofs.Instances.{decimal_whole, labels, names, notes, passwords}
-use Rattle.decision_log.proofs.Lines.{line_forth}
+use Rattle.decision_log.proofs.EventLines.{event_forth, line_is}
 use Rattle.audit_check.specs.declared.answer.AuditWhy.{AuditWhy}
 use Rattle.audit_check.specs.declared.answer.AuditWhy.TheVariants as reasons
 use Rattle.audit_check.specs.Legal.{IsLegalLog}
@@ -82,7 +83,7 @@ plain_why whys.LogLost h = refl
 plain_three : (word : List ℕ) (a b c : ℕ) → Plain word → a < 2 ^ 64 → b < 2 ^ 64 → c < 2 ^ 64 → Plain (word ++ spaced a ++ spaced b ++ spaced c)
 plain_three word a b c p ra rb rc = plain_two (word ++ spaced a ++ spaced b) (spaced c) (plain_two (word ++ spaced a) (spaced b) (plain_two word (spaced a) p (plain_spaced a ra)) (plain_spaced b rb)) (plain_spaced c rc)
 
-plain_ask : (ask : AskValue) → IsAsk ask → Plain (ask_text ask)
+plain_ask : (ask : AskValue) → IsAsk ask → Plain (asked_text ask)
 plain_ask Begin h = refl
 plain_ask Banner h = refl
 plain_ask (Challenge user now) h = plain_two (codes "challenge " ++ user) (spaced now) (plain_two (codes "challenge ") user refl (plain_part user (names.whole user h.0).none)) (plain_spaced now h.1)
@@ -100,7 +101,7 @@ plain_ask Finish h = refl
 plain_ask (Bad rule detail) h = plain_two (codes "bad" ++ spaced rule) (spaced detail) (plain_two (codes "bad") (spaced rule) refl (plain_spaced rule (omega (arith, h.1)))) (plain_spaced detail (up_32 detail h.2))
 plain_ask (End why) h = plain_two (codes "end ") (why_text why) refl (plain_why why h)
 
-plain_value : (session : ℕ) (ask : AskValue) (value : ℕ) → IsValue session ask value → Plain (value_text ask value)
+plain_value : (session : ℕ) (ask : AskValue) (value : ℕ) → IsValue session ask value → Plain (shown_text ask value)
 plain_value session (Challenge user now) value h = plain_spaced value h
 plain_value session (Export len) value h = plain_spaced value h
 plain_value session (OpenFile mode name) value h = plain_spaced value h
@@ -108,18 +109,18 @@ plain_value session (Info number) value h = plain_spaced value h
 plain_value session Reply value h = plain_two (codes " ") (encode_lower (to_be_bytes w64 value)) refl (plain_part (encode_lower (to_be_bytes w64 value)) (passwords.whole value h).none)
 plain_value session _ value h = refl
 
-plain_decision : (session : ℕ) (ask : AskValue) (decision : Decision) → IsShown session ask decision → Plain (decision_text ask decision)
-plain_decision session ask (Permit value) h = plain_two (codes "permit") (value_text ask value) refl (plain_value session ask value h)
+plain_decision : (session : ℕ) (ask : AskValue) (decision : Decision) → IsShown session ask decision → Plain (decided_text ask decision)
+plain_decision session ask (Permit value) h = plain_two (codes "permit") (shown_text ask value) refl (plain_value session ask value h)
 plain_decision session ask (Deny rule detail) h = plain_two (codes "deny" ++ spaced rule) (spaced detail) (plain_two (codes "deny") (spaced rule) refl (plain_spaced rule (up_rule rule h.1))) (plain_spaced detail (up_32 detail h.2))
 plain_decision session ask Lost h = refl
 
 -- a line without its newline
 abbrev line_body : LineValue → List ℕ
-line_body v = decimal v.number ++ codes " w" ++ decimal v.worker ++ codes " s" ++ decimal v.session ++ codes " " ++ ask_text v.ask ++ codes " " ++ decision_text v.ask v.decision
+line_body v = decimal v.number ++ codes " w" ++ decimal v.worker ++ codes " s" ++ decimal v.session ++ codes " " ++ asked_text v.ask ++ codes " " ++ decided_text v.ask v.decision
 
-line_is : (v : LineValue) → line_text v ≡ line_body v ++ codes "\n"
+text_is : (v : LineValue) → line_text v ≡ line_body v ++ codes "\n"
 unfolding line_text
-line_is v = refl
+text_is v = refl
 
 plain_body : (v : LineValue) → IsLine v → Plain (line_body v)
 plain_body v is =
@@ -128,16 +129,16 @@ plain_body v is =
     let b3 : List ℕ = b2 ++ codes " s" in
     let b4 : List ℕ = b3 ++ decimal v.session in
     let b5 : List ℕ = b4 ++ codes " " in
-    let b6 : List ℕ = b5 ++ ask_text v.ask in
+    let b6 : List ℕ = b5 ++ asked_text v.ask in
     let b7 : List ℕ = b6 ++ codes " " in
     let one = plain_two (decimal v.number) (codes " w") (plain_number v.number (up_32 v.number is.number)) refl in
     let two = plain_two b1 (decimal v.worker) one (plain_number v.worker (up_32 v.worker is.worker)) in
     let three = plain_two b2 (codes " s") two refl in
     let four = plain_two b3 (decimal v.session) three (plain_number v.session (up_32 v.session is.session)) in
     let five = plain_two b4 (codes " ") four refl in
-    let six = plain_two b5 (ask_text v.ask) five (plain_ask v.ask is.ask) in
+    let six = plain_two b5 (asked_text v.ask) five (plain_ask v.ask is.ask) in
     let seven = plain_two b6 (codes " ") six refl in
-    plain_two b7 (decision_text v.ask v.decision) seven (plain_decision v.session v.ask v.decision is.decision)
+    plain_two b7 (decided_text v.ask v.decision) seven (plain_decision v.session v.ask v.decision is.decision)
 
 -- 2. The first line of a text that begins with one
 
@@ -157,15 +158,20 @@ first_of bytes rest all =
     ∙ ap (take (length bytes + 1)) (sym (append_assoc bytes (10 ∷ []) rest))
     ∙ take_at (bytes ++ 10 ∷ []) rest (length bytes + 1) (length-append bytes (10 ∷ []))
 
-pub one_line : (v : LineValue) (rest : List ℕ) → IsLine v → first_line (line_text v ++ rest) ≡ line_text v
-one_line v rest is =
-    ap (λ t. first_line (t ++ rest)) (line_is v)
+pub one_line : (number : ℕ) (e : Event) (rest : List ℕ) → IsLine (line_value number e) → first_line (line_of number e ++ rest) ≡ line_of number e
+one_line number e rest is =
+    let v = line_value number e in
+    let whole : line_of number e ≡ line_body v ++ 10 ∷ [] = line_is number e ∙ text_is v in
+    ap (λ t. first_line (t ++ rest)) whole
     ∙ ap first_line (append_assoc (line_body v) (10 ∷ []) rest)
     ∙ first_of (line_body v) rest (plain_body v is)
-    ∙ sym (line_is v)
+    ∙ sym whole
 
-pub line_some : (v : LineValue) → 1 ≤ length (line_text v)
-line_some v = let long : length (line_text v) ≡ length (line_body v) + 1 = ap length (line_is v) ∙ length-append (line_body v) (10 ∷ []) in omega (arith, long)
+pub line_some : (number : ℕ) (e : Event) → 1 ≤ length (line_of number e)
+line_some number e =
+    let v = line_value number e in
+    let long : length (line_of number e) ≡ length (line_body v) + 1 = ap length (line_is number e ∙ text_is v) ∙ length-append (line_body v) (10 ∷ []) in
+    omega (arith, long)
 
 -- 3. One list of events alone
 
@@ -173,8 +179,8 @@ pub same_ok : (a b : LineValue) (r : Result LineValue LineFault) → r ≡ Ok a 
 same_ok a b (Ok v) h g = cc
 same_ok a b (Err fault) h g = absurd cc
 
-empty_line : (v : LineValue) (rest : List ℕ) → line_text v ++ rest ≡ [] → ⊥
-empty_line v rest h = let none : length (line_text v ++ rest) ≡ 0 = ap length h in absurd (omega (arith, none, length-append (line_text v) rest, line_some v))
+empty_line : (number : ℕ) (e : Event) (rest : List ℕ) → line_of number e ++ rest ≡ [] → ⊥
+empty_line number e rest h = let none : length (line_of number e ++ rest) ≡ 0 = ap length h in absurd (omega (arith, none, length-append (line_of number e) rest, line_some number e))
 
 -- lines that begin with these events are those of a list that does
 record Continues (count : ℕ) (rest : List ℕ) (events given : List Event) : Type 0 where
@@ -190,36 +196,33 @@ record SameFirst (count : ℕ) (rest : List ℕ) (e g : Event) (events given : L
 
 same_first : (count : ℕ) (rest : List ℕ) (e g : Event) (events given : List Event) → AreSaid count (e ∷ events) → AreSaid count (g ∷ given) → lines_after count (e ∷ events) ++ rest ≡ lines_after count (g ∷ given) → SameFirst count rest e g events given
 same_first count rest e g events given said other same = record { equal = equal; rests = rests } where
-  v : LineValue
-  v = line_value (count + 1) e
-
-  w : LineValue
-  w = line_value (count + 1) g
+  n : ℕ
+  n = count + 1
 
   behind : List ℕ
-  behind = lines_after (count + 1) events ++ rest
+  behind = lines_after n events ++ rest
 
-  texts : line_text v ++ behind ≡ line_text w ++ lines_after (count + 1) given
-  texts = sym (append_assoc (line_text v) (lines_after (count + 1) events) rest) ∙ same
+  texts : line_of n e ++ behind ≡ line_of n g ++ lines_after n given
+  texts = sym (append_assoc (line_of n e) (lines_after n events) rest) ∙ same
 
-  lines : line_text v ≡ line_text w
-  lines = sym (one_line v behind said.0) ∙ ap first_line texts ∙ one_line w (lines_after (count + 1) given) other.0
+  lines : line_of n e ≡ line_of n g
+  lines = sym (one_line n e behind said.0) ∙ ap first_line texts ∙ one_line n g (lines_after n given) other.0
 
   equal : e ≡ g
-  equal = same_event (count + 1) (count + 1) e g said.1 other.1 (same_ok v w (line_read (line_text v)) (line_forth v said.0) (ap line_read lines ∙ line_forth w other.0))
+  equal = same_event n n e g said.1 other.1 (same_ok (line_value n e) (line_value n g) (line_read (line_of n e)) (event_forth n e said.0) (ap line_read lines ∙ event_forth n g other.0))
 
-  rests : behind ≡ lines_after (count + 1) given
+  rests : behind ≡ lines_after n given
   rests =
-      sym (drop_at (line_text v) behind (length (line_text v)) refl)
-      ∙ ap (drop (length (line_text v))) texts
-      ∙ drop_at (line_text w) (lines_after (count + 1) given) (length (line_text v)) (ap length (sym lines))
+      sym (drop_at (line_of n e) behind (length (line_of n e)) refl)
+      ∙ ap (drop (length (line_of n e))) texts
+      ∙ drop_at (line_of n g) (lines_after n given) (length (line_of n e)) (ap length (sym lines))
 
 continues : (count : ℕ) (rest : List ℕ) (events given : List Event) → AreSaid count events → AreSaid count given → lines_after count events ++ rest ≡ lines_after count given → Continues count rest events given
 continues count rest [] given said other same =
     let place : count ≡ count + 0 = omega arith in
     record { more = given; whole = refl; left = same ∙ ap (λ n. lines_after n given) place; said = subst (λ n. AreSaid n given) place other }
 continues count rest (e ∷ events) [] said other same =
-    absurd (empty_line (line_value (count + 1) e) (lines_after (count + 1) events ++ rest) (sym (append_assoc (line_of (count + 1) e) (lines_after (count + 1) events) rest) ∙ same))
+    absurd (empty_line (count + 1) e (lines_after (count + 1) events ++ rest) (sym (append_assoc (line_of (count + 1) e) (lines_after (count + 1) events) rest) ∙ same))
 continues count rest (e ∷ events) (g ∷ given) said other same =
     let first = same_first count rest e g events given said other same in
     let c : Continues (count + 1) rest events given = continues (count + 1) rest events given said.2 other.2 first.rests in
@@ -235,7 +238,7 @@ continues count rest (e ∷ events) (g ∷ given) said other same =
 
 no_more : (count : ℕ) (more : List Event) → [] ≡ lines_after count more → more ≡ []
 no_more count [] h = refl
-no_more count (e ∷ more) h = absurd (empty_line (line_value (count + 1) e) (lines_after (count + 1) more) (sym h))
+no_more count (e ∷ more) h = absurd (empty_line (count + 1) e (lines_after (count + 1) more) (sym h))
 
 pub yes_only : (setup : Settings) (text : List ℕ) (events given : List Event) → IsLogOf setup text events → IsLogOf setup text given → length events ≡ length given
 yes_only setup text events given log other =
@@ -270,5 +273,5 @@ no_never setup text place why given bad log = go c.more c.whole c.left c.said wh
   go [] whole left said = let none : length bad.rest ≡ 0 = ap length left in absurd (omega (arith, none, bad.more))
   go (e ∷ more) whole left said =
       let line : IsLine (line_value (length bad.events + 1) e) = subst (λ n. IsLine (line_value n e)) place_is said.0 in
-      let first : first_line bad.rest ≡ line_text (line_value (length bad.events + 1) e) = ap first_line left ∙ one_line (line_value (0 + length bad.events + 1) e) (lines_after (0 + length bad.events + 1) more) said.0 ∙ ap (λ n. line_of n e) place_is in
-      faultless setup bad.events given (first_line bad.rest) e more why whole log.few log.legal bad.log.legal (ap line_read first ∙ line_forth (line_value (length bad.events + 1) e) line) said.1 bad.fault
+      let first : first_line bad.rest ≡ line_of (length bad.events + 1) e = ap first_line left ∙ one_line (0 + length bad.events + 1) e (lines_after (0 + length bad.events + 1) more) said.0 ∙ ap (λ n. line_of n e) place_is in
+      faultless setup bad.events given (first_line bad.rest) e more why whole log.few log.legal bad.log.legal (ap line_read first ∙ event_forth (length bad.events + 1) e line) said.1 bad.fault

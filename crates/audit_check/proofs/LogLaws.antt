@@ -1,5 +1,5 @@
 -- The policy's consequences hold of a legal log.
-use Rattle.std.proofs.Common.{◌≡◌, ◌≢◌, ℕ, ◌<◌, ◌≤◌, ◌==◌, true, ◌&&◌, List, ◌∷◌, length, map, take, slice_get, Option, Some, None, refl, sym, ap, subst, ◌∙◌}
+use Rattle.std.proofs.Common.{◌≡◌, ◌≢◌, ℕ, ◌<◌, ◌≤◌, ◌==◌, Bool, true, ◌&&◌, List, ◌∷◌, length, map, take, slice_get, Option, Some, None, refl, sym, ap, subst, ◌∙◌}
 use Rattle.std.specs.Prelude.{is_some, option_map}
 use Rattle.std.proofs.lemmas.List.{take-map}
 use Rattle.std.proofs.lemmas.Option.{slice_get-map}
@@ -10,7 +10,7 @@ use Rattle.policy_model.specs.Asks.{accepts, exports, reserves, takes_user, valu
 use Rattle.policy_model.specs.Journal.{Place, is_own}
 use Rattle.policy_model.specs.Logins.{challenged_user, current_password, reply_for}
 use Rattle.policy_model.specs.Settings.{Settings, are_distinct}
-use Rattle.policy_laws.specs.Consequences.{IsLastTaking, IsVerifiedBefore, NoPasswordTwice, OneTakerAtATime, RepliesAt, ReservesAt, SequenceFalls, TakesAt, VerifiedBeforeExport}
+use Rattle.policy_laws.specs.Consequences.{IsLastTaking, IsVerifiedBefore, NoPasswordTwice, OneTakerAtATime, RepliesAt, SequenceFalls, StandsAt, VerifiedBeforeExport}
 use Rattle.policy_laws.proofs.Exports.{verified_before_export}
 use Rattle.policy_laws.proofs.Replies.{no_password_twice}
 use Rattle.policy_laws.proofs.Sequences.{one_taker_at_a_time, sequence_falls}
@@ -66,11 +66,8 @@ reply_at user events place e =
     ∙ ap (λ x. reply_for user (at (map plain (take place events)) x)) (witness_plain e)
     ∙ reply_for_same user (at (take place events) e)
 
-takes_at : (user : Name) (events : List Event) (place : ℕ) (e : Event) → TakesAt events user place e → TakesAt (map witness events) user place (witness e)
-takes_at user events place e t = record { stands = stands_witness events place e t.stands; takes = over_witness (takes_user user) (user_same user) e ∙ t.takes }
-
-reserves_at : (user : Name) (events : List Event) (place : ℕ) (e : Event) → ReservesAt events user place e → ReservesAt (map witness events) user place (witness e)
-reserves_at user events place e t = record { stands = stands_witness events place e t.stands; reserved = over_witness (reserves user) (reserves_same user) e ∙ t.reserved }
+event_at : (test : Event → Bool) → ((e : Event) → test (plain e) ≡ test e) → (events : List Event) (place : ℕ) (e : Event) → StandsAt events test place e → StandsAt (map witness events) test place (witness e)
+event_at test same events place e t = record { stands = stands_witness events place e t.stands; passes = over_witness test same e ∙ t.passes }
 
 replies_at : (user : Name) (events : List Event) (place : ℕ) (e : Event) → RepliesAt events user place e → RepliesAt (map witness events) user place (witness e)
 replies_at user events place e t = record { stands = stands_witness events place e t.stands; replies = ap is_some (reply_at user events place e) ∙ t.replies }
@@ -86,21 +83,21 @@ falls setup events law = record {
   falls = λ user i k j earlier reply later ik kj a b c.
       subst (λ n. n < value_of earlier.decision) (value_witness later)
       (subst (λ n. value_of (witness later).decision < n) (value_witness earlier)
-      (law.falls user i k j (witness earlier) (witness reply) (witness later) ik kj (reserves_at user events i earlier a) (replies_at user events k reply b) (reserves_at user events j later c)));
+      (law.falls user i k j (witness earlier) (witness reply) (witness later) ik kj (event_at (reserves user) (reserves_same user) events i earlier a) (replies_at user events k reply b) (event_at (reserves user) (reserves_same user) events j later c)));
 }
 
 last_taking : (user : Name) (events : List Event) (i k : ℕ) (taking : Event) → IsLastTaking events user i k taking → IsLastTaking (map witness events) user i k (witness taking)
-last_taking user events i k taking is = record { taken = takes_at user events i taking is.taken; last = last } where
-  last : (n : ℕ) (w : Event) → i < n → n < k → TakesAt (map witness events) user n w → w.session ≢ taking.session
+last_taking user events i k taking is = record { taken = event_at (takes_user user) (user_same user) events i taking is.taken; last = last } where
+  last : (n : ℕ) (w : Event) → i < n → n < k → StandsAt (map witness events) (takes_user user) n w → w.session ≢ taking.session
   last n w low high t =
       let from = comes_from events n w t.stands in
-      let takes : takes_user user from.event ≡ true = sym (over_witness (takes_user user) (user_same user) from.event) ∙ ap (takes_user user) from.is ∙ t.takes in
-      λ h. is.last n from.event low high (record { stands = from.stands; takes = takes }) (ap (λ x. x.session) from.is ∙ h)
+      let takes : takes_user user from.event ≡ true = sym (over_witness (takes_user user) (user_same user) from.event) ∙ ap (takes_user user) from.is ∙ t.passes in
+      λ h. is.last n from.event low high (record { stands = from.stands; passes = takes }) (ap (λ x. x.session) from.is ∙ h)
 
 one_taker : (setup : Settings) (events : List Event) → OneTakerAtATime setup (map witness events) → OneTakerAtATime setup events
 one_taker setup events law = record {
   alone = λ user i k taking reply replied taken same m e low high t.
-      law.alone user i k (witness taking) (witness reply) (replies_at user events k reply replied) (last_taking user events i k taking taken) same m (witness e) low high (takes_at user events m e t);
+      law.alone user i k (witness taking) (witness reply) (replies_at user events k reply replied) (last_taking user events i k taking taken) same m (witness e) low high (event_at (takes_user user) (user_same user) events m e t);
 }
 
 verified_from : (setup : Settings) (events : List Event) (k session number : ℕ) → IsVerifiedBefore setup (map witness events) k session number → IsVerifiedBefore setup events k session number

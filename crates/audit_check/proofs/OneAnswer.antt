@@ -8,10 +8,10 @@ use Rattle.policy_model.specs.declared.event.Event.{Event}
 use Rattle.policy_model.specs.Settings.{Settings}
 use Rattle.policy_laws.specs.Strangers.{without_readings}
 use Rattle.decision_log.specs.declared.logged.LineFault.{LineFault}
-use Rattle.decision_log.specs.Log.{line_of, line_text, lines_after}
+use Rattle.decision_log.specs.Log.{line_of, lines_after}
 use Rattle.decision_log.specs.Reading.{line_read}
 use Rattle.decision_log.specs.Values.{IsLine, LineValue, line_value}
-use Rattle.decision_log.proofs.Lines.{line_forth}
+use Rattle.decision_log.proofs.EventLines.{event_forth}
 use Rattle.audit_check.specs.declared.answer.Audit.{Audit}
 use Rattle.audit_check.specs.declared.answer.Audit.TheVariants as audits
 use Rattle.audit_check.specs.declared.answer.AuditWhy.{AuditWhy}
@@ -28,9 +28,9 @@ record SameLine (e g : Event) (x y : List ℕ) : Type 0 where
 
 same_line : (n : ℕ) (e g : Event) (x y : List ℕ) → IsLine (line_value n e) → IsLine (line_value n g) → without_readings e.ask ≡ e.ask → without_readings g.ask ≡ g.ask → line_of n e ++ x ≡ line_of n g ++ y → SameLine e g x y
 same_line n e g x y le lg se sg same =
-    let lines : line_of n e ≡ line_of n g = sym (one_line (line_value n e) x le) ∙ ap first_line same ∙ one_line (line_value n g) y lg in
+    let lines : line_of n e ≡ line_of n g = sym (one_line n e x le) ∙ ap first_line same ∙ one_line n g y lg in
     record {
-      equal = same_event n n e g se sg (same_ok (line_value n e) (line_value n g) (line_read (line_of n e)) (line_forth (line_value n e) le) (ap line_read lines ∙ line_forth (line_value n g) lg));
+      equal = same_event n n e g se sg (same_ok (line_value n e) (line_value n g) (line_read (line_of n e)) (event_forth n e le) (ap line_read lines ∙ event_forth n g lg));
       behind = sym (drop_at (line_of n e) x (length (line_of n e)) refl) ∙ ap (drop (length (line_of n e))) same ∙ drop_at (line_of n g) y (length (line_of n e)) (ap length (sym lines));
     }
 
@@ -102,12 +102,12 @@ in_order setup text p q w v a b le = go c.more c.whole c.left c.said where
       ∙ ap (λ x. audits.No q x) (one_fault setup a.events (first_line a.rest) w v a.fault fault)
   go (e ∷ more) whole left said =
       let line : IsLine (line_value (length a.events + 1) e) = subst (λ n. IsLine (line_value n e)) place_is said.0 in
-      let first : first_line a.rest ≡ line_text (line_value (length a.events + 1) e) =
+      let first : first_line a.rest ≡ line_of (length a.events + 1) e =
       ap first_line left
       ∙ ap first_line (append_assoc (line_of (0 + length a.events + 1) e) (lines_after (0 + length a.events + 1) more) b.rest)
-      ∙ one_line (line_value (0 + length a.events + 1) e) (lines_after (0 + length a.events + 1) more ++ b.rest) said.0
+      ∙ one_line (0 + length a.events + 1) e (lines_after (0 + length a.events + 1) more ++ b.rest) said.0
       ∙ ap (λ n. line_of n e) place_is in
-      absurd (faultless setup a.events b.events (first_line a.rest) e more w whole b.log.few b.log.legal a.log.legal (ap line_read first ∙ line_forth (line_value (length a.events + 1) e) line) said.1 a.fault)
+      absurd (faultless setup a.events b.events (first_line a.rest) e more w whole b.log.few b.log.legal a.log.legal (ap line_read first ∙ event_forth (length a.events + 1) e line) said.1 a.fault)
 
 one_no : (setup : Settings) (text : List ℕ) (p q : ℕ) (w v : AuditWhy) → IsFirstFault setup text p w → IsFirstFault setup text q v → audits.No p w ≡ audits.No q v
 one_no setup text p q w v a b =

@@ -7,7 +7,8 @@ use Rattle.policy_model.specs.declared.event.Decision.{Decision}
 use Rattle.policy_model.specs.declared.event.Decision.TheVariants.{Permit, Deny, Lost}
 use Rattle.policy_model.specs.declared.event.Event.{Event}
 use Rattle.policy_model.specs.Asks.{is_begin, is_end, is_lost, is_permit, takes}
-use Rattle.policy_model.specs.Journal.{events_of, is_turn_of, last_event, open_session_of, openings_of, session_opened}
+use Rattle.policy_model.specs.Journal.{events_of, is_turn_of, last_event, open_session_of, openings_of}
+use Rattle.policy_model.specs.Cases.{session_opened}
 use Rattle.policy_model.specs.Logins.{verified_user}
 use Rattle.policy_model.specs.Runs.{AreNumbered}
 use Rattle.policy_model.specs.Settings.{Settings}

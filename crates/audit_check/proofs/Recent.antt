@@ -17,15 +17,16 @@ use Rattle.policy_model.specs.declared.handles.TheConstants.{HANDLE_NUMBERS}
 use Rattle.policy_model.specs.declared.phase.Phase.{Phase}
 use Rattle.policy_model.specs.declared.phase.Phase.TheVariants.{Pre, Challenged, Verified, User, Over}
 use Rattle.policy_model.specs.declared.phase.Row.{Row}
-use Rattle.policy_model.specs.Asks.{accepts, came_by_frame, ends_session, exports, handle_of, is_begin, is_end, is_login_step, is_permit, kind_of, opens, permits_kind, request_number, takes}
+use Rattle.policy_model.specs.Asks.{accepts, came_by_frame, ends_session, exports, is_begin, is_end, is_login_step, is_permit, kind_of, opens, permits_kind, request_number, takes}
 use Rattle.policy_model.specs.Handles.{free_handle_of, live_handles_of, live_opens}
-use Rattle.policy_model.specs.Journal.{ask_count, count_of, events_of, has_event, is_own, is_turn_of, last_event, open_session_of, openings_of, session_opened}
+use Rattle.policy_model.specs.Journal.{ask_count, count_of, events_of, has_event, is_own, is_turn_of, last_event, open_session_of, openings_of}
+use Rattle.policy_model.specs.Cases.{session_opened, is_taking, user_named, account_named, grant_verdict, grants_of, number_named, table_verdict, use_verdict, handle_of}
 use Rattle.policy_model.specs.Legal.{session_of}
-use Rattle.policy_model.specs.Logins.{challenged_user, user_named, verified_user}
-use Rattle.policy_model.specs.Phases.{is_over, is_taking, phase_of, table_row}
+use Rattle.policy_model.specs.Logins.{challenged_user, verified_user}
+use Rattle.policy_model.specs.Phases.{is_over, phase_of, table_row}
 use Rattle.policy_model.specs.Runs.{AreNumbered}
 use Rattle.policy_model.specs.Settings.{Settings, same_label}
-use Rattle.policy_model.specs.Verdict.{account_named, close_verdict, grant_verdict, grants_of, handle_verdict, kind_verdict, number_named, open_verdict, own_verdict, request_verdict, row_verdict, table_verdict, use_verdict, verdict_of}
+use Rattle.policy_model.specs.Verdict.{close_verdict, handle_verdict, kind_verdict, open_verdict, own_verdict, request_verdict, row_verdict, verdict_of}
 use Rattle.policy_model.proofs.Lists.{last_or-push}
 use Rattle.policy_model.proofs.LoginLemmas.{verified_user-push}
 use Rattle.policy_model.proofs.Sessions.{AreNumbered-push, AreNumbered-weaker, openings_of-push, session_of-le}

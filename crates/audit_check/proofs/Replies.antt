@@ -16,7 +16,8 @@ use Rattle.policy_model.specs.Journal.{ask_count, has_event, open_session_of}
 use Rattle.policy_model.specs.Logins.{account_of, challenged_user, holder_of, last_taking_of, session_taking, was_accepted, was_decoyed}
 use Rattle.policy_model.specs.Phases.{is_over, phase_of, table_row}
 use Rattle.policy_model.specs.Settings.{Settings}
-use Rattle.policy_model.specs.Verdict.{account_named, decoy_verdict, is_holder, is_next_password, kind_verdict, login_verdict, matching_verdict, readings, readings_verdict, reply_verdict, verdict_of}
+use Rattle.policy_model.specs.Verdict.{decoy_verdict, is_next_password, kind_verdict, readings, reply_verdict, verdict_of}
+use Rattle.policy_model.specs.Cases.{account_named, is_holder, login_verdict, matching_verdict, readings_verdict}
 use Rattle.audit_check.specs.Following.{is_no_reading}
 use Rattle.audit_check.specs.Legal.{holds_user, is_challenged_phase, is_password_of, may_be_decided, readings_decide}
 

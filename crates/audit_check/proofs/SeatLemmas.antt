@@ -14,12 +14,13 @@ use Rattle.policy_model.specs.declared.event.Event.{Event}
 use Rattle.policy_model.specs.declared.phase.Phase.{Phase}
 use Rattle.policy_model.specs.declared.phase.Phase.TheVariants.{Pre, Challenged, Verified, User, Over}
 use Rattle.policy_model.specs.declared.phase.TheConstants.Row as rows
-use Rattle.policy_model.specs.Asks.{came_by_frame, ends_session, is_begin, is_end, is_finish, is_lost, is_permit, is_violation, opens, request_number}
+use Rattle.policy_model.specs.Asks.{came_by_frame, ends_session, is_begin, is_end, is_lost, is_permit, is_violation, opens, request_number}
+use Rattle.policy_model.specs.Cases.{is_finish, session_opened, use_verdict}
 use Rattle.policy_model.specs.Handles.{handle_opening}
-use Rattle.policy_model.specs.Journal.{ask_count, events_of, is_turn_of, open_session_of, openings_of, session_opened}
+use Rattle.policy_model.specs.Journal.{ask_count, events_of, is_turn_of, open_session_of, openings_of}
 use Rattle.policy_model.specs.Phases.{phase_of, table_row}
 use Rattle.policy_model.specs.Settings.{Settings}
-use Rattle.policy_model.specs.Verdict.{own_verdict, row_verdict, use_verdict, verdict_of}
+use Rattle.policy_model.specs.Verdict.{own_verdict, row_verdict, verdict_of}
 use Rattle.policy_model.proofs.Journals.{open_session_of-push}
 use Rattle.session_laws.specs.Judged.{closing_decision, is_over_phase, opening_decision}
 use Rattle.session_laws.proofs.Judging.{closing_is, free_is, opening_is, read_is, request_is, write_is}

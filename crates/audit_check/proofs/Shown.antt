@@ -16,11 +16,12 @@ use Rattle.policy_model.specs.declared.handles.TheConstants.{HANDLE_NUMBERS}
 use Rattle.policy_model.specs.declared.phase.Phase.TheVariants.{Pre, Challenged, Verified, User, Over}
 use Rattle.policy_model.specs.declared.phase.Phase.{Phase}
 use Rattle.policy_model.specs.declared.reading.TheConstants.{DECOYS_FROM}
-use Rattle.policy_model.specs.Asks.{accepts, came_by_frame, challenge_name, closes_file, ends_session, exports, gives_up, handle_of, is_abandon, is_begin, is_challenge_for, is_close, is_denied_reply, is_end, is_export, is_finish, is_login_denial, is_login_step, is_lost, is_open, is_permit, is_reply, is_violation, mode_of, moment_of, opens, opens_file, permits_kind, request_number, reserves, shown_of, takes, takes_user, value_of}
+use Rattle.policy_model.specs.Asks.{accepts, came_by_frame, challenge_name, closes_file, ends_session, exports, gives_up, is_begin, is_close, is_denied_reply, is_end, is_login_denial, is_login_step, is_lost, is_permit, is_violation, mode_of, moment_of, opens, opens_file, permits_kind, request_number, reserves, shown_of, takes, takes_user, value_of, is_user}
+use Rattle.policy_model.specs.Cases.{is_abandon, is_challenge_for, is_export, is_finish, is_open, is_reply, session_opened, is_taking, holder_by, is_decoy, user_before, user_named, handle_of}
 use Rattle.policy_model.specs.Handles.{free_handle_of, handle_opening, live_handles_of, live_opens}
-use Rattle.policy_model.specs.Journal.{Place, ask_count, count_of, events_of, has_event, is_own, is_turn_of, last_event, open_session_of, openings_of, places_after, places_of, session_opened}
-use Rattle.policy_model.specs.Logins.{challenged_user, holder_by, holder_of, is_decoy, is_user, last_taking_of, replies_of, reply_for, session_taking, user_before, user_named, verified_user, was_decoyed, was_given_up}
-use Rattle.policy_model.specs.Phases.{is_over, is_taking, phase_of}
+use Rattle.policy_model.specs.Journal.{Place, ask_count, count_of, events_of, has_event, is_own, is_turn_of, last_event, open_session_of, openings_of, places_after, places_of}
+use Rattle.policy_model.specs.Logins.{challenged_user, holder_of, last_taking_of, replies_of, reply_for, session_taking, verified_user, was_decoyed, was_given_up}
+use Rattle.policy_model.specs.Phases.{is_over, phase_of}
 use Rattle.policy_laws.specs.Strangers.{without_readings}
 use Rattle.policy_model.proofs.LoginLemmas.{was_given_up-push}
 

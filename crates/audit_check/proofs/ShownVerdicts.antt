@@ -21,7 +21,8 @@ use Rattle.policy_model.specs.Legal.{session_of}
 use Rattle.policy_model.specs.Logins.{account_of, challenged_user, current_password, current_sequence, holder_of, is_live, last_taking_of, session_taking, verified_user, was_accepted, was_decoyed}
 use Rattle.policy_model.specs.Phases.{is_over, phase_of, table_row}
 use Rattle.policy_model.specs.Settings.{Settings, same_label}
-use Rattle.policy_model.specs.Verdict.{account_named, account_verdict, allows, challenge_verdict, close_verdict, decoy_challenge, decoy_verdict, grant_verdict, grants_of, handle_verdict, info_verdict, is_held, is_holder, is_next_password, is_other, kind_verdict, login_verdict, matching_verdict, number_named, open_verdict, own_verdict, readings, readings_verdict, reply_verdict, request_verdict, row_verdict, sequence_of, table_verdict, taking_moment, use_verdict, verdict_of}
+use Rattle.policy_model.specs.Verdict.{account_verdict, allows, challenge_verdict, close_verdict, decoy_challenge, decoy_verdict, handle_verdict, info_verdict, is_held, is_next_password, kind_verdict, open_verdict, own_verdict, readings, reply_verdict, request_verdict, row_verdict, verdict_of}
+use Rattle.policy_model.specs.Cases.{account_named, grant_verdict, grants_of, is_holder, is_other, login_verdict, matching_verdict, number_named, readings_verdict, sequence_of, table_verdict, taking_moment, use_verdict}
 use Rattle.audit_check.proofs.Shown.{asked_same, challenged_same, count_same, decoyed_same, denied_same, free_same, has_same, holder_same, kind_same, last_taking_same, live_same, mode_plain, moment_plain, none_same, open_same, opening_same, openings_same, over_same, phase_same, plain, replies_same, taker_same, verified_same}
 
 pub sequence_same : (xs : List Event) (account : Account) → current_sequence (map plain xs) account ≡ current_sequence xs account

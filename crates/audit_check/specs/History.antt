@@ -14,7 +14,8 @@ use Rattle.policy_model.specs.Asks.{moment_of, reserves, value_of}
 use Rattle.policy_model.specs.Journal.{openings_of}
 use Rattle.policy_model.specs.Logins.{current_sequence, holder_of, last_taking_of, replies_of, reply_for, session_taking}
 use Rattle.policy_model.specs.Settings.{IsInRange, Settings}
-use Rattle.policy_model.specs.Verdict.{decoy_challenge, is_holder, is_other, taking_moment}
+use Rattle.policy_model.specs.Verdict.{decoy_challenge}
+use Rattle.policy_model.specs.Cases.{is_holder, is_other, taking_moment}
 use Rattle.session_laws.specs.Tied.{holder_after}
 use Rattle.audit_check.specs.declared.accounts.Standing.{Standing}
 use Rattle.audit_check.specs.declared.history.Hold.{Hold}

@@ -6,8 +6,9 @@ ghost use Rattle.policy_model.specs.declared.account.Account.{Account};
 ghost use Rattle.policy_model.specs.declared.event.Decision.TheVariants.{Permit};
 ghost use Rattle.policy_model.specs.declared.event.Event.{Event};
 ghost use Rattle.policy_model.specs.Journal.{open_session_of};
-ghost use Rattle.policy_model.specs.Logins.{account_of, current_sequence, is_decoy, user_named, verified_user};
-ghost use Rattle.policy_model.specs.Verdict.{account_named, account_verdict, is_next_password, reply_verdict, sequence_of, user_verdict};
+ghost use Rattle.policy_model.specs.Logins.{account_of, current_sequence, verified_user};
+ghost use Rattle.policy_model.specs.Cases.{is_decoy, user_named, account_named, sequence_of};
+ghost use Rattle.policy_model.specs.Verdict.{account_verdict, is_next_password, reply_verdict, user_verdict};
 ghost use Rattle.audit_check.specs.History.{HasLog, IsKept, challenge_by, is_next_by, silent_by, standing_by};
 ghost use Rattle.audit_check.specs.Legal.{is_password_of};
 

@@ -4,7 +4,7 @@ ghost use Rattle.std.specs.Prelude.{◌≡◌, ◌≢◌, ◌<◌, ◌&&◌, ◌
 ghost use Rattle.policy_model.specs.declared.event.Event.{Event};
 ghost use Rattle.policy_model.specs.Asks.{takes};
 ghost use Rattle.policy_model.specs.Journal.{is_own, last_event, open_session_of};
-ghost use Rattle.policy_model.specs.Logins.{is_decoy, user_named};
+ghost use Rattle.policy_model.specs.Cases.{is_decoy, user_named};
 ghost use Rattle.policy_model.specs.Settings.{Settings};
 ghost use Rattle.audit_check.specs.Following.{IsRecent};
 ghost use Rattle.audit_check.specs.History.{IsKept};

@@ -9,7 +9,7 @@ use Rattle.policy_model.specs.declared.account.Account.{Account}
 use Rattle.policy_model.specs.declared.event.Event.{Event}
 use Rattle.policy_model.specs.Asks.{value_of}
 use Rattle.policy_model.specs.Settings.{Settings, same_name}
-use Rattle.policy_model.specs.Verdict.{account_named, number_named}
+use Rattle.policy_model.specs.Cases.{account_named, number_named}
 use Rattle.child_keeper.specs.Tickets.{HandsTo, handed_account, session_role}
 
 find_at : {X : Type 0} (p : X → Bool) (xs : List X) → find p xs ≡ slice_get xs (position_or_len p xs)

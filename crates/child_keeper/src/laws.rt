@@ -11,7 +11,7 @@ ghost use Rattle.policy_model.specs.declared.event.Event.{Event};
 ghost use Rattle.policy_model.specs.Asks.{value_of};
 ghost use Rattle.policy_model.specs.Logins.{verified_user};
 ghost use Rattle.policy_model.specs.Settings.{Settings};
-ghost use Rattle.policy_model.specs.Verdict.{account_named, number_named};
+ghost use Rattle.policy_model.specs.Cases.{account_named, number_named};
 ghost use Rattle.child_keeper.specs.Live.{Lives, live_after};
 ghost use Rattle.child_keeper.specs.Starts.{ChangesChild};
 ghost use Rattle.child_keeper.specs.Tickets.{HandsTo};

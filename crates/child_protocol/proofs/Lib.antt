@@ -4,7 +4,6 @@ pub mod MoreBytes
 pub mod Holding
 pub mod Takes
 pub mod UserTakes
-pub mod Decimals
 pub mod Runs
 pub mod Replies
 pub mod Messages

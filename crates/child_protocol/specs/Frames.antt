@@ -1,6 +1,7 @@
 -- Believed: the frames of a child's requests, and its turns.
 use Rattle.std.specs.Prelude.{◌≡◌, ℕ, List, ◌++◌, length, drop, Option, Some, None, Ok}
-use Rattle.imsg_frame.specs.Message.{Message, composed_of, spelling_of}
+use Rattle.imsg_frame.specs.Message.{spelling_of}
+use Rattle.imsg_frame.specs.Requests.{request_message}
 use Rattle.request_catalogue.specs.declared.width.Width.{Width}
 use Rattle.request_catalogue.specs.declared.width.Width.TheVariants as widths
 use Rattle.request_catalogue.specs.Kinds.{kind_number}
@@ -13,10 +14,7 @@ use Rattle.child_protocol.specs.declared.turn.Turn.TheVariants as turns
 abbrev pub frame_width : Width
 frame_width = widths.Narrow
 
--- the frame of a request: flags 0, peer 0 and process 0
-abbrev pub request_message : RequestValue → Message
-request_message request = composed_of (kind_number (kind_of request)) 0 0 (payload_of request)
-
+-- the frame of a request
 unfoldable pub request_bytes : RequestValue → List ℕ
 request_bytes request = spelling_of frame_width (request_message request)
 

@@ -1,15 +1,15 @@
 -- Believed: the dialogue of the user child.
-use Rattle.std.specs.Prelude.{ℕ, ◌≤◌, ◌<◌, ◌^◌, IsTrue, ◌+◌, ◌-◌, ◌*◌, fold, zero, suc, Bool, true, false, List, [], ◌∷◌, ◌++◌, length, take, drop, position, Option, Some, None, Result, Ok, Err, codes, nat_le, ◌==◌, ◌&&◌, ◌||◌, not, if◌then◌else◌, cond}
+use Rattle.std.specs.Prelude.{ℕ, ◌≤◌, ◌<◌, ◌^◌, IsTrue, zero, suc, Bool, true, false, List, [], ◌∷◌, ◌++◌, length, take, drop, position, Option, Some, None, option_and_then, Result, Ok, Err, codes, nat_lt, ◌==◌, ◌&&◌, if◌then◌else◌, cond}
+use Rattle.std.specs.Bool.{then_some}
 use Rattle.std.specs.Fmt.{decimal}
-use Rattle.std.specs.List.{list_all}
 use Rattle.std.specs.Str.{bytes_eq}
 use Rattle.std.specs.Int.{w32, from_le_bytes}
 use Rattle.request_catalogue.specs.Catalogue.{RequestValue, Import, ReadAt, WriteAt, OpenFile, CloseFile, Info, Note, Finish}
 use Rattle.request_catalogue.specs.Replies.{AnswerValue, Done, Denied, Device}
-use Rattle.request_catalogue.specs.Texts.{is_label, is_note, is_digit, is_printable}
+use Rattle.request_catalogue.specs.Texts.{is_label, is_note, is_text}
+use Rattle.text_line.specs.Reading.{decimal_of}
 use Rattle.child_protocol.specs.Lines.{Front, More, TooLong, Line}
 use Rattle.child_protocol.specs.Commands.{text_behind}
-use Rattle.otp_words.specs.Challenges.{decimal_value}
 use Rattle.state_export.specs.declared.fault.ImportFault.{ImportFault}
 use Rattle.state_export.specs.Reading.{import_of}
 use Rattle.state_export.specs.Spelling.{ImportValue}
@@ -31,7 +31,7 @@ if_legal false command = Unknown
 
 -- what may be put in a file: 1 to 200 printable bytes
 unfoldable pub is_content : List ℕ → Bool
-is_content text = nat_le 1 (length text) && nat_le (length text) 200 && list_all is_printable text
+is_content text = is_text 1 200 text
 
 abbrev pub put_parts : List ℕ → List ℕ → UserCommand
 put_parts name text = if_legal (is_label name && is_content text) (Put name text)
@@ -44,18 +44,9 @@ put_command text (Some i) = put_parts (take i text) (drop (suc i) text)
 unfoldable pub space_in : List ℕ → Option ℕ
 space_in text = position (λ c. c == 32) text
 
--- the first byte is no 0, or the only byte
-abbrev pub leads_right : List ℕ → Bool
-leads_right [] = false
-leads_right (c ∷ rest) = not (c == 48) || length rest == 0
-
--- 1 to 10 digits without a leading zero
-unfoldable pub is_number : List ℕ → Bool
-is_number text = nat_le (length text) 10 && leads_right text && list_all is_digit text
-
--- the number of 32 bits whose decimal text this is
+-- the number of 32 bits that a text spells in decimal digits without a leading zero
 unfoldable pub number_of : List ℕ → Option ℕ
-number_of text = if is_number text && nat_le (decimal_value text) 4294967295 then Some (decimal_value text) else None
+number_of text = option_and_then (λ n. then_some (nat_lt n (2 ^ 32)) n) (decimal_of text)
 
 abbrev pub tell_command : Option ℕ → UserCommand
 tell_command None = Unknown

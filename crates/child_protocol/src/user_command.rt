@@ -1,11 +1,9 @@
 //! What a client's line to the user child asks.
 
 ghost use Rattle.std.specs.Prelude.{◌≡◌, ◌≤◌, ◌<◌, ◌^◌, IfSome, true, length};
-ghost use Rattle.std.specs.List.{list_all};
 ghost use Rattle.request_catalogue.specs.Catalogue.{value_of, IsInRange};
-ghost use Rattle.request_catalogue.specs.Texts.{is_label, is_note, is_digit};
-ghost use Rattle.child_protocol.specs.User.{Get, Remark, IsLegalUser, if_legal, is_content, is_number, leads_right, number_of, put_command, put_parts, space_in, tell_command, user_command, user_request};
-ghost use Rattle.otp_words.specs.Challenges.{decimal_value};
+ghost use Rattle.request_catalogue.specs.Texts.{is_label, is_note};
+ghost use Rattle.child_protocol.specs.User.{Get, Remark, IsLegalUser, if_legal, is_content, number_of, put_command, put_parts, space_in, tell_command, user_command, user_request};
 ghost use Rattle.child_protocol.specs.Frames.{frame_width};
 ghost use Rattle.child_protocol.specs.Reading.{line_value};
 ghost use Rattle.child_protocol.specs.UserPlaces.{user_place_by};
@@ -13,12 +11,10 @@ ghost use Rattle.child_protocol.specs.UserPlaces.{user_place_by};
 use crate::command::say;
 use crate::user_place::UserPlace;
 use request_catalogue::{Label, Note, Request, are_printable};
+use text_line::long_of;
 
 /// The most bytes that a line puts in a file.
 const CONTENT_MAX: usize = 200;
-
-/// The most digits of a number of 32 bits.
-const DIGITS_MAX: usize = 10;
 
 /// A line to the user child.
 #[derive(Clone, Copy)]
@@ -114,60 +110,16 @@ fn tell_of(text: &[u8]) -> UserLine<'_>
     }
 }
 
-/// The number of 32 bits whose decimal text this is.
+/// The number of 32 bits that a text spells in decimal digits without a leading zero.
 #[tactic(auto, unfolding(crate::specs::User::number_of))]
 fn number_of(text: &[u8]) -> Option<u32>
     ensures { result ≡ number_of text.now }
 {
-    if !is_number(text) {
+    let number = long_of(text)?;
+    if number > u64::from(u32::MAX) {
         return None;
     }
-    let number = decimal_value(text);
-    if number <= 4_294_967_295 {
-        Some(number as u32)
-    } else {
-        None
-    }
-}
-
-/// Whether a text is a number: 1 to 10 digits without a leading zero.
-#[tactic(auto, unfolding(crate::specs::User::is_number))]
-fn is_number(text: &[u8]) -> bool
-    ensures value { result ≡ is_number text.now }
-    ensures few { result ≡ true → length text.now ≤ 10 }
-    ensures digits { result ≡ true → list_all is_digit text.now ≡ true }
-{
-    text.len() <= DIGITS_MAX && leads_right(text) && are_digits(text)
-}
-
-/// Whether the first byte is no `0`, or the only byte.
-fn leads_right(text: &[u8]) -> bool
-    ensures { result ≡ leads_right text.now }
-{
-    match text {
-        [] => false,
-        [first, rest @ ..] => *first != b'0' || rest.is_empty(),
-    }
-}
-
-/// Whether all bytes are digits.
-fn are_digits(bytes: &[u8]) -> bool
-    ensures { result ≡ list_all is_digit bytes.now }
-{
-    bytes.iter().all(|byte| matches!(byte, b'0'..=b'9'))
-}
-
-/// The number that these digits spell.
-fn decimal_value(digits: &[u8]) -> u64
-    requires few { length digits.now ≤ 10 }
-    requires digits { list_all is_digit digits.now ≡ true }
-    ensures { result ≡ decimal_value digits.now }
-{
-    let mut number = 0;
-    for digit in digits {
-        number = number * 10 + u64::from(*digit - b'0');
-    }
-    number
+    Some(number as u32)
 }
 
 fn remark_of(text: &[u8]) -> UserLine<'_>

@@ -8,7 +8,8 @@ use Rattle.policy_model.specs.declared.event.Why.{Why}
 use Rattle.decision_log.specs.declared.logged.LineFault.{LineFault}
 use Rattle.decision_log.specs.declared.words.AskWord.{AskWord}
 use Rattle.decision_log.specs.declared.words.AskWord.TheVariants as ask_
-use Rattle.decision_log.specs.Log.{ask_text, why_text}
+use Rattle.decision_log.specs.Log.{why_text}
+use Rattle.decision_log.specs.LineTexts.{asked_text}
 use Rattle.decision_log.specs.Parts.{Read, hex_in, name_in, next, number_below, rule_in}
 use Rattle.decision_log.specs.Reading.{ask_behind, ask_read, ask_word_in, why_read}
 use Rattle.decision_log.specs.Values.{AskValue, Begin, Banner, Challenge, Reply, Abandon, Export, Import, ReadAt, WriteAt, OpenFile, CloseFile, Info, Note, Finish, Bad, End, IsAsk}
@@ -76,7 +77,7 @@ two_grouped a b rest = append_assoc a (32 ∷ b) rest
 three_grouped : (a b c rest : List ℕ) → a ++ 32 ∷ b ++ 32 ∷ c ++ rest ≡ a ++ 32 ∷ (b ++ 32 ∷ (c ++ rest))
 three_grouped a b c rest = append_assoc (a ++ 32 ∷ b) (32 ∷ c) rest ∙ append_assoc a (32 ∷ b) (32 ∷ (c ++ rest))
 
-ask_spelled : (ask : AskValue) (rest : List ℕ) → ask_text ask ++ rest ≡ ask_word (word_of ask) ++ behind_text ask rest
+ask_spelled : (ask : AskValue) (rest : List ℕ) → asked_text ask ++ rest ≡ ask_word (word_of ask) ++ behind_text ask rest
 unfolding ask_word
 ask_spelled (Challenge user now) rest = ap (λ (x : List ℕ). codes "challenge " ++ x) (two_grouped user (decimal now) rest)
 ask_spelled (ReadAt handle offset max) rest = ap (λ (x : List ℕ). codes "read " ++ x) (three_grouped (decimal handle) (decimal offset) (decimal max) rest)
@@ -108,7 +109,7 @@ behind_forth (End why) range rest ends = ap (λ (r : Result (Read Why) LineFault
 behind_forth Begin range rest ends = refl
 behind_forth _ range rest ends = refl
 
-pub ask_forth : (ask : AskValue) → IsAsk ask → (rest : List ℕ) → Ends rest → ask_read (32 ∷ ask_text ask ++ rest) ≡ Ok (record { value = ask; rest = rest })
+pub ask_forth : (ask : AskValue) → IsAsk ask → (rest : List ℕ) → Ends rest → ask_read (32 ∷ asked_text ask ++ rest) ≡ Ok (record { value = ask; rest = rest })
 ask_forth ask range rest ends =
     ap (λ (x : List ℕ). ask_read (32 ∷ x)) (ask_spelled ask rest)
     ∙ ap (λ (r : Result (Read AskWord) LineFault). r >>= (λ w. ask_behind w.value w.rest)) (next_forth ask_word_in ask_word (λ w. Unit {0}) ask_word_reader (word_of ask) tt (behind_text ask rest) (ask_ends ask rest ends))
@@ -168,7 +169,7 @@ behind_back ask_.End text r e =
     let made = same (record { value = End why.0.value; rest = why.0.rest }) r why.2 in
     by_value ask_.End text r (End why.0.value) (sym (ap (λ (x : Read AskValue). x.value) made)) (told.0 ∙ ap (λ (x : Read AskValue). spaced_by why_text why.0.value x.rest) made) refl told.1
 
-pub ask_back : (text : List ℕ) (r : Read AskValue) → ask_read text ≡ Ok r → (text ≡ 32 ∷ ask_text r.value ++ r.rest) × IsAsk r.value
+pub ask_back : (text : List ℕ) (r : Read AskValue) → ask_read text ≡ Ok r → (text ≡ 32 ∷ asked_text r.value ++ r.rest) × IsAsk r.value
 ask_back text r e =
     let word = bound (next ask_word_in text) (λ w. ask_behind w.value w.rest) r e in
     let first = next_back ask_word_in ask_word (λ w. Unit {0}) ask_word_reader text word.0 word.1 in

@@ -9,7 +9,7 @@ use Rattle.policy_model.specs.declared.event.Decision.TheVariants as decisions
 use Rattle.decision_log.specs.declared.logged.LineFault.{LineFault}
 use Rattle.decision_log.specs.declared.words.DecisionWord.{DecisionWord}
 use Rattle.decision_log.specs.declared.words.DecisionWord.TheVariants as decision_
-use Rattle.decision_log.specs.Log.{decision_text, value_text}
+use Rattle.decision_log.specs.LineTexts.{decided_text, shown_text}
 use Rattle.decision_log.specs.Parts.{Read, next, number_below, one, password_in, rule_in}
 use Rattle.decision_log.specs.Reading.{decision_behind, decision_read, decision_word_in, value_behind}
 use Rattle.decision_log.specs.Values.{AskValue, Begin, Banner, Challenge, Reply, Abandon, Export, Import, ReadAt, WriteAt, OpenFile, CloseFile, Info, Note, Finish, Bad, End, IsShown, IsValue}
@@ -44,7 +44,7 @@ value_rest (OpenFile mode name) value rest = spaced_by decimal value rest
 value_rest (Info number) value rest = spaced_by decimal value rest
 value_rest _ value rest = rest
 
-value_spelled : (ask : AskValue) (value : ℕ) (rest : List ℕ) → value_text ask value ++ rest ≡ value_rest ask value rest
+value_spelled : (ask : AskValue) (value : ℕ) (rest : List ℕ) → shown_text ask value ++ rest ≡ value_rest ask value rest
 value_spelled Begin value rest = refl
 value_spelled _ value rest = refl
 
@@ -112,7 +112,7 @@ behind_text ask (decisions.Permit value) rest = value_rest ask value rest
 behind_text ask (decisions.Deny rule detail) rest = spaced_by decimal rule (spaced_by decimal detail rest)
 behind_text ask decisions.Lost rest = rest
 
-decision_spelled : (session : ℕ) (ask : AskValue) (decision : Decision) (rest : List ℕ) → IsShown session ask decision → decision_text ask decision ++ rest ≡ decision_word (word_of decision) ++ behind_text ask decision rest
+decision_spelled : (session : ℕ) (ask : AskValue) (decision : Decision) (rest : List ℕ) → IsShown session ask decision → decided_text ask decision ++ rest ≡ decision_word (word_of decision) ++ behind_text ask decision rest
 unfolding decision_word
 decision_spelled session ask (decisions.Permit value) rest range = ap (λ (x : List ℕ). codes "permit" ++ x) (value_spelled ask value rest)
 decision_spelled session ask (decisions.Deny rule detail) rest range = ap (λ (x : List ℕ). codes "deny " ++ x) (append_assoc (decimal rule) (32 ∷ decimal detail) rest)
@@ -128,7 +128,7 @@ behind_forth session ask (decisions.Permit value) range rest ends = value_forth 
 behind_forth session ask (decisions.Deny rule detail) range rest ends = two_forth (rule_in 1 22) decimal IsRule (rules 1 22 (lit< tt)) (number_below (2 ^ 32)) decimal (Below (2 ^ 32)) (numbers (2 ^ 32) (lit≤ tt)) deny rule detail (range.0, range.1) range.2 rest ends
 behind_forth session ask decisions.Lost range rest ends = absurd range
 
-pub decision_forth : (session : ℕ) (ask : AskValue) (decision : Decision) → IsShown session ask decision → (rest : List ℕ) → Ends rest → decision_read session ask (32 ∷ decision_text ask decision ++ rest) ≡ Ok (record { value = decision; rest = rest })
+pub decision_forth : (session : ℕ) (ask : AskValue) (decision : Decision) → IsShown session ask decision → (rest : List ℕ) → Ends rest → decision_read session ask (32 ∷ decided_text ask decision ++ rest) ≡ Ok (record { value = decision; rest = rest })
 decision_forth session ask decision range rest ends =
     ap (λ (x : List ℕ). decision_read session ask (32 ∷ x)) (decision_spelled session ask decision rest range)
     ∙ ap (λ (r : Result (Read DecisionWord) LineFault). r >>= (λ w. decision_behind session ask w.value w.rest)) (next_forth decision_word_in decision_word (λ w. Unit {0}) decision_word_reader (word_of decision) tt (behind_text ask decision rest) (decision_ends ask decision rest ends))
@@ -151,7 +151,7 @@ behind_back session ask decision_.Deny text r e =
     let t = two_back (rule_in 1 22) decimal IsRule (rules 1 22 (lit< tt)) (number_below (2 ^ 32)) decimal (Below (2 ^ 32)) (numbers (2 ^ 32) (lit≤ tt)) deny text r e in
     by_value session ask decision_.Deny text r (deny t.a t.b) t.value t.spelled refl (t.range.0, t.range.1, t.range2)
 
-pub decision_back : (session : ℕ) (ask : AskValue) (text : List ℕ) (r : Read Decision) → decision_read session ask text ≡ Ok r → (text ≡ 32 ∷ decision_text ask r.value ++ r.rest) × IsShown session ask r.value
+pub decision_back : (session : ℕ) (ask : AskValue) (text : List ℕ) (r : Read Decision) → decision_read session ask text ≡ Ok r → (text ≡ 32 ∷ decided_text ask r.value ++ r.rest) × IsShown session ask r.value
 decision_back session ask text r e =
     let word = bound (next decision_word_in text) (λ w. decision_behind session ask w.value w.rest) r e in
     let first = next_back decision_word_in decision_word (λ w. Unit {0}) decision_word_reader text word.0 word.1 in

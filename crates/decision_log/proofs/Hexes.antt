@@ -2,6 +2,7 @@
 use Rattle.std.proofs.Common.{◌≡◌, ℕ, ◌*◌, ◌/◌, ◌%◌, ◌<◌, ◌≤◌, Bool, true, false, leb, ◌&&◌, List, [], ◌∷◌, length, take, Option, Some, None, Result, Ok, Err, refl, sym, ap, subst, ◌∙◌, arith}
 use Rattle.std.specs.Prelude.{MatchOption, MatchResult}
 use Rattle.std.specs.Bool.{then_some}
+use Rattle.std.specs.Char.{is_ascii_lowercase}
 use Rattle.std.specs.List.{list_all}
 use Rattle.std.specs.Result.{result_ok}
 use Rattle.std.specs.Str.{bytes_eq}
@@ -11,7 +12,7 @@ use Rattle.hex.specs.Hex.{decode_of, decode_sized, encode_lower, lower_digits}
 use Rattle.hex.proofs.HexLemmas.{decode_sized-twice, length-encode_with}
 use Rattle.std.proofs.lemmas.Bool.{and_parts, leb-true}
 use Rattle.request_catalogue.specs.Results.{demand, ◌>>=◌}
-use Rattle.request_catalogue.specs.Texts.{continues_label, is_label, is_lowercase, is_note, is_printable}
+use Rattle.request_catalogue.specs.Texts.{continues_label, is_label, is_note, is_printable}
 use Rattle.decision_log.specs.declared.logged.LineFault.TheVariants.{Hex}
 use Rattle.decision_log.specs.Parts.{IsNoHex, hex_in, hex_of, spelled_again}
 
@@ -92,8 +93,8 @@ pub label_few : (bytes : List ℕ) → is_label bytes ≡ true → length bytes 
 unfolding is_label
 label_few [] e = absurd cc
 label_few (c ∷ bytes) e =
-    let first = and_parts (leb (length (c ∷ bytes)) 64 && is_lowercase c) (list_all continues_label bytes) e in
-    leb-true (length (c ∷ bytes)) 64 (and_parts (leb (length (c ∷ bytes)) 64) (is_lowercase c) first.0).0
+    let first = and_parts (leb (length (c ∷ bytes)) 64 && is_ascii_lowercase c) (list_all continues_label bytes) e in
+    leb-true (length (c ∷ bytes)) 64 (and_parts (leb (length (c ∷ bytes)) 64) (is_ascii_lowercase c) first.0).0
 
 pub note_few : (bytes : List ℕ) → is_note bytes ≡ true → length bytes ≤ 64
 unfolding is_note

@@ -2,6 +2,7 @@
 use Rattle.std.proofs.Common.{◌≡◌, ℕ, zero, suc, ◌+◌, ◌/◌, ◌%◌, ◌^◌, ◌<◌, ◌≤◌, Bool, true, false, not, leb, ltb, eqb, cond, ◌&&◌, List, [], ◌∷◌, ◌++◌, length, Option, Some, None, Result, Ok, Err, refl, sym, ap, subst, ◌∙◌, arith, lit≤}
 use Rattle.std.specs.Prelude.{find, slice_index, ◌==◌}
 use Rattle.std.specs.Bool.{then_some}
+use Rattle.std.specs.Char.{is_ascii_lowercase}
 use Rattle.std.specs.Fmt.{decimal}
 use Rattle.std.specs.Int.{w64, from_be_bytes, to_be_bytes}
 use Rattle.std.specs.List.{list_all}
@@ -16,7 +17,7 @@ use Rattle.std.proofs.lemmas.Nat.{be_bytes_8, from_be_bytes-to_be_bytes_8}
 use Rattle.hex.specs.Hex.{IsBytes, encode_lower, encode_with, lower_digits}
 use Rattle.hex.proofs.HexLemmas.{decode_of-encode_lower, decode_of-ok, length-encode_with}
 use Rattle.request_catalogue.specs.Results.{demand, ◌>>=◌}
-use Rattle.request_catalogue.specs.Texts.{begins_name, continues_label, continues_name, is_label, is_lowercase, is_name, is_note, is_printable}
+use Rattle.request_catalogue.specs.Texts.{begins_name, continues_label, continues_name, is_label, is_name, is_note, is_printable}
 use Rattle.decision_log.specs.declared.logged.LineFault.{LineFault}
 use Rattle.decision_log.specs.declared.logged.LineFault.TheVariants as faults
 use Rattle.text_line.specs.Reading.{decimal_of}
@@ -173,11 +174,11 @@ label_fits : (bytes : List ℕ) → is_label bytes ≡ true → IsBytes bytes ×
 unfolding is_label
 label_fits [] e = absurd cc
 label_fits (c ∷ cs) e =
-    let both = and_parts (leb (length (c ∷ cs)) 64 && is_lowercase c) (list_all continues_label cs) e in
-    let first = and_parts (leb (length (c ∷ cs)) 64) (is_lowercase c) both.0 in
+    let both = and_parts (leb (length (c ∷ cs)) 64 && is_ascii_lowercase c) (list_all continues_label cs) e in
+    let first = and_parts (leb (length (c ∷ cs)) 64) (is_ascii_lowercase c) both.0 in
     (λ i. label_byte c cs first.1 both.1 i, omega arith)
   where
-    label_byte : (c : ℕ) (cs : List ℕ) → is_lowercase c ≡ true → list_all continues_label cs ≡ true → (i : ℕ) → slice_index (c ∷ cs) i < 256
+    label_byte : (c : ℕ) (cs : List ℕ) → is_ascii_lowercase c ≡ true → list_all continues_label cs ≡ true → (i : ℕ) → slice_index (c ∷ cs) i < 256
     label_byte c cs low all zero = grind (arith, nat_tests)
     label_byte c cs low all (suc i) = all_bytes continues_label (λ x h. grind (arith, nat_tests)) cs all i
 

@@ -7,4 +7,5 @@ pub mod Whys
 pub mod AskLines
 pub mod Decisions
 pub mod Lines
+pub mod EventLines
 pub mod Writable

@@ -1,17 +1,16 @@
 -- Lines, read and written.
-use Rattle.std.proofs.Common.{◌≡◌, ℕ, ◌^◌, ◌<◌, Bool, true, false, List, ◌∷◌, ◌++◌, codes, drop, length, take, Result, Ok, Err, refl, sym, ap, subst, ◌∙◌, append_assoc, lit≤}
+use Rattle.std.proofs.Common.{◌≡◌, ℕ, ◌^◌, ◌<◌, Bool, true, false, List, ◌∷◌, ◌++◌, codes, Result, Ok, Err, refl, sym, ap, subst, ◌∙◌, append_assoc, lit≤}
 use Rattle.std.specs.Bool.{then_some}
 use Rattle.std.specs.Prelude.{IfOk, IsOkAnd}
 use Rattle.std.specs.Fmt.{decimal}
 use Rattle.std.specs.Str.{bytes_eq}
-use Rattle.std.proofs.lemmas.List.{take_at}
 use Rattle.std.proofs.lemmas.Slice.Eq.{bytes_eq-Decides}
 use Rattle.request_catalogue.specs.Results.{demand, ◌>>=◌}
 use Rattle.policy_model.specs.declared.event.Decision.{Decision}
 use Rattle.decision_log.specs.declared.logged.Logged.{Logged}
 use Rattle.decision_log.specs.declared.logged.LineFault.{LineFault}
 use Rattle.decision_log.specs.declared.logged.LineFault.TheVariants as faults
-use Rattle.decision_log.specs.Log.{ask_text, decision_text, line_text}
+use Rattle.decision_log.specs.LineTexts.{asked_text, decided_text, line_text}
 use Rattle.decision_log.specs.Logged.{logged_value}
 use Rattle.decision_log.specs.Parts.{Gives, Read, lettered, next, number_below, part}
 use Rattle.decision_log.specs.Reading.{ask_read, decision_read, line_read}
@@ -34,10 +33,10 @@ with_letter letter n = letter ∷ decimal n
 
 -- what is behind each part, from the right
 abbrev after_ask : LineValue → List ℕ
-after_ask v = 32 ∷ decision_text v.ask v.decision ++ codes "\n"
+after_ask v = 32 ∷ decided_text v.ask v.decision ++ codes "\n"
 
 abbrev after_session : LineValue → List ℕ
-after_session v = 32 ∷ ask_text v.ask ++ after_ask v
+after_session v = 32 ∷ asked_text v.ask ++ after_ask v
 
 abbrev after_worker : LineValue → List ℕ
 after_worker v = 32 ∷ with_letter 115 v.session ++ after_session v
@@ -69,7 +68,7 @@ nine d w s a e =
 
 line_spelled : (v : LineValue) → line_text v ≡ decimal v.number ++ after_number v
 unfolding line_text
-line_spelled v = nine (decimal v.number) (decimal v.worker) (decimal v.session) (ask_text v.ask) (decision_text v.ask v.decision)
+line_spelled v = nine (decimal v.number) (decimal v.worker) (decimal v.session) (asked_text v.ask) (decided_text v.ask v.decision)
 
 -- what follows each part
 abbrev on_decision : ℕ → ℕ → ℕ → AskValue → Read Decision → Result LineValue LineFault
@@ -133,8 +132,8 @@ line_back text v e =
     ∙ ap (λ (x : List ℕ). decimal made.number ++ x) (worker.0
     ∙ ap (λ (x : List ℕ). 32 ∷ with_letter 119 made.worker ++ x) (session.0
     ∙ ap (λ (x : List ℕ). 32 ∷ with_letter 115 made.session ++ x) (ask.0
-    ∙ ap (λ (x : List ℕ). 32 ∷ ask_text made.ask ++ x) (decision.0
-    ∙ ap (λ (x : List ℕ). 32 ∷ decision_text made.ask made.decision ++ x) end.0))))
+    ∙ ap (λ (x : List ℕ). 32 ∷ asked_text made.ask ++ x) (decision.0
+    ∙ ap (λ (x : List ℕ). 32 ∷ decided_text made.ask made.decision ++ x) end.0))))
     ∙ sym (line_spelled made) in
     (subst IsLine end.1 is, spelled ∙ ap line_text end.1)
 
@@ -147,8 +146,3 @@ is_found text (Err fault) given = tt
 pub is_only : (text : List ℕ) (r : Result Logged LineFault) → Gives logged_value r (line_read text) → (v : LineValue) → IsLine v → text ≡ line_text v → IsOkAnd r (λ l. logged_value l ≡ v)
 is_only text (Ok l) given v range spelled = let again : line_read text ≡ Ok v = ap line_read spelled ∙ line_forth v range in cc
 is_only text (Err fault) given v range spelled = let again : line_read text ≡ Ok v = ap line_read spelled ∙ line_forth v range in absurd cc
-
--- a line that stands at the front is read
-pub is_read_back : (v : LineValue) → IsLine v → (n : ℕ) (out old : List ℕ) → n ≡ length (line_text v) → out ≡ line_text v ++ drop n old → line_read (take n out) ≡ Ok v
-is_read_back v range n out old len written =
-    ap (λ (x : List ℕ). line_read (take n x)) written ∙ ap line_read (take_at (line_text v) (drop n old) n (sym len)) ∙ line_forth v range

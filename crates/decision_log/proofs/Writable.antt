@@ -17,7 +17,8 @@ use Rattle.policy_model.specs.Legal.{IsLegal, IsNext, session_of}
 use Rattle.policy_model.specs.Phases.{is_over, phase_of, table_row}
 use Rattle.policy_model.specs.Runs.{IsProperEvent}
 use Rattle.policy_model.specs.Settings.{Settings}
-use Rattle.policy_model.specs.Verdict.{IsVerdict, allows, close_verdict, handle_verdict, kind_verdict, own_verdict, request_verdict, row_verdict, table_verdict, use_verdict, verdict_of}
+use Rattle.policy_model.specs.Verdict.{IsVerdict, allows, close_verdict, handle_verdict, kind_verdict, own_verdict, request_verdict, row_verdict, verdict_of}
+use Rattle.policy_model.specs.Cases.{table_verdict, use_verdict}
 use Rattle.policy_model.proofs.Lists.{filter-push}
 use Rattle.policy_model.proofs.Runs.{next_decision, next_session}
 use Rattle.policy_model.proofs.Verdicts.{session_of-begin, verdict_of-is}

@@ -1,5 +1,6 @@
 pub mod Values
 pub mod Log
+pub mod LineTexts
 pub mod Logged
 pub mod Words
 pub mod Parts

@@ -3,13 +3,15 @@ use Rattle.std.specs.Prelude.{ℕ, ◌+◌, List, [], ◌∷◌, ◌++◌, codes
 use Rattle.std.specs.Fmt.{decimal}
 use Rattle.std.specs.Int.{w64, to_be_bytes}
 use Rattle.hex.specs.Hex.{encode_lower}
+use Rattle.request_catalogue.specs.TextBytes.{label_bytes, name_bytes, note_bytes}
+use Rattle.policy_model.specs.declared.event.Ask.{Ask}
+use Rattle.policy_model.specs.declared.event.Ask.TheVariants as asks
 use Rattle.policy_model.specs.declared.event.Decision.{Decision}
 use Rattle.policy_model.specs.declared.event.Decision.TheVariants as decisions
 use Rattle.policy_model.specs.declared.event.Event.{Event}
 use Rattle.policy_model.specs.declared.event.Why.{Why}
 use Rattle.policy_model.specs.declared.event.Why.TheVariants as whys
 use Rattle.policy_model.specs.Journal.{kept_events}
-use Rattle.decision_log.specs.Values.{AskValue, Begin, Banner, Challenge, Reply, Abandon, Export, Import, ReadAt, WriteAt, OpenFile, CloseFile, Info, Note, Finish, Bad, End, LineValue, line_value}
 
 -- a space and a number
 abbrev pub spaced : ℕ → List ℕ
@@ -31,46 +33,42 @@ why_text whys.KeeperFault = codes "keeper-fault"
 why_text whys.LogLost = codes "log-lost"
 
 -- what was asked; a file's name and a note in hexadecimal
-abbrev pub ask_text : AskValue → List ℕ
-ask_text Begin = codes "open"
-ask_text Banner = codes "banner"
-ask_text (Challenge user now) = codes "challenge " ++ user ++ spaced now
-ask_text Reply = codes "reply"
-ask_text Abandon = codes "abandon"
-ask_text (Export len) = codes "export" ++ spaced len
-ask_text Import = codes "import"
-ask_text (ReadAt handle offset max) = codes "read" ++ spaced handle ++ spaced offset ++ spaced max
-ask_text (WriteAt handle offset len) = codes "write" ++ spaced handle ++ spaced offset ++ spaced len
-ask_text (OpenFile mode name) = codes "grant" ++ spaced mode ++ spaced_hex name
-ask_text (CloseFile handle) = codes "close" ++ spaced handle
-ask_text (Info number) = codes "info" ++ spaced number
-ask_text (Note text) = codes "note" ++ spaced_hex text
-ask_text Finish = codes "finish"
-ask_text (Bad rule detail) = codes "bad" ++ spaced rule ++ spaced detail
-ask_text (End why) = codes "end " ++ why_text why
+abbrev pub ask_text : Ask → List ℕ
+ask_text asks.Begin = codes "open"
+ask_text asks.Banner = codes "banner"
+ask_text (asks.Challenge user now) = codes "challenge " ++ name_bytes user ++ spaced now
+ask_text (asks.Reply words hex) = codes "reply"
+ask_text asks.Abandon = codes "abandon"
+ask_text (asks.Export len) = codes "export" ++ spaced len
+ask_text asks.Import = codes "import"
+ask_text (asks.ReadAt handle offset max) = codes "read" ++ spaced handle ++ spaced offset ++ spaced max
+ask_text (asks.WriteAt handle offset len) = codes "write" ++ spaced handle ++ spaced offset ++ spaced len
+ask_text (asks.OpenFile mode name) = codes "grant" ++ spaced mode ++ spaced_hex (label_bytes name)
+ask_text (asks.CloseFile handle) = codes "close" ++ spaced handle
+ask_text (asks.Info number) = codes "info" ++ spaced number
+ask_text (asks.Note text) = codes "note" ++ spaced_hex (note_bytes text)
+ask_text asks.Finish = codes "finish"
+ask_text (asks.Bad rule detail) = codes "bad" ++ spaced rule ++ spaced detail
+ask_text (asks.End why) = codes "end " ++ why_text why
 
 -- what a permit gives: a number, or the accepted password as 16 hexadecimal digits; of other asks nothing is shown
-abbrev pub value_text : AskValue → ℕ → List ℕ
-value_text (Challenge user now) value = spaced value
-value_text (Export len) value = spaced value
-value_text (OpenFile mode name) value = spaced value
-value_text (Info number) value = spaced value
-value_text Reply value = spaced_hex (to_be_bytes w64 value)
+abbrev pub value_text : Ask → ℕ → List ℕ
+value_text (asks.Challenge user now) value = spaced value
+value_text (asks.Export len) value = spaced value
+value_text (asks.OpenFile mode name) value = spaced value
+value_text (asks.Info number) value = spaced value
+value_text (asks.Reply words hex) value = spaced_hex (to_be_bytes w64 value)
 value_text _ value = []
 
 -- what was decided; a lost decision has no text
-abbrev pub decision_text : AskValue → Decision → List ℕ
+abbrev pub decision_text : Ask → Decision → List ℕ
 decision_text ask (decisions.Permit value) = codes "permit" ++ value_text ask value
 decision_text ask (decisions.Deny rule detail) = codes "deny" ++ spaced rule ++ spaced detail
 decision_text ask decisions.Lost = []
 
--- the text of a line: the number, the worker, the session, the ask and the decision
-unfoldable pub line_text : LineValue → List ℕ
-line_text v = decimal v.number ++ codes " w" ++ decimal v.worker ++ codes " s" ++ decimal v.session ++ codes " " ++ ask_text v.ask ++ codes " " ++ decision_text v.ask v.decision ++ codes "\n"
-
--- the line of the event with this number
-abbrev pub line_of : ℕ → Event → List ℕ
-line_of number e = line_text (line_value number e)
+-- the line of the event with this number: the number, the worker, the session, the ask and the decision
+unfoldable pub line_of : ℕ → Event → List ℕ
+line_of number e = decimal number ++ codes " w" ++ decimal e.worker ++ codes " s" ++ decimal e.session ++ codes " " ++ ask_text e.ask ++ codes " " ++ decision_text e.ask e.decision ++ codes "\n"
 
 -- the lines of events, where so many stand before them
 abbrev pub lines_after : ℕ → List Event → List ℕ

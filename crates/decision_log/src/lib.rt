@@ -1,5 +1,5 @@
 //! The log's lines, written and read: one for each event whose decision was not lost. Believe
-//! `specs/`; the book and the audit stand above.
+//! `specs/` but for `Logged.antt` and `LineTexts.antt`; the book and the audit stand above.
 #![tactic(auto)]
 
 mod logged;

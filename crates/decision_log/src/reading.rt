@@ -2,7 +2,7 @@
 
 ghost use Rattle.std.specs.Prelude.{◌≡◌, ◌^◌, IfOk, IsOkAnd};
 ghost use Rattle.policy_model.specs.declared.event.Decision.TheVariants.{Permit};
-ghost use Rattle.decision_log.specs.Log.{line_text};
+ghost use Rattle.decision_log.specs.LineTexts.{line_text};
 ghost use Rattle.decision_log.specs.Logged.{logged_ask, logged_value};
 ghost use Rattle.decision_log.specs.Parts.{Gives, next, number_below, one, rule_in, three, two};
 ghost use Rattle.decision_log.specs.Reading.{ask_behind, ask_read, decision_behind, decision_read, end_read, line_read, value_behind, why_behind, why_read};

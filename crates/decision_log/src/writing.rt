@@ -1,12 +1,13 @@
 //! Lines written.
 
 ghost use Rattle.std.specs.Prelude.{◌≡◌, ◌≤◌, ◌+◌, ◌++◌, Ok, codes, drop, length, take};
+ghost use Rattle.std.specs.Int.{w64, to_be_bytes};
 ghost use Rattle.arrayvec.specs.ArrayVec.{array_vec_len};
 ghost use Rattle.request_catalogue.specs.TextBytes.{label_bytes};
 ghost use Rattle.text_line.specs.Writing.{WritesUpTo};
-ghost use Rattle.decision_log.specs.Log.{ask_text, decision_text, line_of, line_text, spaced, spaced_hex, value_text, why_text};
+ghost use Rattle.decision_log.specs.Log.{ask_text, decision_text, line_of, spaced, spaced_hex, value_text, why_text};
 ghost use Rattle.decision_log.specs.Reading.{line_read};
-ghost use Rattle.decision_log.specs.Values.{IsLine, Reply, ask_value, line_value};
+ghost use Rattle.decision_log.specs.Values.{IsLine, line_value};
 
 use policy_model::{Ask, Decision, Event, Why};
 use request_catalogue::Label;
@@ -38,7 +39,7 @@ fn write_line(number: u32, event: &Event, out: &mut [u8]) -> usize
 }
 
 /// The line of the event with this number.
-#[tactic(auto, unfolding(crate::specs::Log::line_text))]
+#[tactic(auto, unfolding(crate::specs::Log::line_of))]
 fn line_of(number: u32, event: &Event) -> Line
     ensures { result.items ≡ line_of number event.now }
 {
@@ -87,7 +88,7 @@ fn put_spaced_hex(line: &mut Line, bytes: &[u8])
 /// Appends the eight bytes of a password as hexadecimal digits, behind a space.
 fn put_password(line: &mut Line, password: u64)
     requires { array_vec_len line.old + 17 ≤ LINE_MAX }
-    ensures { WritesUpTo 17 (value_text Reply password) line.old.items line.new.items }
+    ensures { WritesUpTo 17 (spaced_hex (to_be_bytes w64 password)) line.old.items line.new.items }
 {
     put(line, b" ");
     put_hex(line, &password.to_be_bytes());
@@ -153,7 +154,7 @@ fn put_grant(line: &mut Line, mode: u8, name: &Label)
 /// Appends what was asked.
 fn put_ask(line: &mut Line, ask: &Ask)
     requires { array_vec_len line.old + 150 ≤ LINE_MAX }
-    ensures { WritesUpTo 150 (ask_text (ask_value ask.now)) line.old.items line.new.items }
+    ensures { WritesUpTo 150 (ask_text ask.now) line.old.items line.new.items }
 {
     match ask {
         Ask::Begin => put(line, b"open"),
@@ -202,7 +203,7 @@ fn put_ask(line: &mut Line, ask: &Ask)
 /// Appends what a permit gives.
 fn put_value(line: &mut Line, ask: &Ask, value: u64)
     requires { array_vec_len line.old + 21 ≤ LINE_MAX }
-    ensures { WritesUpTo 21 (value_text (ask_value ask.now) value) line.old.items line.new.items }
+    ensures { WritesUpTo 21 (value_text ask.now value) line.old.items line.new.items }
 {
     match ask {
         Ask::Challenge { .. } | Ask::Export { .. } | Ask::OpenFile { .. } | Ask::Info { .. } => {
@@ -216,7 +217,7 @@ fn put_value(line: &mut Line, ask: &Ask, value: u64)
 /// Appends what was decided.
 fn put_decision(line: &mut Line, ask: &Ask, decision: &Decision)
     requires { array_vec_len line.old + 27 ≤ LINE_MAX }
-    ensures { WritesUpTo 27 (decision_text (ask_value ask.now) decision.now) line.old.items line.new.items }
+    ensures { WritesUpTo 27 (decision_text ask.now decision.now) line.old.items line.new.items }
 {
     match *decision {
         Decision::Permit { value } => {

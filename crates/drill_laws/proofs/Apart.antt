@@ -1,7 +1,7 @@
 -- No worker of a drill asks for another worker's user.
-use Rattle.std.proofs.Common.{◌≡◌, ℕ, ◌+◌, ◌*◌, ◌<◌, ◌≤◌, ◌⊎◌, Bool, true, false, ◌&&◌, cond, eqb, List, [], ◌∷◌, ◌++◌, length, get_or, map, Option, Some, None, option_to_list, refl, sym, ap, subst, ◌∙◌, arith, inl, inr, eq-eqb, lit<}
+use Rattle.std.proofs.Common.{◌≡◌, ℕ, ◌+◌, ◌<◌, ◌≤◌, ◌⊎◌, Bool, true, false, cond, eqb, List, [], ◌∷◌, ◌++◌, length, get_or, Option, Some, None, option_to_list, refl, sym, ap, subst, ◌∙◌, arith, inl, inr, eq-eqb, lit<}
 use Rattle.std.specs.Prelude.{codes, nat_lt, option_map, slice_get, unwrap_or, suc}
-use Rattle.std.specs.List.{AllByRecursion, flat_map, range_with_len}
+use Rattle.std.specs.List.{AllByRecursion, flat_map}
 use Rattle.std.proofs.lemmas.Bool.{and_parts, false≢true}
 use Rattle.std.proofs.lemmas.Fmt.{decimal_injective}
 use Rattle.std.proofs.lemmas.List.{append-nil}
@@ -16,17 +16,17 @@ use Rattle.request_catalogue.specs.Catalogue as requests
 use Rattle.outside.specs.declared.act.Role.{Role}
 use Rattle.outside.specs.declared.act.Role.TheVariants as roles
 use Rattle.outside.specs.Scene.{bytes_at, bytes_for}
-use Rattle.policy_model.specs.declared.event.Ask.{Ask}
-use Rattle.policy_model.specs.declared.event.Ask.TheVariants as asks
 use Rattle.policy_model.specs.declared.event.Event.{Event}
 use Rattle.policy_model.specs.declared.event.Why.{Why}
 use Rattle.policy_model.specs.declared.event.Why.TheVariants as whys
 use Rattle.policy_model.specs.declared.reading.TheConstants.{DECOYS_FROM}
-use Rattle.policy_model.specs.Asks.{is_challenge_for, is_permit, reserves, takes_user, value_of}
+use Rattle.policy_model.specs.Asks.{is_permit, reserves, takes_user, value_of}
+use Rattle.policy_model.specs.Cases.{is_challenge_for}
 use Rattle.policy_model.specs.Journal.{Place}
 use Rattle.session_laws.proofs.Permits.{same_from_same_name}
-use Rattle.service_model.specs.Parts.{HandsOver, EndsSession, IsPart, IsRequestStep, Part, requests_of, step_bytes}
-use Rattle.service_model.specs.Places.{Step, place_of, step_places, worker_places_after}
+use Rattle.service_model.specs.Parts.{IsRequestStep, Part, requests_of, step_bytes}
+use Rattle.service_model.specs.Places.{Step, step_places}
+use Rattle.service_model.specs.Cases.{place_of, worker_places_after}
 use Rattle.service_model.specs.Service.{Service}
 use Rattle.service_model.specs.Sittings.{AreParts, EndsFirst, Follows, IsSitting, Sitting, all_steps}
 use Rattle.service_model.specs.Stories.{ArePlanned, IsPlanned}
@@ -35,12 +35,12 @@ use Rattle.drill_plan.specs.declared.class.Class.{Class}
 use Rattle.drill_plan.specs.declared.class.Class.TheVariants.{LogsIn, Repeats, Exports, BreaksOff}
 use Rattle.drill_plan.specs.Classes.{class_of}
 use Rattle.drill_plan.specs.Passwords.{current_password, own_name, right_password, session_count}
-use Rattle.drill_plan.specs.Plan.{broken_header, drill_plan, early_bytes_by, requests_bytes, session_bytes}
+use Rattle.drill_plan.specs.Plan.{broken_header, drill_plan, requests_bytes, session_bytes}
 use Rattle.drill_plan.specs.Requests.{IsAskFor, early_requests_by, user_requests_by}
 use Rattle.drill_plan.proofs.Users.{is_own_name}
 use Rattle.drill_laws.proofs.Heard.{broken_short, said_part, sent_early, sent_user}
 use Rattle.drill_laws.proofs.Holding.{IsApart}
-use Rattle.drill_laws.proofs.Said.{AsksFirst, IsSent}
+use Rattle.drill_laws.proofs.Said.{AsksFirst}
 
 -- ---- the names of the table
 
@@ -187,7 +187,7 @@ pub own_places : (worker : ℕ) (steps : List Step) → AreOwn worker steps → 
 own_places worker [] all = tt
 own_places worker (step ∷ steps) all = (all.0, own_places worker steps all.1)
 
-behind_first : (worker : ℕ) (b : Bool) (p : Place) (places : List Place) → OwnPlaces worker (cond b (p ∷ []) [] ++ places) → OwnPlaces worker places
+behind_first : (worker : ℕ) (b : Bool) (p : Place) (places : List Place) → OwnPlaces worker (cond b (p ∷ places) places) → OwnPlaces worker places
 behind_first worker true p places all = all.1
 behind_first worker false p places all = all
 
@@ -196,7 +196,7 @@ all_apart [] before own below = tt
 all_apart (e ∷ events) before own below =
     let mine = own e.worker below.0 in
     let first : OwnPlaces e.worker (place_of before e ∷ worker_places_after e.worker (before ++ e ∷ []) events) =
-    subst (λ (b : Bool). OwnPlaces e.worker (cond b (place_of before e ∷ []) [] ++ worker_places_after e.worker (before ++ e ∷ []) events)) (eq-eqb e.worker e.worker refl) mine in (
+    subst (λ (b : Bool). OwnPlaces e.worker (cond b (place_of before e ∷ worker_places_after e.worker (before ++ e ∷ []) events) (worker_places_after e.worker (before ++ e ∷ []) events))) (eq-eqb e.worker e.worker refl) mine in (
       record { own = first.0.own },
       all_apart events (before ++ e ∷ []) (λ worker lt. behind_first worker (eqb e.worker worker) (place_of before e) (worker_places_after worker (before ++ e ∷ []) events) (own worker lt)) below.1,
     )

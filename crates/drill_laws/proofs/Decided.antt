@@ -1,10 +1,9 @@
 -- What is decided of the requests of a drill, by where their session stands.
-use Rattle.std.proofs.Common.{◌≡◌, ◌≢◌, ℕ, ◌+◌, ◌-◌, ◌<◌, ◌≤◌, Bool, true, false, not, ◌&&◌, ◌||◌, cond, eqb, nat_le, List, [], ◌∷◌, length, Option, Some, None, refl, sym, ap, subst, ◌∙◌, arith}
-use Rattle.std.specs.Prelude.{nat_lt, is_none, ◌==◌}
+use Rattle.std.proofs.Common.{◌≡◌, ◌≢◌, ℕ, ◌-◌, ◌<◌, Bool, true, false, not, ◌||◌, cond, eqb, nat_le, List, length, Option, Some, None, refl, sym, ap, ◌∙◌, arith}
+use Rattle.std.specs.Prelude.{is_none, ◌==◌}
 use Rattle.std.specs.List.{find, list_any}
 use Rattle.std.proofs.lemmas.Bool.Decides.{nat_tests}
 use Rattle.request_catalogue.specs.declared.kind.Kind.{Kind}
-use Rattle.request_catalogue.specs.declared.kind.Kind.TheVariants as kinds
 use Rattle.request_catalogue.specs.declared.texts.Label.{Label}
 use Rattle.request_catalogue.specs.declared.texts.Name.{Name}
 use Rattle.policy_model.specs.declared.account.Account.{Account}
@@ -12,17 +11,17 @@ use Rattle.policy_model.specs.declared.account.Grant.{Grant}
 use Rattle.policy_model.specs.declared.event.Ask.{Ask}
 use Rattle.policy_model.specs.declared.event.Ask.TheVariants as asks
 use Rattle.policy_model.specs.declared.event.Decision.{Decision}
-use Rattle.policy_model.specs.declared.event.Decision.TheVariants.{Permit, Deny, Lost}
+use Rattle.policy_model.specs.declared.event.Decision.TheVariants.{Permit, Deny}
 use Rattle.policy_model.specs.declared.event.Event.{Event}
 use Rattle.policy_model.specs.declared.phase.Phase.{Phase}
-use Rattle.policy_model.specs.declared.phase.Row.{Row}
-use Rattle.policy_model.specs.Asks.{came_by_frame, mode_of, is_denied_reply, is_permit, is_violation, kind_of, permits_kind, request_number}
+use Rattle.policy_model.specs.Asks.{came_by_frame, mode_of, is_denied_reply, is_permit, is_violation, kind_of}
 use Rattle.policy_model.specs.Handles.{free_handle_of, handle_opening, live_handles_of}
-use Rattle.policy_model.specs.Journal.{count_of, has_event, open_session_of}
+use Rattle.policy_model.specs.Journal.{count_of}
 use Rattle.policy_model.specs.Logins.{account_of, challenged_user, current_sequence, holder_of, is_live, last_taking_of, session_taking, verified_user, was_accepted, was_decoyed}
 use Rattle.policy_model.specs.Phases.{table_row}
 use Rattle.policy_model.specs.Settings.{Settings, same_label}
-use Rattle.policy_model.specs.Verdict.{account_named, allows, decoy_challenge, is_holder, account_verdict, challenge_verdict, close_verdict, decoy_verdict, grant_verdict, grants_of, handle_verdict, is_held, is_next_password, is_other, kind_verdict, login_verdict, matching_verdict, number_named, open_verdict, own_verdict, readings, readings_verdict, refused_verdict, reply_verdict, use_verdict, user_verdict, verdict_of}
+use Rattle.policy_model.specs.Verdict.{allows, decoy_challenge, account_verdict, challenge_verdict, close_verdict, handle_verdict, is_held, is_next_password, kind_verdict, open_verdict, own_verdict, readings, reply_verdict, verdict_of}
+use Rattle.policy_model.specs.Cases.{account_named, is_holder, grant_verdict, grants_of, is_other, login_verdict, matching_verdict, readings_verdict, use_verdict}
 use Rattle.policy_model.proofs.Runs.{next_decision}
 use Rattle.session_laws.specs.Judged.{cell_decision, is_over_phase, request_decision}
 use Rattle.session_laws.proofs.Judging.{cell_is, request_is}

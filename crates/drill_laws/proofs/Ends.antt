@@ -1,8 +1,7 @@
 -- How a drill's session ends, by what it asked and where it stood.
-use Rattle.std.proofs.Common.{◌≡◌, ◌≢◌, ℕ, ◌+◌, ◌<◌, ◌⊎◌, Bool, true, false, not, ◌&&◌, ◌||◌, cond, nat_le, List, [], ◌∷◌, ◌++◌, length, map, Option, Some, None, refl, sym, ap, subst, ◌∙◌, append_assoc, arith, inl, inr, lit<}
+use Rattle.std.proofs.Common.{◌≡◌, ℕ, ◌+◌, ◌<◌, ◌⊎◌, Bool, true, false, ◌&&◌, ◌||◌, nat_le, List, [], ◌∷◌, ◌++◌, length, map, Option, Some, None, refl, sym, ap, subst, ◌∙◌, append_assoc, arith, inl, inr, lit<}
 use Rattle.std.specs.List.{list_any}
 use Rattle.std.proofs.lemmas.Bool.{cases_Bool, false≢true}
-use Rattle.request_catalogue.specs.declared.kind.Kind.{Kind}
 use Rattle.request_catalogue.specs.declared.kind.Kind.TheVariants as kinds
 use Rattle.request_catalogue.specs.declared.texts.Name.{Name}
 use Rattle.request_catalogue.specs.TextBytes.{name_bytes}
@@ -14,16 +13,17 @@ use Rattle.policy_model.specs.declared.event.Decision.{Decision}
 use Rattle.policy_model.specs.declared.event.Decision.TheVariants.{Permit, Deny, Lost}
 use Rattle.policy_model.specs.declared.event.Event.{Event}
 use Rattle.policy_model.specs.declared.event.Why.{Why}
-use Rattle.policy_model.specs.declared.event.Why.TheVariants.{Finished, Truncated, Violation}
+use Rattle.policy_model.specs.declared.event.Why.TheVariants.{Finished, Violation}
 use Rattle.policy_model.specs.declared.phase.Phase.{Phase}
-use Rattle.policy_model.specs.declared.phase.Phase.TheVariants.{Pre, Challenged, Verified, User, Over}
-use Rattle.policy_model.specs.Asks.{accepts, came_by_frame, ends_session, exports, is_abandon, is_denied_reply, is_end, is_export, is_finish, is_lost, is_permit, is_reply, is_violation, kind_of as ask_kind, permits_kind, request_number}
+use Rattle.policy_model.specs.declared.phase.Phase.TheVariants.{Pre, Challenged, Verified, User}
+use Rattle.policy_model.specs.Asks.{accepts, came_by_frame, ends_session, exports, is_end, is_lost, is_permit, is_violation, kind_of as ask_kind, permits_kind, request_number}
+use Rattle.policy_model.specs.Cases.{is_finish, is_other}
 use Rattle.policy_model.specs.Journal.{Place, has_lost}
 use Rattle.policy_model.specs.Legal.{IsLegal}
 use Rattle.policy_model.specs.Logins.{holder_of}
 use Rattle.policy_model.specs.Phases.{table_row}
 use Rattle.policy_model.specs.Settings.{Settings}
-use Rattle.policy_model.specs.Verdict.{is_other, kind_verdict}
+use Rattle.policy_model.specs.Verdict.{kind_verdict}
 use Rattle.session_laws.specs.Judged.{cell_decision, is_free_ask, is_over_phase}
 use Rattle.session_laws.specs.Phased.{phase_after}
 use Rattle.session_laws.proofs.Judging.{free_is}
@@ -31,10 +31,10 @@ use Rattle.session_laws.proofs.Permits.{permit_value}
 use Rattle.service_model.specs.Parts.{why_of}
 use Rattle.service_model.specs.Places.{Step, step_places}
 use Rattle.drill_plan.specs.declared.class.Class.TheVariants.{LogsIn}
-use Rattle.drill_plan.specs.Drill.{AreAsked, drill_end}
+use Rattle.drill_plan.specs.Drill.{drill_end}
 use Rattle.drill_plan.specs.Requests.{IsAskFor}
 use Rattle.drill_laws.proofs.Decided.{IsMild, decided, exported, mild_challenge, mild_close, mild_open, mild_read, mild_reply, mild_write, taken}
-use Rattle.drill_laws.proofs.Walk.{At, Comes, Next, Stands, State, after, goes_on, next_place, start, stays}
+use Rattle.drill_laws.proofs.Walk.{At, Next, Stands, State, after, goes_on, next_place, start, stays}
 
 -- ---- what was heard of a session
 

@@ -1,16 +1,14 @@
 -- What one child asked of its table, and how its part ended.
-use Rattle.std.proofs.Common.{◌≡◌, ◌≢◌, ℕ, ◌+◌, ◌^◌, ◌<◌, ◌≤◌, Bool, true, false, List, [], ◌∷◌, ◌++◌, length, map, take, Option, Some, None, option_to_list, refl, sym, ap, subst, ◌∙◌, append_assoc, arith, inl, inr, lit<, lit≤}
-use Rattle.std.specs.Prelude.{codes, MatchBool}
+use Rattle.std.proofs.Common.{◌≡◌, ◌≢◌, ℕ, ◌<◌, ◌≤◌, true, false, List, [], ◌∷◌, ◌++◌, length, map, Option, Some, None, option_to_list, refl, sym, ap, subst, ◌∙◌, append_assoc, arith, inl, inr, lit<, lit≤}
+use Rattle.std.specs.Prelude.{codes}
 use Rattle.std.specs.List.{AllByRecursion}
-use Rattle.std.proofs.lemmas.Bool.{false≢true}
-use Rattle.std.proofs.lemmas.List.{append-nil, length-append, length-take-le}
+use Rattle.std.proofs.lemmas.List.{append-nil, length-append}
 use Rattle.request_catalogue.specs.declared.width.Width.{Width}
 use Rattle.request_catalogue.specs.declared.width.Width.TheVariants.{Narrow}
 use Rattle.request_catalogue.specs.Catalogue.{RequestValue, payload_of}
-use Rattle.request_catalogue.specs.Catalogue as requests
 use Rattle.request_catalogue.specs.Texts.{is_label, is_name}
-use Rattle.imsg_frame.specs.Cut.{IsBadFront, IsPartialFront, IsWholeFront}
 use Rattle.imsg_frame.specs.Message.{header_bytes, spelling_of}
+use Rattle.imsg_frame.specs.Requests.{request_message}
 use Rattle.imsg_frame.specs.Fields.{len_bytes}
 use Rattle.imsg_frame.proofs.Fronts.{IsBadFront-append, whole_not_bad, whole_not_partial}
 use Rattle.imsg_frame.proofs.Spelling.{length-spelling_of}
@@ -19,13 +17,14 @@ use Rattle.policy_model.specs.declared.event.Event.{Event}
 use Rattle.policy_model.specs.declared.event.Why.{Why}
 use Rattle.policy_model.specs.declared.event.Why.TheVariants as whys
 use Rattle.policy_model.specs.Asks.{ends_session, exports}
-use Rattle.service_model.specs.Parts.{IsRequestStep, EndsAlone, EndsSession, EndsSo, GoesOn, IsPart, Part, by_link, requests_of, step_bytes, why_of}
+use Rattle.service_model.specs.Parts.{IsRequestStep, EndsAlone, EndsSession, EndsSo, GoesOn, IsPart, Part, requests_of, step_bytes, why_of}
+use Rattle.service_model.specs.Cases.{by_link}
 use Rattle.service_model.specs.Places.{Step}
 use Rattle.service_model.specs.Service.{Service}
 use Rattle.drill_plan.specs.declared.class.Class.{Class}
 use Rattle.drill_plan.specs.declared.class.Class.TheVariants.{LogsIn, Repeats, Exports, BreaksOff}
 use Rattle.drill_plan.specs.Drill.{AreAsked}
-use Rattle.drill_plan.specs.Plan.{broken_header, request_bytes, request_message, requests_bytes}
+use Rattle.drill_plan.specs.Plan.{broken_header, request_bytes, requests_bytes}
 use Rattle.drill_plan.specs.Requests.{early_requests_by, least_record, user_requests_by}
 use Rattle.drill_laws.proofs.Ends.{Heard, IsLast}
 use Rattle.drill_laws.proofs.Said.{AsksFirst, IsSent, Said, is_message, said}

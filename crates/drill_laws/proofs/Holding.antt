@@ -1,5 +1,5 @@
 -- A drill's users are held by the open sessions of their own workers alone.
-use Rattle.std.proofs.Common.{◌≡◌, ◌≢◌, ℕ, ◌+◌, ◌<◌, Bool, true, false, not, ◌&&◌, ◌||◌, cond, eqb, List, [], ◌∷◌, ◌++◌, Option, Some, None, refl, sym, ap, subst, ◌∙◌, arith, inl, inr, eq-eqb}
+use Rattle.std.proofs.Common.{◌≡◌, ◌≢◌, ℕ, ◌<◌, Bool, true, false, ◌&&◌, ◌||◌, cond, List, [], ◌∷◌, ◌++◌, Option, Some, None, refl, sym, ap, subst, ◌∙◌, inl, inr}
 use Rattle.std.specs.Prelude.{nat_lt}
 use Rattle.std.specs.List.{AllByRecursion}
 use Rattle.std.proofs.lemmas.Bool.{and_parts, cases_eq, cases_Bool, false≢true}
@@ -7,23 +7,21 @@ use Rattle.request_catalogue.specs.declared.texts.Name.{Name}
 use Rattle.request_catalogue.specs.TextBytes.{name_bytes}
 use Rattle.policy_model.specs.declared.event.Ask.{Ask}
 use Rattle.policy_model.specs.declared.event.Ask.TheVariants as asks
-use Rattle.policy_model.specs.declared.event.Decision.{Decision}
 use Rattle.policy_model.specs.declared.event.Event.{Event}
-use Rattle.policy_model.specs.declared.phase.Phase.{Phase}
 use Rattle.policy_model.specs.declared.phase.Phase.TheVariants.{Challenged, Over}
 use Rattle.policy_model.specs.declared.reading.TheConstants.{DECOYS_FROM}
-use Rattle.policy_model.specs.Asks.{came_by_frame, ends_session, gives_up, is_begin, is_challenge_for, is_end, is_finish, is_lost, is_permit, is_violation, leaves, opens, reserves, takes_user, value_of}
+use Rattle.policy_model.specs.Asks.{came_by_frame, ends_session, gives_up, is_begin, is_end, is_lost, is_permit, is_violation, leaves, opens, reserves, takes_user, value_of}
+use Rattle.policy_model.specs.Cases.{is_challenge_for, is_finish}
 use Rattle.policy_model.specs.Journal.{is_own, open_session_of}
 use Rattle.policy_model.specs.Legal.{IsLegal, session_of}
 use Rattle.policy_model.specs.Logins.{holder_of}
 use Rattle.policy_model.specs.Phases.{phase_of}
 use Rattle.policy_model.specs.Settings.{Settings}
-use Rattle.policy_model.specs.Verdict.{is_other, verdict_of}
+use Rattle.policy_model.specs.Verdict.{verdict_of}
 use Rattle.policy_model.proofs.Runs.{next_decision, next_session, no_begin, stays_open}
 use Rattle.policy_model.proofs.Verdicts.{denied_begin}
 use Rattle.session_laws.specs.Tied.{holder_after}
-use Rattle.session_laws.proofs.ByEvents.{by_legal_events}
-use Rattle.session_laws.proofs.Holders.{holder_of-none, holder_of-other, holder_of-taken, legal_tied}
+use Rattle.session_laws.proofs.Holders.{holder_of-other, holder_of-taken, legal_tied}
 use Rattle.session_laws.proofs.Openings.{legal_numbered, open_session-kept, open_session-other, phase_of-zero, session_own}
 use Rattle.session_laws.proofs.Settling.{reserves_live}
 use Rattle.session_laws.proofs.SessionEvents.{own_is}

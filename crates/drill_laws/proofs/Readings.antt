@@ -1,10 +1,9 @@
 -- A password's digits are read as the password, and as no words.
-use Rattle.std.proofs.Common.{◌≡◌, ℕ, zero, suc, ◌/◌, ◌%◌, ◌<◌, Bool, true, false, not, ◌&&◌, List, [], ◌∷◌, ◌++◌, length, slice_index, filter, Option, Some, None, Result, lit<, ◌≤◌, refl, sym, ap, subst, ◌∙◌, arith}
+use Rattle.std.proofs.Common.{◌≡◌, ℕ, zero, suc, ◌/◌, ◌%◌, ◌<◌, Bool, true, not, List, [], ◌∷◌, ◌++◌, length, slice_index, filter, Option, Some, None, Result, lit<, ◌≤◌, refl, sym, ap, ◌∙◌, arith}
 use Rattle.std.specs.Int.{w64, byte_at, bytes_high_first, from_be_bytes, to_be_bytes}
 use Rattle.std.specs.List.{list_all}
 use Rattle.std.specs.Option.{option_map}
 use Rattle.std.specs.Result.{result_ok}
-use Rattle.std.specs.Prelude.{IfSome}
 use Rattle.std.proofs.lemmas.Bool.{and_from, and_parts, false≢true}
 use Rattle.std.proofs.lemmas.List.Folds.{list_all-append}
 use Rattle.std.proofs.lemmas.Nat.{be_bytes_8}
@@ -15,7 +14,7 @@ use Rattle.otp_words.specs.Candidates.{AreCandidatesOf}
 use Rattle.otp_words.specs.Hex.{hex_reading}
 use Rattle.otp_words.specs.Words.{IsSixWords, IsWords}
 use Rattle.hex.specs.declared.error.FromHexError.{FromHexError}
-use Rattle.drill_plan.specs.Requests.{password_text}
+use Rattle.policy_model.specs.Settings.{password_text}
 
 no_blank : (d : ℕ) → d < 16 → is_no_blank (slice_index lower_digits d) ≡ true
 no_blank zero lt = refl

@@ -1,32 +1,34 @@
 -- What a child's bytes are, that are requests of a drill one behind the other: what it asked of them.
-use Rattle.std.proofs.Common.{◌≡◌, ℕ, ◌+◌, ◌^◌, ◌<◌, ◌≤◌, List, [], ◌∷◌, ◌++◌, length, Option, Some, None, Result, Ok, Err, refl, sym, ap, subst, ◌∙◌, append_assoc, arith, lit<, lit≤, Bool, true, false, ◌&&◌}
-use Rattle.std.specs.Prelude.{IsSomeAnd, IsTrue, MatchResult, nat_le}
-use Rattle.std.specs.List.{AllByRecursion, flat_map, list_all}
+use Rattle.std.proofs.Common.{◌≡◌, ℕ, ◌^◌, ◌<◌, ◌≤◌, List, [], ◌∷◌, ◌++◌, length, Option, Some, None, Result, Ok, refl, sym, ap, subst, ◌∙◌, append_assoc, arith, lit<, lit≤, Bool, true, ◌&&◌}
+use Rattle.std.specs.Prelude.{IsSomeAnd, MatchResult, nat_le}
+use Rattle.std.specs.Char.{is_ascii_lowercase}
+use Rattle.std.specs.List.{AllByRecursion, list_all}
 use Rattle.std.proofs.lemmas.Bool.{and_parts, false≢true, leb-true}
 use Rattle.std.proofs.lemmas.List.{length-append}
 use Rattle.request_catalogue.specs.declared.width.Width.TheVariants.{Narrow}
 use Rattle.request_catalogue.specs.declared.request.Bad.{Bad}
-use Rattle.request_catalogue.specs.declared.texts.Label.{Label}
-use Rattle.request_catalogue.specs.declared.texts.Name.{Name}
 use Rattle.request_catalogue.specs.Catalogue.{IsInRange, IsRequest, RequestValue, kind_of, payload_of}
 use Rattle.request_catalogue.specs.Catalogue as requests
 use Rattle.request_catalogue.specs.Kinds.{kind_number}
 use Rattle.request_catalogue.specs.Reading.{request_of}
-use Rattle.request_catalogue.specs.Texts.{begins_name, continues_label, continues_name, is_label, is_lowercase, is_name, is_typed, is_typed_reply, is_word}
+use Rattle.request_catalogue.specs.Texts.{begins_name, continues_label, continues_name, is_label, is_name, is_typed, is_typed_reply, is_word}
 use Rattle.request_catalogue.specs.Widths.{frame_max}
 use Rattle.otp_words.specs.Candidates.{AreCandidatesOf}
 use Rattle.request_catalogue.proofs.Messages.{IsRequest-request_of}
 use Rattle.imsg_frame.specs.Message.{IsMessage, Message, spelling_of}
+use Rattle.imsg_frame.specs.Requests.{request_message}
 use Rattle.imsg_frame.proofs.Fronts.{FitsFields-composed}
 use Rattle.imsg_frame.proofs.Spelling.{length-spelling_of, one_message}
 use Rattle.policy_model.specs.declared.event.Ask.{Ask}
 use Rattle.policy_model.specs.declared.event.Ask.TheVariants as asks
-use Rattle.service_model.specs.Parts.{IsRequestStep, message_bytes, step_bytes}
+use Rattle.policy_model.specs.Settings.{password_text}
+use Rattle.service_model.specs.Parts.{IsRequestStep, step_bytes}
+use Rattle.service_model.specs.Cases.{message_bytes}
 use Rattle.service_model.specs.Places.{Step}
 use Rattle.service_model.specs.Requests.{Asks, CameBy, IsAskOf}
 use Rattle.service_model.specs.Service.{Service}
-use Rattle.drill_plan.specs.Plan.{request_bytes, request_message, requests_bytes}
-use Rattle.drill_plan.specs.Requests.{IsAskFor, password_text}
+use Rattle.drill_plan.specs.Plan.{request_bytes, requests_bytes}
+use Rattle.drill_plan.specs.Requests.{IsAskFor}
 use Rattle.drill_plan.proofs.Texts.{is_password_text}
 use Rattle.drill_laws.proofs.Readings.{number_of, readings, same_text}
 
@@ -86,7 +88,7 @@ name_short user is = word_short 32 begins_name continues_name user is
 
 label_short : (name : List ℕ) → is_label name ≡ true → length name ≤ 64
 unfolding is_label
-label_short name is = word_short 64 is_lowercase continues_label name is
+label_short name is = word_short 64 is_ascii_lowercase continues_label name is
 
 -- a request's message is one
 short_payload : (request : RequestValue) → IsSent request → length (payload_of request) ≤ 16368

@@ -1,12 +1,11 @@
 -- One session of a drill: what it asked and how it ended.
-use Rattle.std.proofs.Common.{◌≡◌, ◌≢◌, ℕ, ◌+◌, ◌*◌, ◌<◌, ◌≤◌, Bool, true, false, ◌&&◌, ◌||◌, List, [], ◌∷◌, ◌++◌, length, map, Option, Some, None, option_to_list, refl, sym, ap, subst, ◌∙◌, append_assoc, arith, inl, inr, lit<, lit≤}
-use Rattle.std.specs.Prelude.{IsSomeAnd, codes, slice_get}
+use Rattle.std.proofs.Common.{◌≡◌, ◌≢◌, ℕ, ◌+◌, ◌<◌, Bool, true, false, ◌&&◌, ◌||◌, List, [], ◌∷◌, ◌++◌, Option, Some, None, option_to_list, refl, sym, ap, subst, ◌∙◌, append_assoc, lit<}
+use Rattle.std.specs.Prelude.{IsSomeAnd, codes}
 use Rattle.std.specs.List.{AllByRecursion, flat_map, list_any}
 use Rattle.std.proofs.lemmas.Bool.{and_parts, false≢true}
 use Rattle.std.proofs.lemmas.List.{append-nil, map-append}
 use Rattle.request_catalogue.specs.declared.kind.Kind.TheVariants as kinds
 use Rattle.request_catalogue.specs.declared.width.Width.TheVariants.{Narrow}
-use Rattle.request_catalogue.specs.declared.texts.Name.{Name}
 use Rattle.request_catalogue.specs.Catalogue.{RequestValue}
 use Rattle.request_catalogue.specs.Catalogue as requests
 use Rattle.outside.specs.declared.act.Role.{Role}
@@ -21,33 +20,33 @@ use Rattle.policy_model.specs.declared.event.Why.{Why}
 use Rattle.policy_model.specs.declared.event.Why.TheVariants as whys
 use Rattle.policy_model.specs.declared.phase.Phase.{Phase}
 use Rattle.policy_model.specs.declared.phase.Phase.TheVariants.{Pre, Challenged, Verified, User, Over}
-use Rattle.policy_model.specs.Asks.{accepts, came_by_frame, ends_session, exports, is_end, is_export, is_finish, is_lost, is_permit, is_violation, value_of}
+use Rattle.policy_model.specs.Asks.{accepts, ends_session, exports, is_end, is_lost, is_permit, is_violation, value_of}
+use Rattle.policy_model.specs.Cases.{is_export, is_finish, account_named}
 use Rattle.policy_model.specs.Journal.{Place, has_lost}
 use Rattle.policy_model.specs.Legal.{IsLegal}
-use Rattle.policy_model.specs.Logins.{account_of}
 use Rattle.policy_model.specs.Phases.{phase_of, table_row}
 use Rattle.policy_model.specs.Settings.{Settings}
-use Rattle.policy_model.specs.Verdict.{account_named}
 use Rattle.policy_model.proofs.Legal.{IsLegal-push}
 use Rattle.session_laws.proofs.LoggedIn.{legal_verified}
 use Rattle.session_laws.proofs.Permits.{permit_value, permitted_export}
-use Rattle.service_model.specs.Parts.{EndsSession, EndsSo, GoesOn, HandsOver, IsPart, Part, by_link, exported_by, requests_of}
+use Rattle.service_model.specs.Parts.{EndsSession, EndsSo, GoesOn, HandsOver, IsPart, Part, exported_by, requests_of}
 use Rattle.service_model.specs.Places.{Step, step_places}
 use Rattle.service_model.specs.Service.{Service}
 use Rattle.service_model.specs.Sittings.{AreParts, ChangesUser, EndsFirst}
-use Rattle.service_model.specs.Users.{role_of, user_at, user_role}
+use Rattle.service_model.specs.Users.{user_at, user_role}
+use Rattle.service_model.specs.Cases.{role_of, by_link}
 use Rattle.drill_plan.specs.declared.class.Class.{Class}
 use Rattle.drill_plan.specs.declared.class.Class.TheVariants.{LogsIn, Repeats, Exports, BreaksOff}
 use Rattle.drill_plan.specs.Classes.{class_of}
 use Rattle.drill_plan.specs.Drill.{AreAsked, drill_end}
 use Rattle.drill_plan.specs.Passwords.{current_password, own_name, right_password, session_count}
-use Rattle.drill_plan.specs.Plan.{broken_header, drill_plan, early_bytes_by, requests_bytes, session_bytes}
-use Rattle.drill_plan.specs.Requests.{IsAskFor, drill_requests, early_requests_by, user_requests_by}
+use Rattle.drill_plan.specs.Plan.{broken_header, drill_plan, requests_bytes, session_bytes}
+use Rattle.drill_plan.specs.Requests.{early_requests_by, user_requests_by}
 use Rattle.drill_plan.proofs.Users.{is_own_name}
-use Rattle.drill_laws.proofs.Apart.{Taken, entry_bytes, plan_entry}
+use Rattle.drill_laws.proofs.Apart.{entry_bytes, plan_entry}
 use Rattle.drill_laws.proofs.Ends.{Heard, IsFree, breaks_off_end, export_refused, exports_end, file_is_used, logs_in_end, none_is_left, repeats_end}
 use Rattle.drill_laws.proofs.Heard.{alone_of, asked_heard, asked_longer, broken_alone, broken_short, events_in, heard_join, heard_part, said_part, sent_early, sent_user}
-use Rattle.drill_laws.proofs.Said.{AsksFirst, IsSent, Said}
+use Rattle.drill_laws.proofs.Said.{AsksFirst}
 use Rattle.drill_laws.proofs.Walk.{At, Comes, Next, Stands, next_place, start}
 
 -- what is said of a session of a class: its asks are the table's, and it ended as the drill says

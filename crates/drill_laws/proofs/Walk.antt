@@ -1,19 +1,15 @@
 -- A worker's open session from one event of the worker to the next.
-use Rattle.std.proofs.Common.{◌≡◌, ◌≢◌, ℕ, ◌+◌, ◌<◌, ◌≤◌, Bool, true, false, ◌&&◌, ◌||◌, cond, eqb, List, [], ◌∷◌, ◌++◌, length, get_or, take, refl, sym, ap, subst, ◌∙◌, append_assoc, arith, inl, inr, eq-eqb}
-use Rattle.std.specs.List.{AllByRecursion, list_any}
+use Rattle.std.proofs.Common.{◌≡◌, ◌≢◌, ℕ, ◌+◌, ◌<◌, Bool, true, false, ◌&&◌, ◌||◌, cond, eqb, List, [], ◌∷◌, ◌++◌, length, get_or, refl, sym, ap, subst, ◌∙◌, append_assoc, arith, eq-eqb}
 use Rattle.std.proofs.lemmas.Bool.{eqb-true}
-use Rattle.std.proofs.lemmas.Bool.Decides.{nat_tests}
 use Rattle.std.proofs.lemmas.List.{take_at, length-append}
 use Rattle.std.proofs.Math.Seq.{get_or-append_seam}
-use Rattle.service_model.specs.Places.{place_of, worker_places_after}
+use Rattle.service_model.specs.Cases.{place_of, worker_places_after}
 use Rattle.request_catalogue.specs.declared.kind.Kind.{Kind}
-use Rattle.policy_model.specs.declared.event.Ask.{Ask}
-use Rattle.policy_model.specs.declared.event.Ask.TheVariants as asks
 use Rattle.policy_model.specs.declared.event.Event.{Event}
 use Rattle.policy_model.specs.declared.phase.Phase.{Phase}
 use Rattle.policy_model.specs.declared.phase.Phase.TheVariants.{Pre}
-use Rattle.policy_model.specs.Asks.{came_by_frame, is_begin, is_denied_reply, is_lost, is_permit, opens, permits_kind}
-use Rattle.policy_model.specs.Journal.{Place, ask_count, count_of, has_event, has_lost, open_session_of, openings_of}
+use Rattle.policy_model.specs.Asks.{came_by_frame, is_denied_reply, is_lost, is_permit, opens, permits_kind}
+use Rattle.policy_model.specs.Journal.{Place, ask_count, count_of, has_event, has_lost, open_session_of}
 use Rattle.policy_model.specs.Legal.{IsLegal, IsNext}
 use Rattle.policy_model.specs.Phases.{phase_of}
 use Rattle.policy_model.specs.Settings.{Settings}
@@ -158,7 +154,7 @@ module _ (setup : Settings) (journal : List Event) (worker : ℕ) (legal : IsLeg
     longer : journal ≡ (before ++ e ∷ []) ++ rest
     longer = parts ∙ sym (append_assoc before (e ∷ []) rest)
 
-    by_worker : (b : Bool) → eqb e.worker worker ≡ b → cond b (place_of before e ∷ []) [] ++ worker_places_after worker (before ++ e ∷ []) rest ≡ p ∷ places
+    by_worker : (b : Bool) → eqb e.worker worker ≡ b → cond b (place_of before e ∷ worker_places_after worker (before ++ e ∷ []) rest) (worker_places_after worker (before ++ e ∷ []) rest) ≡ p ∷ places
         → (e.worker ≢ worker → worker_places_after worker (before ++ e ∷ []) rest ≡ p ∷ places → Next setup journal worker P p places) → Next setup journal worker P p places
     by_worker true its are' others =
         let here : place_of before e ≡ p = cc in

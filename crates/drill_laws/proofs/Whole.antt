@@ -1,14 +1,11 @@
 -- All sessions of a drill's workers.
-use Rattle.std.proofs.Common.{◌≡◌, ◌≢◌, ℕ, zero, suc, ◌+◌, ◌*◌, ◌<◌, ◌≤◌, Bool, true, false, not, ◌&&◌, ◌||◌, cond, eqb, List, [], ◌∷◌, ◌++◌, length, map, Option, Some, None, option_to_list, refl, sym, ap, subst, ◌∙◌, append_assoc, arith, inl, inr, lit<, lit≤, filter, count_by, eq-eqb}
+use Rattle.std.proofs.Common.{◌≡◌, ◌≢◌, ℕ, zero, suc, ◌+◌, ◌<◌, ◌≤◌, Bool, true, false, not, ◌&&◌, ◌||◌, cond, eqb, List, [], ◌∷◌, ◌++◌, length, map, Option, Some, None, option_to_list, refl, sym, ap, subst, ◌∙◌, append_assoc, arith, filter, count_by, eq-eqb}
 use Rattle.std.specs.Prelude.{slice_get}
 use Rattle.std.specs.List.{AllByRecursion, flat_map, list_any}
-use Rattle.std.proofs.lemmas.Bool.{eqb-true, false≢true}
+use Rattle.std.proofs.lemmas.Bool.{false≢true}
 use Rattle.std.proofs.lemmas.Bool.Decides.{nat_tests}
-use Rattle.std.proofs.lemmas.List.{append-nil, map-append, length-map}
-use Rattle.request_catalogue.specs.declared.texts.Name.{Name}
+use Rattle.std.proofs.lemmas.List.{map-append, length-map}
 use Rattle.request_catalogue.specs.declared.width.Width.TheVariants.{Narrow}
-use Rattle.request_catalogue.specs.TextBytes.{name_bytes}
-use Rattle.policy_model.specs.declared.event.Ask.{Ask}
 use Rattle.policy_model.specs.declared.event.Ask.TheVariants as asks
 use Rattle.policy_model.specs.declared.event.Decision.TheVariants.{Permit}
 use Rattle.policy_model.specs.declared.event.Event.{Event}
@@ -20,7 +17,8 @@ use Rattle.policy_model.specs.Legal.{IsLegal, IsNext}
 use Rattle.policy_model.specs.Logins.{holder_of}
 use Rattle.policy_model.specs.Runs.{IsOfWorker}
 use Rattle.policy_model.specs.Settings.{Settings}
-use Rattle.policy_model.specs.Verdict.{is_other, verdict_of}
+use Rattle.policy_model.specs.Verdict.{verdict_of}
+use Rattle.policy_model.specs.Cases.{is_other}
 use Rattle.policy_model.proofs.Legal.{IsLegal-none, IsLegal-push}
 use Rattle.policy_model.proofs.Runs.{next_decision}
 use Rattle.policy_model.proofs.Verdicts.{verdict_of-end}
@@ -28,10 +26,11 @@ use Rattle.session_laws.proofs.ByEvents.{by_legal_events}
 use Rattle.session_laws.proofs.Holders.{holder_of-none}
 use Rattle.service_model.specs.Ends.{is_fault_end}
 use Rattle.service_model.specs.Parts.{IsRequestStep, Part, requests_of}
-use Rattle.service_model.specs.Places.{Step, place_of, step_places, worker_places, worker_places_after}
+use Rattle.service_model.specs.Places.{Step, step_places}
+use Rattle.service_model.specs.Cases.{place_of, worker_places_after}
 use Rattle.service_model.specs.Service.{Service}
 use Rattle.service_model.specs.Sittings.{Follows, IsOpening, IsSitting, Sitting, all_steps}
-use Rattle.service_model.specs.Stories.{ArePlanned, IsPlanned}
+use Rattle.service_model.specs.Stories.{ArePlanned}
 use Rattle.service_model.proofs.Lists.{count-cons}
 use Rattle.service_model.proofs.Places.{count_of-places}
 use Rattle.service_model.proofs.Sittings.{all_requests}
@@ -42,12 +41,12 @@ use Rattle.drill_plan.specs.DrillSetup.{IsDrillSetup}
 use Rattle.drill_plan.specs.Passwords.{own_name, session_count}
 use Rattle.drill_plan.specs.Plan.{drill_plan}
 use Rattle.drill_laws.specs.Played.{IsPlayed}
-use Rattle.drill_laws.proofs.Apart.{AreOwn, OwnPlaces, all_apart, own_places, own_sittings}
+use Rattle.drill_laws.proofs.Apart.{OwnPlaces, all_apart, own_places, own_sittings}
 use Rattle.drill_laws.proofs.Ends.{IsFree}
 use Rattle.drill_laws.proofs.Heard.{events_in}
 use Rattle.drill_laws.proofs.Holding.{AreHeld, IsApart, all_parts, held_more}
 use Rattle.drill_laws.proofs.Sessions.{parts_follow}
-use Rattle.drill_laws.proofs.Walk.{At, Comes, Next, Stands, State, after, begun, goes_on, next_place, start, stays}
+use Rattle.drill_laws.proofs.Walk.{At, Next, Stands, State, after, begun, goes_on, next_place, start, stays}
 
 -- an event of a journal of which no event passes a test
 none_passes : (test : Event → Bool) (before rest : List Event) (e : Event) → list_any test (before ++ e ∷ rest) ≡ false → test e ≡ false
@@ -168,7 +167,7 @@ filter_places : (worker : ℕ) (before events : List Event) → filter (λ (e : 
 filter_places worker before [] = refl
 filter_places worker before (e ∷ events) = by_test (eqb e.worker worker) (filter_places worker (before ++ e ∷ []) events) where
   by_test : (b : Bool) → filter (λ (x : Event). eqb x.worker worker) events ≡ map (λ (p : Place). p.event) (worker_places_after worker (before ++ e ∷ []) events)
-      → cond b (e ∷ filter (λ (x : Event). eqb x.worker worker) events) (filter (λ (x : Event). eqb x.worker worker) events) ≡ map (λ (p : Place). p.event) (cond b (place_of before e ∷ []) [] ++ worker_places_after worker (before ++ e ∷ []) events)
+      → cond b (e ∷ filter (λ (x : Event). eqb x.worker worker) events) (filter (λ (x : Event). eqb x.worker worker) events) ≡ map (λ (p : Place). p.event) (cond b (place_of before e ∷ worker_places_after worker (before ++ e ∷ []) events) (worker_places_after worker (before ++ e ∷ []) events))
   by_test true more = ap (λ (es : List Event). e ∷ es) more
   by_test false more = more
 

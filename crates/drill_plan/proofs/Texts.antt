@@ -9,7 +9,7 @@ use Rattle.hex.specs.Hex.{encode_lower, encode_with, lower_digits}
 use Rattle.request_catalogue.specs.Catalogue.{RequestValue}
 use Rattle.request_catalogue.specs.Texts.{is_typed, is_typed_reply}
 use Rattle.drill_plan.specs.Plan.{request_bytes, requests_bytes}
-use Rattle.drill_plan.specs.Requests.{password_text}
+use Rattle.policy_model.specs.Settings.{password_text}
 
 digit_typed : (d : ℕ) → d < 16 → is_typed (slice_index lower_digits d) ≡ true
 digit_typed zero lt = refl

@@ -1,21 +1,17 @@
 -- Inner: the bytes that the children of a drill send.
 use Rattle.std.specs.Prelude.{ℕ, List, [], ◌++◌, map, take}
 use Rattle.std.specs.List.{flat_map, range_with_len}
-use Rattle.imsg_frame.specs.Message.{composed_of, spelling_of, Message}
+use Rattle.imsg_frame.specs.Message.{spelling_of}
+use Rattle.imsg_frame.specs.Requests.{request_message}
 use Rattle.request_catalogue.specs.declared.width.Width.TheVariants.{Narrow}
-use Rattle.request_catalogue.specs.Catalogue.{RequestValue, Finish, kind_of, payload_of}
-use Rattle.request_catalogue.specs.Kinds.{kind_number}
+use Rattle.request_catalogue.specs.Catalogue.{RequestValue, Finish}
 use Rattle.drill_plan.specs.declared.class.Class.{Class}
 use Rattle.drill_plan.specs.declared.class.Class.TheVariants.{BreaksOff}
 use Rattle.drill_plan.specs.Classes.{class_of}
 use Rattle.drill_plan.specs.Passwords.{current_password, own_name, right_password, session_count}
 use Rattle.drill_plan.specs.Requests.{early_requests_by, user_requests}
 
--- the message of a request: its number, no flags, peer and process 0, and its payload
-abbrev pub request_message : RequestValue → Message
-request_message request = composed_of (kind_number (kind_of request)) 0 0 (payload_of request)
-
--- its bytes, in a narrow frame
+-- the bytes of a request, in a narrow frame
 abbrev pub request_bytes : RequestValue → List ℕ
 request_bytes request = spelling_of Narrow (request_message request)
 

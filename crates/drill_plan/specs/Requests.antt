@@ -1,22 +1,17 @@
 -- Believed: the table of a drill: what each session asks, a line a class.
 use Rattle.std.specs.Prelude.{◌≡◌, ℕ, List, [], ◌∷◌, ◌++◌, codes, length, Some, None}
-use Rattle.std.specs.Int.{w64, to_be_bytes}
-use Rattle.hex.specs.Hex.{encode_lower}
 use Rattle.request_catalogue.specs.declared.texts.Label.{Label}
 use Rattle.request_catalogue.specs.declared.texts.Name.{Name}
 use Rattle.request_catalogue.specs.Catalogue.{RequestValue, Abandon, Banner, Challenge, CloseFile, Export, Finish, Import, OpenFile, ReadAt, Reply, WriteAt}
 use Rattle.request_catalogue.specs.TextBytes.{label_bytes, name_bytes}
 use Rattle.policy_model.specs.declared.event.Ask.{Ask}
 use Rattle.policy_model.specs.declared.event.Ask.TheVariants as asks
+use Rattle.policy_model.specs.Settings.{password_text}
 use Rattle.state_export.specs.Spelling.{state_bytes}
 use Rattle.drill_plan.specs.declared.class.Class.{Class}
 use Rattle.drill_plan.specs.declared.class.Class.TheVariants.{LogsIn, Repeats, Exports, BreaksOff}
 use Rattle.drill_plan.specs.Classes.{class_of}
 use Rattle.drill_plan.specs.Passwords.{current_password, own_name, right_password}
-
--- a password as it is sent: 16 hexadecimal digits in lower case, the most significant first
-abbrev pub password_text : ℕ → List ℕ
-password_text password = encode_lower (to_be_bytes w64 password)
 
 -- the least state that a child leaves to its successor
 abbrev pub least_record : List ℕ

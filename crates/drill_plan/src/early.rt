@@ -5,7 +5,8 @@ ghost use Rattle.request_catalogue.specs.TextBytes.{name_bytes};
 ghost use Rattle.request_catalogue.specs.Catalogue.{Export, Reply};
 ghost use Rattle.drill_plan.specs.declared.class.Class.TheVariants.{BreaksOff, Exports, LogsIn, Repeats};
 ghost use Rattle.drill_plan.specs.Plan.{early_bytes_by, request_bytes};
-ghost use Rattle.drill_plan.specs.Requests.{least_record, password_text};
+ghost use Rattle.policy_model.specs.Settings.{password_text};
+ghost use Rattle.drill_plan.specs.Requests.{least_record};
 
 use crate::class::Class;
 use crate::pen::Pen;

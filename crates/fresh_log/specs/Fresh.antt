@@ -1,7 +1,6 @@
 -- Believed: a durable log that has no records yet.
-use Rattle.std.specs.Prelude.{◌≡◌, ℕ, List, [], Option, Some}
-use Rattle.durable_log.specs.Journal.{image_of}
+use Rattle.std.specs.Prelude.{◌≡◌, ℕ, List, [], ◌∷◌, ◌++◌, Option, Some, codes}
 
--- the file is there and holds just the image of no records
+-- the file is there and holds `OTJ1` and a closed gate, and nothing behind it
 abbrev pub IsFresh : Option (List ℕ) → Type 0
-IsFresh file = file ≡ Some (image_of [])
+IsFresh file = file ≡ Some (codes "OTJ1" ++ 0 ∷ [])

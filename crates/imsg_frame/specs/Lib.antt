@@ -4,3 +4,4 @@ pub mod Held
 pub mod Layout
 pub mod Cut
 pub mod Answer
+pub mod Requests

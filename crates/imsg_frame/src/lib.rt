@@ -1,7 +1,7 @@
 //! OpenBSD's imsg framing, as imsg_init(3) of release 7.3 lays it out, for little-endian machines and
 //! without descriptors, and a wide framing beside it: frames from a stream that comes in any pieces, and
-//! frames made. Believe `specs/Message.antt`, `specs/Fields.antt` and `specs/Cut.antt`; the session loop
-//! and the children stand above.
+//! frames made. Believe `specs/Message.antt`, `specs/Fields.antt`, `specs/Cut.antt` and
+//! `specs/Requests.antt`; the session loop and the children stand above.
 //!
 //! A frame is a header of 16 bytes and then the body. A narrow header is `kind` (the manual's `type`;
 //! 4 bytes), `len` (2), `flags` (2), `peerid` (4) and `pid` (4), each number with its lowest byte

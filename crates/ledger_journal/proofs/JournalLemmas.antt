@@ -14,11 +14,12 @@ use Rattle.policy_model.specs.declared.event.Ask.{Ask}
 use Rattle.policy_model.specs.declared.event.Ask.TheVariants as asks
 use Rattle.policy_model.specs.declared.event.Event.{Event}
 use Rattle.policy_model.specs.declared.reading.TheConstants.{DECOYS_FROM}
-use Rattle.policy_model.specs.Asks as policy
-use Rattle.policy_model.specs.Asks.{accepts, challenge_name, is_permit, takes, value_of}
+use Rattle.policy_model.specs.Cases as policy
+use Rattle.policy_model.specs.Asks.{accepts, challenge_name, is_permit, takes, value_of, is_user}
 use Rattle.policy_model.specs.Journal.{is_own, last_event}
 use Rattle.policy_model.specs.Legal.{IsLegal, IsNext}
-use Rattle.policy_model.specs.Logins.{challenged_user, current_password, is_decoy, is_user, replies_of, reply_for, user_named, was_accepted, was_decoyed}
+use Rattle.policy_model.specs.Logins.{challenged_user, current_password, replies_of, reply_for, was_accepted, was_decoyed}
+use Rattle.policy_model.specs.Cases.{is_decoy, user_named}
 use Rattle.policy_model.specs.Settings.{IsInRange, Settings, account_number, same_name}
 use Rattle.policy_model.proofs.LoginLemmas.{replies_of-none, replies_of-push}
 use Rattle.session_laws.specs.Tied.{AcceptsNext}

@@ -13,7 +13,7 @@ use Rattle.policy_model.specs.Settings.{Settings}
 use Rattle.decision_log.specs.declared.logged.LineFault.{LineFault}
 use Rattle.decision_log.specs.Log.{line_of}
 use Rattle.decision_log.specs.Values.{IsLine, LineValue, line_value}
-use Rattle.decision_log.proofs.Lines.{line_forth}
+use Rattle.decision_log.proofs.EventLines.{event_forth}
 use Rattle.ledger_journal.specs.Journals.{IsWhole, records_after, records_of}
 use Rattle.ledger_journal.specs.Lines.{line_at, lines_after, lines_of, numbered}
 use Rattle.ledger_journal.specs.Recovering.{IsNoLine}
@@ -44,7 +44,7 @@ same_number : (n : ℕ) (v : LineValue) → v.number ≡ n → numbered n (resul
 same_number n v is = let test : nat_eq v.number n ≡ true = grind (arith, nat_tests, is) in ap (λ b. then_some b v) test
 
 line_there : (number : ℕ) (e : Event) → number ≤ 1048576 → IsWritable e → line_at number (line_of number e) ≡ Some (line_value number e)
-line_there number e few w = ap (λ (r : Result LineValue LineFault). numbered number (result_ok r)) (line_forth (line_value number e) (event_is_line number e few w)) ∙ same_number number (line_value number e) refl
+line_there number e few w = ap (λ (r : Result LineValue LineFault). numbered number (result_ok r)) (event_forth number e (event_is_line number e few w)) ∙ same_number number (line_value number e) refl
 
 pub lines_are : (count : ℕ) (events : List Event) → count + length events ≤ 1048576 → AllByRecursion IsWritable events → lines_after count (records_after count events) ≡ values_after count events
 lines_are count [] few all = refl

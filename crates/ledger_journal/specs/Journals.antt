@@ -1,5 +1,5 @@
 -- Believed: the journals of a run, the records that their lines make, and what recovery from them comes to.
-use Rattle.std.specs.Prelude.{ℕ, ◌≡◌, ◌≤◌, ◌<◌, ◌+◌, ◌^◌, false, List, [], ◌∷◌, count_by, length, map, Result, Ok, Err}
+use Rattle.std.specs.Prelude.{ℕ, ◌≡◌, ◌≤◌, ◌+◌, false, List, [], ◌∷◌, count_by, length, map, Result, Ok, Err}
 use Rattle.std.specs.List.{AllByRecursion, list_any}
 use Rattle.policy_model.specs.declared.account.Account.{Account}
 use Rattle.policy_model.specs.declared.event.Event.{Event}
@@ -7,7 +7,7 @@ use Rattle.policy_model.specs.declared.ranges.TheConstants.{EVENTS_LIMIT}
 use Rattle.policy_model.specs.Asks.{accepts}
 use Rattle.policy_model.specs.Journal.{has_lost}
 use Rattle.policy_model.specs.Legal.{IsLegal}
-use Rattle.policy_model.specs.Logins.{account_after, current_password, current_sequence}
+use Rattle.policy_model.specs.Logins.{current_password, current_sequence}
 use Rattle.policy_model.specs.Runs.{IsProperEvent}
 use Rattle.policy_model.specs.Settings.{IsInRange, Settings}
 use Rattle.decision_log.specs.Log.{line_of}

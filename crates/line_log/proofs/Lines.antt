@@ -1,11 +1,11 @@
 -- What an append makes of the lines that a log was given.
-use Rattle.std.proofs.Common.{◌≡◌, ℕ, zero, suc, ◌+◌, ◌<◌, ◌≤◌, ◌^◌, ◌&&◌, ◌==◌, not, leb, Bool, true, false, List, [], ◌∷◌, ◌++◌, length, take, refl, sym, ◌∙◌, ap, subst, arith, append_assoc, length-append, Option, Some, None, IfSome, option_map, is_some, if◌then◌else◌}
+use Rattle.std.proofs.Common.{◌≡◌, ℕ, zero, suc, ◌+◌, ◌<◌, ◌≤◌, ◌^◌, ◌==◌, not, leb, Bool, true, false, List, [], ◌∷◌, ◌++◌, length, take, sym, ◌∙◌, ap, subst, arith, length-append, Option, Some, None, IfSome, option_map, is_some, if◌then◌else◌}
 use Rattle.std.specs.List.{AllByRecursion, concat, prefix_len}
 use Rattle.std.proofs.lemmas.Bool.{and_parts, leb-true}
 use Rattle.std.proofs.lemmas.Bool.Decides.{nat_tests}
 use Rattle.std.proofs.lemmas.List.{append-nil, take_all, take-append-le}
 use Rattle.std.proofs.lemmas.List.Folds.{concat-append}
-use Rattle.outside.specs.Told.{Gains, GainsPart, Goes}
+use Rattle.outside.specs.Told.{Gains, GainsPart}
 use Rattle.durable_log.specs.Appending.{BreaksOff, KeepsAll, KeepsSome}
 use Rattle.durable_log.specs.Disk.{DiskState, Story, moment_of, settled, states_of}
 use Rattle.durable_log.specs.Journal.{HasAnswered, Keeps, LogParts, LosesNothing, held_of, image_of, log_parts, pieces_of, records_of}

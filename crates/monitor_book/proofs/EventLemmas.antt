@@ -10,7 +10,8 @@ use Rattle.policy_model.specs.declared.event.Decision.{Decision}
 use Rattle.policy_model.specs.declared.event.Decision.TheVariants.{Permit, Deny, Lost}
 use Rattle.policy_model.specs.declared.event.Event.{Event}
 use Rattle.policy_model.specs.Asks.{is_begin, is_end, is_lost, is_permit}
-use Rattle.policy_model.specs.Journal.{is_turn_of, kept_events, open_session_of, openings_of, session_opened}
+use Rattle.policy_model.specs.Journal.{is_turn_of, kept_events, open_session_of, openings_of}
+use Rattle.policy_model.specs.Cases.{session_opened}
 use Rattle.policy_model.specs.Legal.{event_with, next_event, session_of}
 use Rattle.policy_model.specs.Settings.{Settings}
 use Rattle.policy_model.specs.Verdict.{verdict_of}

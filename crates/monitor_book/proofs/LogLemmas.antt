@@ -13,8 +13,8 @@ use Rattle.policy_model.specs.Settings.{Settings}
 use Rattle.policy_model.proofs.Lists.{filter-push}
 use Rattle.policy_model.proofs.Runs.{has_lost-push}
 use Rattle.decision_log.specs.Log.{line_of, lines_after, log_text}
-use Rattle.monitor_book.specs.Kept.{IsLogged}
-use Rattle.monitor_book.specs.Lines.{HoldsLines, LogMatches, lost_line, lost_line_of}
+use Rattle.monitor_book.specs.Kept.{IsLogged, lost_line_of}
+use Rattle.monitor_book.specs.Lines.{HoldsLines, LogMatches, lost_line}
 
 -- a line was written, or a front of it by a fault, or nothing where one was lost before
 pub record WritesLine (before lost : Bool) (line : List ℕ) (held_old held_new : Option (List ℕ)) (faults_old faults_new : ℕ) : Type 0 where

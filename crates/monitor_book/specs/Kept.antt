@@ -1,14 +1,21 @@
 -- Inner: what a book keeps.
-use Rattle.std.specs.Prelude.{◌≡◌, ℕ, ◌≤◌, Bool, true, false, List, Option}
+use Rattle.std.specs.Prelude.{◌≡◌, ℕ, ◌≤◌, ◌+◌, Bool, true, false, List, [], length, Option}
+use Rattle.std.specs.Option.{option_map_or}
+use Rattle.decision_log.specs.Log.{line_of}
 use Rattle.outside.specs.Told.{Rose}
 use Rattle.policy_model.specs.declared.event.Event.{Event}
 use Rattle.policy_model.specs.Journal.{has_lost, kept_events}
+use Rattle.policy_model.specs.Legal.{next_event}
 use Rattle.policy_model.specs.Runs.{IsRun}
 use Rattle.policy_model.specs.Settings.{IsInRange, Settings, events_max, quota_of}
 use Rattle.session_core.specs.Parts.{CoreParts, setup_of}
 use Rattle.session_core.specs.Standing.{Stands}
 use Rattle.turn_cell.specs.Facts.{IsWithin}
 use Rattle.monitor_book.specs.Lines.{LogMatches}
+
+-- the line that a lost event would have had behind those that were kept, where there is one
+abbrev pub lost_line_of : Settings → List Event → Option Event → List ℕ
+lost_line_of setup kept lost = option_map_or (λ e. line_of (length kept + 1) (next_event setup kept e.worker e.ask)) lost []
 
 -- What contracts see of a book: the core, all events, whether one was lost; what the log held when the book was made, where it tells, and what it holds now; and how many faults it had then and has now
 pub record BookParts : Type 0 where

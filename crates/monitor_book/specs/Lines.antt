@@ -1,5 +1,6 @@
 -- Believed: what the log holds of a journal.
-use Rattle.std.specs.Prelude.{◌≡◌, ℕ, ◌+◌, List, [], ◌++◌, length, take, find, Option, Some, None}
+use Rattle.std.specs.Prelude.{◌≡◌, ℕ, ◌+◌, List, [], ◌++◌, length, take, find, Option}
+use Rattle.std.specs.Option.{option_map_or}
 use Rattle.outside.specs.Told.{Goes}
 use Rattle.policy_model.specs.declared.event.Event.{Event}
 use Rattle.policy_model.specs.Asks.{is_lost}
@@ -9,12 +10,10 @@ use Rattle.policy_model.specs.Settings.{Settings}
 use Rattle.decision_log.specs.Log.{line_of, log_text}
 
 -- the line that the first lost event would have had
-abbrev pub lost_line_of : Settings → List Event → Option Event → List ℕ
-lost_line_of setup kept None = []
-lost_line_of setup kept (Some e) = line_of (length kept + 1) (next_event setup kept e.worker e.ask)
-
 abbrev pub lost_line : Settings → List Event → List ℕ
-lost_line setup journal = lost_line_of setup (kept_events journal) (find (λ e. is_lost e.decision) journal)
+lost_line setup journal =
+    let kept = kept_events journal in
+    option_map_or (λ e. line_of (length kept + 1) (next_event setup kept e.worker e.ask)) (find (λ e. is_lost e.decision) journal) []
 
 -- behind what the log held stand the lines of the events that were kept, and then a front of the line that was lost, if one was
 pub record HoldsLines (setup : Settings) (journal : List Event) (before after : List ℕ) : Type 0 where

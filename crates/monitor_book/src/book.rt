@@ -5,7 +5,7 @@ ghost use Rattle.monitor_book.specs.Kept.{IsBook, book_parts};
 ghost use Rattle.policy_model.specs.Settings.{events_max};
 ghost use Rattle.session_core.specs.Parts.{setup_of};
 ghost use Rattle.policy_laws.specs.Consequences.{HasConsequences};
-ghost use Rattle.policy_laws.specs.Strangers.{StrangersAreToldAlike};
+ghost use Rattle.policy_laws.specs.Strangers.{ShowsNoAccounts};
 ghost use Rattle.session_core.specs.Standing.{Stands};
 
 use crate::entering::{event_of, settle};
@@ -82,7 +82,7 @@ impl<K: Sink> Book<K> {
         ensures kept { IsBook self }
         ensures few { length self.journal ≤ 1048576 }
         ensures consequences { HasConsequences (setup_of self.core) self.journal }
-        ensures alike { StrangersAreToldAlike (setup_of self.core) self.journal }
+        ensures unseen { ShowsNoAccounts (setup_of self.core) self.journal }
     {
         let Book {
             core,

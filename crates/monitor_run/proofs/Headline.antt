@@ -2,6 +2,7 @@
 use Rattle.std.proofs.Common.{◌≡◌, ◌≢◌, ℕ, zero, suc, ◌+◌, ◌≤◌, Bool, true, false, ◌||◌, ◌&&◌, cond, eqb, List, [], ◌∷◌, ◌++◌, length, Option, Some, None, refl, sym, ap, subst, ◌∙◌, append-nil, count_by, eq-eqb, arith}
 use Rattle.std.specs.Prelude.{IfSome, slice_get}
 use Rattle.std.specs.List.{AllByRecursion, flat_map, last_or, list_any}
+use Rattle.std.specs.Option.{option_map_or}
 use Rattle.std.proofs.lemmas.List.Folds.{list_any-append}
 use Rattle.std.proofs.lemmas.List.Sums.{count_by-le-length}
 use Rattle.outside.specs.declared.act.Act.{Act}
@@ -18,14 +19,14 @@ use Rattle.service_model.specs.Ends.{is_fault_end, is_keeper_end, is_link_end, i
 use Rattle.service_model.specs.Places.{step_acts, worker_places}
 use Rattle.service_model.specs.Service.{Service}
 use Rattle.service_model.specs.Sittings.{AreAnswered, AreSittingsOf, IsSitting, Sitting, all_steps}
-use Rattle.service_model.specs.Stories.{AcceptFailed, IsStory, LastAccept, NoAcceptBehindLoss, NoneLeft, Unasked, is_stop, story_acts}
+use Rattle.service_model.specs.Stories.{AcceptFailed, IsStory, LastAccept, NoneLeft, Unasked, is_stop, story_acts}
 use Rattle.service_model.proofs.Answered.{all_answered}
 use Rattle.service_model.proofs.Ends.{lost_places}
 use Rattle.service_model.proofs.Lists.{any-none, count-any, count-cons, count-none}
 use Rattle.service_model.proofs.Places.{count_of-places}
 use Rattle.service_model.proofs.Stories.{all_lost_ends, all_opened, never_stopped}
 use Rattle.session_loop.specs.Stories.{RoseBy, asks_among}
-use Rattle.monitor_run.specs.Headline.{AreFaultless, ConversationsMatch, FaultEndsAreCounted, IsAnsweredWhole, IsFaultless, NoAcceptFailed, OperationsMatch, RunsToQuota, SessionsInOrder, SomeAcceptFailed, ends_by, ends_by_accept_fault, is_fault, lost_by, openings_by}
+use Rattle.monitor_run.specs.Headline.{AreFaultless, ConversationsMatch, FaultEndsAreCounted, IsAnsweredWhole, IsFaultless, NoAcceptFailed, RunsToQuota, SessionsInOrder, SomeAcceptFailed, ends_by, ends_by_accept_fault, lost_by, openings_by}
 use Rattle.monitor_run.specs.Ran.{RunEnded, WorkerRan}
 
 -- ---- what the worker of each post did
@@ -59,13 +60,6 @@ conversations_match service failed journal posts scene faults run = record {
       (λ s story. (did.2.sittings, did.0, sittings_of service did.0 journal worker (scene post) (faults post) did.2, story)) did.2.story;
 }
 
--- the operations are those of the same sessions
-pub operations_match : {P : Type 0} (service : Service) (scene : P → Option Scene) (journal : List Event) (posts : List P) → ConversationsMatch service scene journal posts → OperationsMatch service scene journal posts
-operations_match service scene journal posts match = record {
-  done = λ worker post is. IfSome-weaker (scene post) (λ s. (sittings : List Sitting) × (last : LastAccept) × AreSittingsOf service journal worker sittings × IsStory sittings last s) (λ s. (sittings : List Sitting) × (last : LastAccept) × AreSittingsOf service journal worker sittings × NoAcceptBehindLoss sittings last × (s.acts ≡ story_acts sittings last))
-      (λ s held. (held.0, held.1, held.2, held.3.halted, held.3.acts)) (match.held worker post is);
-}
-
 -- ---- accepts by which no connection came
 
 stop_behind : (done : List Act) (act : Act) → is_stop act ≡ true → list_any is_stop (done ++ act ∷ []) ≡ true
@@ -91,6 +85,10 @@ failed_stops (acts.ConnSend bytes outcome) h = refl
 failed_stops (acts.VaultRead uid name offset max outcome) h = refl
 failed_stops (acts.VaultWrite uid name offset bytes outcome) h = refl
 failed_stops (acts.Clock moment) h = refl
+
+-- the last act, where there is one, is an accept that failed
+abbrev is_fault : Option Act → Bool
+is_fault o = option_map_or is_failed_accept o false
 
 last_unfailed : (o : Option Act) (done : List Act) → is_fault o ≡ false → list_any is_stop done ≡ false → is_fault (last_or o done) ≡ false
 last_unfailed o [] first none = first

@@ -2,7 +2,8 @@
 use Rattle.std.proofs.Common.{◌≡◌, ℕ, zero, suc, ◌<◌, Bool, true, false, cond, eqb, eq-eqb, List, [], ◌∷◌, ◌++◌, length, take, Option, Some, None, refl, sym, ap, subst, ◌∙◌, append-nil, arith}
 use Rattle.std.specs.Prelude.{slice_index_or}
 use Rattle.std.specs.List.{All, AllByRecursion}
-use Rattle.service_model.specs.Places.{worker_places, worker_places_after}
+use Rattle.service_model.specs.Places.{worker_places}
+use Rattle.service_model.specs.Cases.{worker_places_after}
 use Rattle.monitor_book.specs.declared.opened.Opened.{Opened}
 use Rattle.monitor_book.specs.Kept.{BookParts, IsBook}
 use Rattle.monitor_book.specs.Lines.{LogMatches}
@@ -43,7 +44,7 @@ nothing_logged book is none = record {
 no_events : (setup : Settings) (journal : List Event) → AllByRecursion (IsOfWorker setup) journal → ((worker : ℕ) → worker < setup.workers → worker_places journal worker ≡ []) → journal ≡ []
 no_events setup [] all none = refl
 no_events setup (e ∷ es) all none = absurd (go (eqb e.worker e.worker) (eq-eqb e.worker e.worker refl) (none e.worker all.0.below)) where
-  go : (b : Bool) → b ≡ true → cond b (record { before = []; event = e } ∷ []) [] ++ worker_places_after e.worker (e ∷ []) es ≡ [] → ⊥
+  go : (b : Bool) → b ≡ true → cond b (record { before = []; event = e } ∷ worker_places_after e.worker (e ∷ []) es) (worker_places_after e.worker (e ∷ []) es) ≡ [] → ⊥
   go true is places = absurd cc
   go false is places = absurd cc
 

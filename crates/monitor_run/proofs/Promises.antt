@@ -6,8 +6,7 @@ use Rattle.monitor_book.specs.Lines.{LogMatches}
 use Rattle.outside.specs.declared.faults.Faults.{Faults}
 use Rattle.outside.specs.Scene.{Scene}
 use Rattle.outside.specs.Told.{Rose}
-use Rattle.policy_laws.proofs.Alike.{strangers_see_no_accounts}
-use Rattle.policy_laws.proofs.Strangers.{strangers_are_told_alike}
+use Rattle.policy_laws.proofs.Alike.{shows_no_accounts}
 use Rattle.policy_model.specs.declared.event.Event.{Event}
 use Rattle.policy_model.specs.Journal.{has_lost}
 use Rattle.policy_model.specs.Runs.{IsRun}
@@ -18,7 +17,7 @@ use Rattle.session_core.proofs.ReplayLemmas.{consequences}
 use Rattle.session_turns.specs.Passes.{opened_of}
 use Rattle.monitor_run.specs.Headline.{FaultsAreCounted, RunPromises}
 use Rattle.monitor_run.specs.Ran.{RunEnded}
-use Rattle.monitor_run.proofs.Headline.{answered_whole, conversations_match, fault_ends_are_counted, no_accept_failed, operations_match, runs_to_quota, sessions_in_order, some_accept_failed}
+use Rattle.monitor_run.proofs.Headline.{answered_whole, conversations_match, fault_ends_are_counted, no_accept_failed, runs_to_quota, sessions_in_order, some_accept_failed}
 
 -- what the book of a run keeps, by what was fixed of it
 pub record BookSays (setup : Settings) (journal : List Event) (held_old held_new : Option (List ℕ)) (log_old log_new : ℕ) : Type 0 where
@@ -40,16 +39,13 @@ book_setup opened book told = cc
 
 pub run_promises : {P : Type 0} (service : Service) (failed : Bool) (journal : List Event) (posts : List P) (scene : P → Option Scene) (faults : P → Faults) (held_old held_new : Option (List ℕ)) (log_old log_new : ℕ) → RunEnded service failed journal posts scene faults → BookSays service.setup journal held_old held_new log_old log_new → length journal ≤ 1048576 → length posts ≡ service.setup.workers → FaultsAreCounted scene faults posts → RunPromises service failed journal posts scene faults held_old held_new log_old log_new
 run_promises service failed journal posts scene faults held_old held_new log_old log_new ended says few one_each counted =
-    let conversations = conversations_match service failed journal posts scene faults ended in
     record {
       legal = record { legal = says.run.legal; proper = says.run.proper; workers = says.run.workers; few = few };
       sessions = sessions_in_order service failed journal posts scene faults ended;
-      operations = operations_match service scene journal posts conversations;
-      conversations = conversations;
+      conversations = conversations_match service failed journal posts scene faults ended;
       log = says.lines;
       consequences = consequences service.setup journal says.run.legal;
-      alike = strangers_are_told_alike service.setup journal says.run.legal;
-      unseen = record { alike = λ other_setup other same legal. strangers_see_no_accounts service.setup other_setup journal other (sym same) says.run.legal legal };
+      unseen = shows_no_accounts service.setup journal says.run.legal;
       quota = runs_to_quota service failed journal posts scene faults ended;
       fault_ends = fault_ends_are_counted service failed journal posts scene faults ended few;
       counted = counted;

@@ -1,13 +1,13 @@
 -- Believed: what is promised of a run, in its parts.
 use Rattle.std.specs.Prelude.{◌≡◌, ℕ, ◌<◌, ◌≤◌, Bool, true, false, ◌&&◌, ◌==◌, List, [], length, count_by, slice_get, Option, Some, None, IfSome}
 use Rattle.std.specs.List.{AllByRecursion, last_or, list_any}
+use Rattle.std.specs.Option.{option_map_or}
 use Rattle.policy_laws.specs.Consequences.{HasConsequences}
-use Rattle.policy_laws.specs.Strangers.{StrangersAreToldAlike, StrangersSeeNoAccounts}
+use Rattle.policy_laws.specs.Strangers.{ShowsNoAccounts}
 use Rattle.monitor_book.specs.Lines.{LogMatches}
 use Rattle.outside.specs.Told.{Rose}
 use Rattle.outside.specs.declared.faults.Faults.{Faults}
 use Rattle.outside.specs.Scene.{CountsAsTold, Scene, is_failed_accept}
-use Rattle.outside.specs.declared.act.Act.{Act}
 use Rattle.policy_model.specs.declared.event.Ask.{Ask}
 use Rattle.policy_model.specs.declared.event.Event.{Event}
 use Rattle.policy_model.specs.declared.ranges.TheConstants.{EVENTS_LIMIT}
@@ -19,7 +19,7 @@ use Rattle.policy_model.specs.Settings.{Settings}
 use Rattle.service_model.specs.Ends.{is_fault_end, is_keeper_end, is_link_end}
 use Rattle.service_model.specs.Service.{Service}
 use Rattle.service_model.specs.Sittings.{AreAnswered, AreSittingsOf, Sitting}
-use Rattle.service_model.specs.Stories.{IsStory, LastAccept, NoAcceptBehindLoss, is_stop, story_acts}
+use Rattle.service_model.specs.Stories.{IsStory, LastAccept, is_stop}
 
 -- ---- the journal is legal
 
@@ -40,19 +40,9 @@ pub record SessionsInOrder (service : Service) (journal : List Event) : Type 0 w
 abbrev pub EachScene : {P : Type 0} → (P → Option Scene) → List P → (ℕ → Scene → Type 0) → Type 0
 EachScene {P} scene posts Holds = (worker : ℕ) (post : P) → slice_get posts worker ≡ Some post → IfSome (scene post) (Holds worker)
 
--- the operations done are those of the sessions, and nothing else but a last accept, which stands behind no loss
-pub record OperationsMatch {P : Type 0} (service : Service) (scene : P → Option Scene) (journal : List Event) (posts : List P) : Type 0 where
-  pub done : EachScene scene posts (λ worker s. (sittings : List Sitting) × (last : LastAccept) × AreSittingsOf service journal worker sittings × NoAcceptBehindLoss sittings last × (s.acts ≡ story_acts sittings last))
-
--- the same sessions have the bytes that passed, and those that were left unread
+-- the operations done are those of the sessions, and nothing else but a last accept, which stands behind no loss; and the same sessions have the bytes that passed, and those that were left unread
 pub record ConversationsMatch {P : Type 0} (service : Service) (scene : P → Option Scene) (journal : List Event) (posts : List P) : Type 0 where
   pub held : EachScene scene posts (λ worker s. (sittings : List Sitting) × (last : LastAccept) × AreSittingsOf service journal worker sittings × IsStory sittings last s)
-
--- ---- what follows of the policy
-
--- a stranger's session of this run, and one of any other, that put the same to the policy were shown the same, whatever accounts stand behind the names
-pub record ShowsNoAccounts (setup : Settings) (journal : List Event) : Type 0 where
-  pub alike : (other_setup : Settings) (other : List Event) → other_setup.requests ≡ setup.requests → IsLegal other_setup other → StrangersSeeNoAccounts journal other
 
 -- ---- the length of the run
 
@@ -68,13 +58,9 @@ pub record RunsToQuota {P : Type 0} (setup : Settings) (scene : P → Option Sce
 
 -- ---- accepts that failed
 
-abbrev pub is_fault : Option Act → Bool
-is_fault None = false
-is_fault (Some act) = is_failed_accept act
-
 -- the last thing asked of a post was an accept, and it failed
 abbrev pub ends_by_accept_fault : Scene → Bool
-ends_by_accept_fault scene = is_fault (last_or None scene.acts)
+ends_by_accept_fault scene = option_map_or is_failed_accept (last_or None scene.acts) false
 
 -- a worker's last accept failed, and its post counts that
 pub record SomeAcceptFailed {P : Type 0} (scene : P → Option Scene) (faults : P → Faults) (posts : List P) : Type 0 where
@@ -124,11 +110,9 @@ pub record IsAnsweredWhole {P : Type 0} (service : Service) (scene : P → Optio
 pub record RunPromises {P : Type 0} (service : Service) (failed : Bool) (journal : List Event) (posts : List P) (scene : P → Option Scene) (faults : P → Faults) (held_old held_new : Option (List ℕ)) (log_old log_new : ℕ) : Type 0 where
   pub legal : JournalIsLegal service.setup journal
   pub sessions : SessionsInOrder service journal
-  pub operations : OperationsMatch service scene journal posts
   pub conversations : ConversationsMatch service scene journal posts
   pub log : LogMatches service.setup journal held_old held_new
   pub consequences : HasConsequences service.setup journal
-  pub alike : StrangersAreToldAlike service.setup journal
   pub unseen : ShowsNoAccounts service.setup journal
   pub quota : RunsToQuota service.setup scene journal posts
   pub fault_ends : FaultEndsAreCounted faults journal posts

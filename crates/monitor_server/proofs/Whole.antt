@@ -1,7 +1,5 @@
 -- All that the top call says, for each command and for words that are none.
-use Rattle.std.proofs.Common.{◌≡◌, ◌≢◌, ◌⊎◌, ℕ, false, true, List, [], Option, Some, None, Err, refl, sym, ap, subst, ◌∙◌, inl, inr, arith}
-use Rattle.std.specs.Prelude.{◌==◌}
-use Rattle.std.specs.List.{list_any}
+use Rattle.std.proofs.Common.{◌≡◌, ◌≢◌, ◌⊎◌, ℕ, List, [], Option, Some, None, Err, refl, sym, ap, subst, ◌∙◌, inl, inr}
 use Rattle.info_hooks.specs.declared.key.Key.{Key}
 use Rattle.outside.specs.declared.faults.Faults.{Faults}
 use Rattle.outside.specs.declared.place.Place.{Place as SitePlace}
@@ -33,10 +31,10 @@ use Rattle.serve_mode.proofs.Promises.{memory_why, unserved_ended}
 use Rattle.monitor_server.specs.declared.report.Detail.{Detail}
 use Rattle.monitor_server.specs.declared.report.Detail.TheVariants.{Nothing}
 use Rattle.monitor_server.specs.Commands.{IsCommand, asks_audit, asks_check, asks_child, asks_drill, asks_otp, asks_recover, asks_renew, asks_serve}
-use Rattle.monitor_server.specs.Headline.{IsStatus, IsUnserved, UsesNothing, StatusHasCause}
+use Rattle.monitor_server.specs.Headline.{IsStatus, UsesNothing, StatusHasCause}
 use Rattle.monitor_server.specs.Modes.{AuditRan, ChangesFiles, CheckRan, ChildRan, DrillRan, LeavesRest, PasswordRan, RecoverRan, RenewRan, ServeRan, audit_detail, checked_detail, detail_of, recover_detail, renew_detail, serve_detail}
 use Rattle.monitor_server.specs.Whole.{Whole}
-use Rattle.monitor_server.proofs.Apart.{AskOnly, Audit, Check, Child, Drill, Otp, Recover, Renew, Serve, none-some, only_audit, only_check, only_child, only_drill, only_otp, only_recover, only_renew, only_serve, spoken}
+use Rattle.monitor_server.proofs.Apart.{AskOnly, Recover, Renew, none-some, only_audit, only_check, only_child, only_drill, only_otp, only_recover, only_renew, only_serve, spoken}
 use Rattle.monitor_server.proofs.Told.{IsModeStatus, audit_plain, audit_status, check_detail, check_status, child_status, detail-by, drill_status, moded, password_detail, password_status, recover_plain, recover_status, renew_plain, renew_status, serve_command_status, serve_plain, serve_status, served}
 
 -- ---- the files that are changed

@@ -5,7 +5,7 @@ use Rattle.std.proofs.lemmas.Bool.{eqb-true}
 use Rattle.request_catalogue.specs.declared.rules.TheConstants.{HOLD_LOST, NO_MATCH, NO_READING, PASSWORD_USED}
 use Rattle.otp_hash.specs.Hashing.{hash_of}
 use Rattle.policy_model.specs.declared.event.Decision.TheVariants.{Deny}
-use Rattle.policy_model.specs.Verdict.{is_holder}
+use Rattle.policy_model.specs.Cases.{is_holder}
 use Rattle.otp_ledger.specs.Accounts.{AccountState, IsNextPassword, current_of, was_accepted}
 use Rattle.otp_ledger.specs.Decisions.{PermitsNext, is_next, matched, reply_decision}
 

@@ -15,11 +15,11 @@ use Rattle.policy_model.specs.declared.event.Decision.{Decision}
 use Rattle.policy_model.specs.declared.event.Decision.TheVariants.{Permit, Deny, Lost}
 use Rattle.policy_model.specs.declared.event.Event.{Event}
 use Rattle.policy_model.specs.declared.reading.TheConstants.{DECOYS_FROM}
-use Rattle.policy_model.specs.Asks.{accepts, ends_session, gives_up, is_abandon, is_begin, is_challenge_for, is_end, is_finish, is_lost, is_permit, is_reply, is_violation, moment_of, opens, reserves, value_of}
+use Rattle.policy_model.specs.Asks.{accepts, ends_session, gives_up, is_begin, is_end, is_lost, is_permit, is_violation, moment_of, opens, reserves, value_of, is_user}
+use Rattle.policy_model.specs.Cases.{is_abandon, is_challenge_for, is_finish, is_reply, holder_by, is_holder, taking_moment}
 use Rattle.policy_model.specs.Journal.{events_of, is_own}
-use Rattle.policy_model.specs.Logins.{challenged_user, holder_by, holder_of, is_user, last_taking_of, replies_of, reply_for, session_taking, was_given_up}
+use Rattle.policy_model.specs.Logins.{challenged_user, holder_of, last_taking_of, replies_of, reply_for, session_taking, was_given_up}
 use Rattle.policy_model.specs.Phases.{is_over}
-use Rattle.policy_model.specs.Verdict.{is_holder, taking_moment}
 use Rattle.policy_model.proofs.Lists.{filter-push}
 use Rattle.policy_model.proofs.LoginLemmas.{last_taking_of-push, replies_of-push, was_given_up-push}
 use Rattle.otp_ledger.specs.Accounts.{AccountState, accepting, holding, releasing}

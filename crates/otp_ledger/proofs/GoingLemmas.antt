@@ -12,11 +12,11 @@ use Rattle.policy_model.specs.declared.account.Account.{Account}
 use Rattle.policy_model.specs.declared.event.Ask.{Ask}
 use Rattle.policy_model.specs.declared.event.Ask.TheVariants as asks
 use Rattle.policy_model.specs.declared.event.Event.{Event}
-use Rattle.policy_model.specs.Asks.{accepts, ends_session, gives_up, is_challenge_for, is_permit, moment_of, reserves, value_of}
-use Rattle.policy_model.specs.Logins.{challenged_user, is_user, reply_for}
+use Rattle.policy_model.specs.Asks.{accepts, ends_session, gives_up, is_permit, moment_of, reserves, value_of, is_user}
+use Rattle.policy_model.specs.Cases.{is_challenge_for, is_holder}
+use Rattle.policy_model.specs.Logins.{challenged_user, reply_for}
 use Rattle.policy_model.specs.Phases.{is_over}
 use Rattle.policy_model.specs.Settings.{IsInRange, Settings, are_distinct, is_account, same_name}
-use Rattle.policy_model.specs.Verdict.{is_holder}
 use Rattle.otp_ledger.specs.Accounts.{AccountState, LedgerParts, accepting, holding, ledger_holding, ledger_releasing, ledger_spending, no_state, releasing, state_at}
 use Rattle.otp_ledger.specs.Standing.{HoldsAtMost, StandsFor, StandsLeft, StandsReplied, StandsTaken, state_by}
 use Rattle.otp_ledger.proofs.EventLemmas.{accepted_leaves, quiet, state_left, state_quiet, state_replied, state_taken, state_unheld}

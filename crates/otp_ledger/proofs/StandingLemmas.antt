@@ -15,7 +15,8 @@ use Rattle.policy_model.specs.declared.event.Decision.TheVariants.{Deny}
 use Rattle.policy_model.specs.declared.event.Event.{Event}
 use Rattle.policy_model.specs.Logins.{account_of, holder_of, last_taking_of, replies_of, session_taking, was_given_up}
 use Rattle.policy_model.specs.Settings.{Settings, account_number, same_name}
-use Rattle.policy_model.specs.Verdict.{account_verdict, is_holder, readings_verdict, user_verdict}
+use Rattle.policy_model.specs.Verdict.{account_verdict, user_verdict}
+use Rattle.policy_model.specs.Cases.{is_holder, readings_verdict}
 use Rattle.otp_ledger.specs.Accounts.{AccountState, LedgerParts, new_ledger, new_state, no_state, state_at}
 use Rattle.otp_ledger.specs.Decisions.{challenge_decision, numbered_decision, reply_decision, state_decision}
 use Rattle.otp_ledger.specs.Standing.{StandsFor, state_by}

@@ -6,7 +6,7 @@ use Rattle.otp_hash.specs.declared.chain.Algo.TheVariants as algos
 use Rattle.otp_hash.specs.Hashing.{hash_of}
 use Rattle.policy_model.specs.declared.account.Account.{Account}
 use Rattle.policy_model.specs.Settings.{Settings}
-use Rattle.policy_model.specs.Verdict.{is_holder}
+use Rattle.policy_model.specs.Cases.{is_holder}
 
 -- what is known of an account: the accepted passwords in the order of acceptance, of which the setup's is the first; how many passwords its chain still has; the session that took it last, 0 where none did, and when; the session that holds it
 pub record AccountState : Type 0 where

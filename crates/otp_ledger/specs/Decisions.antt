@@ -1,13 +1,15 @@
 -- Inner: what a ledger decides on CHALLENGE and REPLY.
 use Rattle.std.specs.Prelude.{ℕ, ◌+◌, ◌-◌, nat_lt, Bool, not, ◌&&◌, ◌==◌, List, length, Option, Some, None, if◌then◌else◌}
 use Rattle.std.specs.List.{find, list_any}
+use Rattle.std.specs.Option.{option_map_or}
 use Rattle.otp_hash.specs.Hashing.{hash_of}
 use Rattle.request_catalogue.specs.declared.rules.TheConstants.{USER_HELD, HOLD_LOST, NO_READING, PASSWORD_USED, NO_MATCH}
 use Rattle.request_catalogue.specs.declared.texts.Name.{Name}
 use Rattle.policy_model.specs.declared.event.Decision.{Decision}
 use Rattle.policy_model.specs.declared.event.Decision.TheVariants.{Permit, Deny}
 use Rattle.policy_model.specs.Settings.{Settings, account_number}
-use Rattle.policy_model.specs.Verdict.{decoy_challenge, is_holder, is_other}
+use Rattle.policy_model.specs.Verdict.{decoy_challenge}
+use Rattle.policy_model.specs.Cases.{is_holder, is_other}
 use Rattle.otp_ledger.specs.Accounts.{AccountState, IsNextPassword, LedgerParts, current_of, state_at, was_accepted}
 
 -- a CHALLENGE for the user of an account
@@ -33,8 +35,7 @@ abbrev pub refused : AccountState → List ℕ → Decision
 refused state passwords = if list_any (was_accepted state) passwords then Deny PASSWORD_USED 0 else Deny NO_MATCH 0
 
 abbrev pub matched : AccountState → List ℕ → Option ℕ → Decision
-matched state passwords (Some password) = Permit password
-matched state passwords None = refused state passwords
+matched state passwords found = option_map_or Permit found (refused state passwords)
 
 -- the readings against an account: the first that is the next password
 abbrev pub readings_decision : AccountState → List ℕ → Decision

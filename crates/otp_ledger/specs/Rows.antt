@@ -4,7 +4,7 @@ use Rattle.otp_hash.specs.declared.chain.Algo.{Algo}
 use Rattle.otp_hash.specs.declared.chain.Algo.TheVariants as algos
 use Rattle.otp_hash.specs.Hashing.{hash_of}
 use Rattle.policy_model.specs.declared.account.Account.{Account}
-use Rattle.policy_model.specs.Verdict.{is_holder}
+use Rattle.policy_model.specs.Cases.{is_holder}
 use Rattle.otp_ledger.specs.declared.rows.AccountRow.{AccountRow}
 use Rattle.otp_ledger.specs.Accounts.{AccountState}
 

@@ -8,7 +8,8 @@ use Rattle.policy_model.specs.Asks.{accepts, ends_session, gives_up, moment_of, 
 use Rattle.policy_model.specs.Logins.{account_of, accepted_of, challenged_user, current_password, current_sequence, holder_of, last_taking_of, session_taking}
 use Rattle.policy_model.specs.Phases.{is_over}
 use Rattle.policy_model.specs.Settings.{account_number}
-use Rattle.policy_model.specs.Verdict.{account_verdict, is_holder, taking_moment, user_verdict}
+use Rattle.policy_model.specs.Verdict.{account_verdict, user_verdict}
+use Rattle.policy_model.specs.Cases.{is_holder, taking_moment}
 use Rattle.otp_ledger.specs.declared.ledger.Current.{Current}
 use Rattle.otp_ledger.specs.Accounts.{AccountState, LedgerParts, ledger_releasing, state_at}
 

@@ -7,8 +7,9 @@ use Rattle.std.proofs.lemmas.Bool.{and_parts, and_from, false≢true}
 use Rattle.std.proofs.lemmas.Bool.Decides.{nat_tests}
 use Rattle.std.proofs.lemmas.List.{length-map, length-replicate}
 use Rattle.std.proofs.Common.{length-append}
+use Rattle.std.specs.Str.{str_to_ascii_uppercase}
 use Rattle.otp_words.specs.Digits.{number_of}
-use Rattle.otp_words.specs.Dictionaries.{upper, is_word, IsDictionary}
+use Rattle.otp_words.specs.Dictionaries.{is_word, IsDictionary}
 use Rattle.otp_words.specs.Inner.{IsPlaced}
 
 -- a byte
@@ -20,12 +21,12 @@ is_ascii_uppercase-upper : (c : ℕ) → is_ascii_uppercase (to_ascii_uppercase 
 is_ascii_uppercase-upper c = grind (arith, nat_tests)
 
 -- letters in upper case
-list_all-upper : (cs : List ℕ) → list_all is_ascii_uppercase (upper cs) ≡ list_all is_ascii_alphabetic cs
+list_all-upper : (cs : List ℕ) → list_all is_ascii_uppercase (str_to_ascii_uppercase cs) ≡ list_all is_ascii_alphabetic cs
 list_all-upper [] = refl
 list_all-upper (c ∷ cs) = rw (is_ascii_uppercase-upper c, list_all-upper cs) refl
 
 -- a word in any letter case
-pub is_word-upper : (bytes : List ℕ) → is_word (upper bytes) ≡ (nat_le 1 (length bytes) && nat_le (length bytes) 4 && list_all is_ascii_alphabetic bytes)
+pub is_word-upper : (bytes : List ℕ) → is_word (str_to_ascii_uppercase bytes) ≡ (nat_le 1 (length bytes) && nat_le (length bytes) 4 && list_all is_ascii_alphabetic bytes)
 unfolding is_word
 is_word-upper bytes = rw (list_all-upper bytes) (simp length-map)
 
@@ -108,16 +109,16 @@ same_word v w legal_v legal_w e =
     same_behind_zeros n m v w parts_v.0 parts_w.0 parts_v.2 parts_w.2 same.1
 
 -- a look-up finds a word at its place
-pub found_place : (words : List (List ℕ)) (place : ℕ → Option ℕ) (bytes : List ℕ) (r : Option ℕ) → IsPlaced words place → IsDictionary words → is_word (upper bytes) ≡ true → r ≡ place (number_of 8 (upper bytes)) → IfSome r (λ i. slice_get words i ≡ Some (upper bytes))
+pub found_place : (words : List (List ℕ)) (place : ℕ → Option ℕ) (bytes : List ℕ) (r : Option ℕ) → IsPlaced words place → IsDictionary words → is_word (str_to_ascii_uppercase bytes) ≡ true → r ≡ place (number_of 8 (str_to_ascii_uppercase bytes)) → IfSome r (λ i. slice_get words i ≡ Some (str_to_ascii_uppercase bytes))
 found_place words place bytes None placed dictionary legal e = tt
 found_place words place bytes (Some i) placed dictionary legal e =
-    let there = placed.found (number_of 8 (upper bytes)) i (sym e) in
-    there.1 ∙ ap Some (same_word there.0 (upper bytes) (dictionary.legal i there.0 there.1) legal there.2)
+    let there = placed.found (number_of 8 (str_to_ascii_uppercase bytes)) i (sym e) in
+    there.1 ∙ ap Some (same_word there.0 (str_to_ascii_uppercase bytes) (dictionary.legal i there.0 there.1) legal there.2)
 
 -- a word's place is found
-pub only_place : (words : List (List ℕ)) (place : ℕ → Option ℕ) (bytes : List ℕ) (r : Option ℕ) → IsPlaced words place → r ≡ place (number_of 8 (upper bytes)) → (i : ℕ) → slice_get words i ≡ Some (upper bytes) → r ≡ Some i
-only_place words place bytes r placed e i there = e ∙ placed.only i (upper bytes) there
+pub only_place : (words : List (List ℕ)) (place : ℕ → Option ℕ) (bytes : List ℕ) (r : Option ℕ) → IsPlaced words place → r ≡ place (number_of 8 (str_to_ascii_uppercase bytes)) → (i : ℕ) → slice_get words i ≡ Some (str_to_ascii_uppercase bytes) → r ≡ Some i
+only_place words place bytes r placed e i there = e ∙ placed.only i (str_to_ascii_uppercase bytes) there
 
 -- what is no word has no place
-pub no_place : (words : List (List ℕ)) (bytes : List ℕ) → IsDictionary words → false ≡ (nat_le 1 (length bytes) && nat_le (length bytes) 4 && list_all is_ascii_alphabetic bytes) → (i : ℕ) → slice_get words i ≡ Some (upper bytes) → ⊥
-no_place words bytes dictionary e i there = false≢true (e ∙ sym (is_word-upper bytes) ∙ dictionary.legal i (upper bytes) there)
+pub no_place : (words : List (List ℕ)) (bytes : List ℕ) → IsDictionary words → false ≡ (nat_le 1 (length bytes) && nat_le (length bytes) 4 && list_all is_ascii_alphabetic bytes) → (i : ℕ) → slice_get words i ≡ Some (str_to_ascii_uppercase bytes) → ⊥
+no_place words bytes dictionary e i there = false≢true (e ∙ sym (is_word-upper bytes) ∙ dictionary.legal i (str_to_ascii_uppercase bytes) there)

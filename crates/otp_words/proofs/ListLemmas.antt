@@ -3,7 +3,7 @@ use Rattle.std.proofs.Common.{◌≡◌, ℕ, zero, suc, ◌+◌, ◌<◌, ◌�
 use Rattle.std.specs.Prelude.{slice_get, nat_le, ◌==◌, is_some}
 use Rattle.std.specs.Char.{is_ascii_alphabetic}
 use Rattle.std.specs.List.{list_all, list_any, prefix_len, slice_split}
-use Rattle.std.specs.Str.{bytes_eq}
+use Rattle.std.specs.Str.{bytes_eq, str_to_ascii_uppercase}
 use Rattle.std.specs.Str.Lines.{lines, lines_of_parts, strip_carriage_return}
 use Rattle.std.specs.Ordering.{nat_cmp, is_eq}
 use Rattle.std.proofs.lemmas.Bool.{false≢true, cases_lt, cases_eq}
@@ -17,7 +17,7 @@ use Rattle.fixed_list.specs.declared.FixedList.{FixedList}
 use Rattle.fixed_list.specs.FixedList.{list_of}
 use Rattle.otp_words.specs.declared.fault.DictRule.TheVariants as rules_of
 use Rattle.otp_words.specs.Digits.{number_of}
-use Rattle.otp_words.specs.Dictionaries.{upper, is_word, IsDictionary}
+use Rattle.otp_words.specs.Dictionaries.{is_word, IsDictionary}
 use Rattle.otp_words.specs.Lists.{rule_of}
 use Rattle.otp_words.specs.Inner.{IsPlaced, AreWords}
 use Rattle.otp_words.proofs.DictionaryLemmas.{same_word}
@@ -67,18 +67,18 @@ twice words place word (Some i) placed are legal e some =
     any_at words i word (there.1 ∙ ap (λ (v : List ℕ). Some v) (same_word there.0 word (are.legal i there.0 there.1) legal there.2))
 
 -- a line whose word was there before
-pub rule_twice : (words : List (List ℕ)) (place : ℕ → Option ℕ) (line : List ℕ) → IsPlaced words place → AreWords words → is_word (upper line) ≡ true → (nat_le 1 (length line) && nat_le (length line) 4) ≡ true → list_all is_ascii_alphabetic line ≡ true → is_some (place (number_of 8 (upper line))) ≡ true → Some rules_of.Twice ≡ rule_of words line
+pub rule_twice : (words : List (List ℕ)) (place : ℕ → Option ℕ) (line : List ℕ) → IsPlaced words place → AreWords words → is_word (str_to_ascii_uppercase line) ≡ true → (nat_le 1 (length line) && nat_le (length line) 4) ≡ true → list_all is_ascii_alphabetic line ≡ true → is_some (place (number_of 8 (str_to_ascii_uppercase line))) ≡ true → Some rules_of.Twice ≡ rule_of words line
 unfolding rule_of
-rule_twice words place line placed are legal e f some = rw (e, f, twice words place (upper line) (place (number_of 8 (upper line))) placed are legal refl some) refl
+rule_twice words place line placed are legal e f some = rw (e, f, twice words place (str_to_ascii_uppercase line) (place (number_of 8 (str_to_ascii_uppercase line))) placed are legal refl some) refl
 
 -- a word without a place is new
 nowhere : (words : List (List ℕ)) (place : ℕ → Option ℕ) (word : List ℕ) → IsPlaced words place → is_some (place (number_of 8 word)) ≡ false → (i : ℕ) → slice_get words i ≡ Some word → ⊥
 nowhere words place word placed none i there = false≢true (sym none ∙ ap is_some (placed.only i word there))
 
 -- a line of a new word
-pub rule_none : (words : List (List ℕ)) (place : ℕ → Option ℕ) (line : List ℕ) → IsPlaced words place → (nat_le 1 (length line) && nat_le (length line) 4) ≡ true → list_all is_ascii_alphabetic line ≡ true → is_some (place (number_of 8 (upper line))) ≡ false → None ≡ rule_of words line
+pub rule_none : (words : List (List ℕ)) (place : ℕ → Option ℕ) (line : List ℕ) → IsPlaced words place → (nat_le 1 (length line) && nat_le (length line) 4) ≡ true → list_all is_ascii_alphabetic line ≡ true → is_some (place (number_of 8 (str_to_ascii_uppercase line))) ≡ false → None ≡ rule_of words line
 unfolding rule_of
-rule_none words place line placed e f none = rw (e, f, none_at words (upper line) (nowhere words place (upper line) placed none)) refl
+rule_none words place line placed e f none = rw (e, f, none_at words (str_to_ascii_uppercase line) (nowhere words place (str_to_ascii_uppercase line) placed none)) refl
 
 -- an element of the front
 get_left : (xs ys : List (List ℕ)) (i : ℕ) → i < length xs → slice_get (xs ++ ys) i ≡ slice_get xs i

@@ -4,11 +4,12 @@ use Rattle.std.specs.Prelude.{slice_get, fold, IfSome, ◌==◌, ◌/◌, sum}
 use Rattle.std.proofs.Common.{eq-eqb}
 use Rattle.std.specs.Bool.{then_some}
 use Rattle.std.specs.List.{list_all}
+use Rattle.std.specs.Str.{str_to_ascii_uppercase}
 use Rattle.std.proofs.lemmas.Bool.Decides.{nat_tests}
 use Rattle.std.proofs.lemmas.Nat.{mod_below}
 use Rattle.std.proofs.lemmas.List.{append-nil}
 use Rattle.otp_words.specs.Blanks.{is_blank}
-use Rattle.otp_words.specs.Dictionaries.{upper, IsDictionary}
+use Rattle.otp_words.specs.Dictionaries.{IsDictionary}
 use Rattle.otp_words.specs.Digits.{digits_of}
 use Rattle.otp_words.specs.Words.{IsWords, check_bits, checked}
 use Rattle.otp_words.proofs.DigitLemmas.{number_more}
@@ -35,14 +36,14 @@ abbrev pub IsNumberOf : List (List ℕ) → List ℕ → ℕ → ℕ → ℕ →
 IsNumberOf words text count front n = (places : List ℕ) × (length places ≡ count) × IsWords words places text × (n ≡ number_from front places)
 
 -- the first word has a place
-pub not_found : (words : List (List ℕ)) (text places : List ℕ) (r : Option ℕ) → IsDictionary words → IsWords words places text → ((i : ℕ) → slice_get words i ≡ Some (upper (front_of text)) → r ≡ Some i) → r ≡ None → ⊥
+pub not_found : (words : List (List ℕ)) (text places : List ℕ) (r : Option ℕ) → IsDictionary words → IsWords words places text → ((i : ℕ) → slice_get words i ≡ Some (str_to_ascii_uppercase (front_of text)) → r ≡ Some i) → r ≡ None → ⊥
 not_found words text [] r dictionary is only none = absurd is
 not_found words text (i ∷ places) r dictionary is only none =
     let some : r ≡ Some i = only i (first_place words i places text dictionary is) in
     cc
 
 -- the last word is read
-pub last_only : (words : List (List ℕ)) (text places rest : List ℕ) (front place : ℕ) (found r : Option ℕ) → IsDictionary words → length places ≡ 1 → IsWords words places text → ((i : ℕ) → slice_get words i ≡ Some (upper (front_of text)) → found ≡ Some i) → found ≡ Some place → rest ≡ behind text → r ≡ then_some (length rest == 0) (front * 2048 + place) → r ≡ Some (number_from front places)
+pub last_only : (words : List (List ℕ)) (text places rest : List ℕ) (front place : ℕ) (found r : Option ℕ) → IsDictionary words → length places ≡ 1 → IsWords words places text → ((i : ℕ) → slice_get words i ≡ Some (str_to_ascii_uppercase (front_of text)) → found ≡ Some i) → found ≡ Some place → rest ≡ behind text → r ≡ then_some (length rest == 0) (front * 2048 + place) → r ≡ Some (number_from front places)
 last_only words text [] rest front place found r dictionary long is only at left e = absurd is
 last_only words text (i ∷ j ∷ places) rest front place found r dictionary long is only at left e = absurd (omega arith)
 last_only words text (i ∷ []) rest front place found r dictionary long is only at left e =
@@ -52,10 +53,10 @@ last_only words text (i ∷ []) rest front place found r dictionary long is only
     e ∙ rw (none, same) refl
 
 -- what is read as the last word is one
-pub last_found : (words : List (List ℕ)) (text word rest : List ℕ) (count front place : ℕ) (r : Option ℕ) → count ≡ 1 → text ≡ word ++ rest → slice_get words place ≡ Some (upper word) → r ≡ then_some (length rest == 0) (front * 2048 + place) → IfSome r (IsNumberOf words text count front)
+pub last_found : (words : List (List ℕ)) (text word rest : List ℕ) (count front place : ℕ) (r : Option ℕ) → count ≡ 1 → text ≡ word ++ rest → slice_get words place ≡ Some (str_to_ascii_uppercase word) → r ≡ then_some (length rest == 0) (front * 2048 + place) → IfSome r (IsNumberOf words text count front)
 last_found words text word [] count front place r one split there e =
     let same : word ≡ text = sym (append-nil word) ∙ sym split in
-    let known : IsNumberOf words text count front (front * 2048 + place) = (place ∷ [], sym one, there ∙ ap (λ (t : List ℕ). Some (upper t)) same, refl) in
+    let known : IsNumberOf words text count front (front * 2048 + place) = (place ∷ [], sym one, there ∙ ap (λ (t : List ℕ). Some (str_to_ascii_uppercase t)) same, refl) in
     subst (λ (o : Option ℕ). IfSome o (IsNumberOf words text count front)) (sym e) known
 last_found words text word (c ∷ cs) count front place r one split there e =
     let none : r ≡ None = e ∙ rw (suc_is_not_zero (length cs)) refl in
@@ -73,7 +74,7 @@ number_grows count front place some few small below =
     rw more (number_more 11 (6 - count) front place small below)
 
 -- the words behind the first are read
-pub more_only : (words : List (List ℕ)) (text places : List ℕ) (count front place : ℕ) (found r : Option ℕ) → IsDictionary words → (count ≡ 1 → ⊥) → length places ≡ count → IsWords words places text → ((i : ℕ) → slice_get words i ≡ Some (upper (front_of text)) → found ≡ Some i) → found ≡ Some place → ((others : List ℕ) → length others ≡ count - 1 → IsWords words others (behind_gap (behind text)) → r ≡ Some (number_from (front * 2048 + place) others)) → r ≡ Some (number_from front places)
+pub more_only : (words : List (List ℕ)) (text places : List ℕ) (count front place : ℕ) (found r : Option ℕ) → IsDictionary words → (count ≡ 1 → ⊥) → length places ≡ count → IsWords words places text → ((i : ℕ) → slice_get words i ≡ Some (str_to_ascii_uppercase (front_of text)) → found ≡ Some i) → found ≡ Some place → ((others : List ℕ) → length others ≡ count - 1 → IsWords words others (behind_gap (behind text)) → r ≡ Some (number_from (front * 2048 + place) others)) → r ≡ Some (number_from front places)
 more_only words text [] count front place found r dictionary several long is only at rest = absurd is
 more_only words text (i ∷ []) count front place found r dictionary several long is only at rest = absurd (several (sym long))
 more_only words text (i ∷ j ∷ places) count front place found r dictionary several long is only at rest =
@@ -90,7 +91,7 @@ no_gap words text (i ∷ j ∷ places) count dictionary several long is none =
     no_length (length (gap_of (behind text))) (first_word words i j places text dictionary is).1 none
 
 -- what is read as words is so
-pub more_found : (words : List (List ℕ)) (text word gap rest : List ℕ) (count front place : ℕ) (r : Option ℕ) → 1 ≤ count → text ≡ word ++ (gap ++ rest) → slice_get words place ≡ Some (upper word) → false ≡ (length gap == 0) → list_all is_blank gap ≡ true → IfSome r (IsNumberOf words rest (count - 1) (front * 2048 + place)) → IfSome r (IsNumberOf words text count front)
+pub more_found : (words : List (List ℕ)) (text word gap rest : List ℕ) (count front place : ℕ) (r : Option ℕ) → 1 ≤ count → text ≡ word ++ (gap ++ rest) → slice_get words place ≡ Some (str_to_ascii_uppercase word) → false ≡ (length gap == 0) → list_all is_blank gap ≡ true → IfSome r (IsNumberOf words rest (count - 1) (front * 2048 + place)) → IfSome r (IsNumberOf words text count front)
 more_found words text word gap rest count front place None some split there gapped blank is = tt
 more_found words text word gap rest count front place (Some n) some split there gapped blank is =
     elim is.0 as (λ (ps : List ℕ). length ps ≡ count - 1 → IsWords words ps rest → n ≡ number_from (front * 2048 + place) ps → IsNumberOf words text count front n) [

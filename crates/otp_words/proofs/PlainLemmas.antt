@@ -4,11 +4,12 @@ use Rattle.std.specs.Prelude.{slice_get, is_some}
 use Rattle.std.specs.List.{range_with_len, list_all}
 use Rattle.std.specs.Char.{is_ascii_uppercase}
 use Rattle.std.proofs.Common.{get_or}
+use Rattle.std.specs.Str.{str_to_ascii_uppercase}
 use Rattle.std.proofs.lemmas.Bool.Decides.{nat_tests}
 use Rattle.std.proofs.lemmas.Option.{slice_get_within, get_or_from_slice_get}
 use Rattle.std.proofs.lemmas.List.FromFn.{length-map-range_with_len, get_or-map-range_with_len}
 use Rattle.otp_words.specs.Digits.{number_of}
-use Rattle.otp_words.specs.Dictionaries.{upper, is_word, plain_word}
+use Rattle.otp_words.specs.Dictionaries.{is_word, plain_word}
 use Rattle.otp_words.specs.Inner.{IsPlaced, AreWords}
 use Rattle.otp_words.proofs.DictionaryLemmas.{same_word}
 use Rattle.otp_words.proofs.WordText.{upper_letters}
@@ -23,7 +24,7 @@ plain_letters i below =
     rw (digit_letter (i / 256) (omega arith), digit_letter (i / 16 % 16) (omega arith), digit_letter (i % 16) (omega arith)) refl
 
 -- a plain word is in upper case
-pub upper-plain_word : (i : ℕ) → i < 2048 → upper (plain_word i) ≡ plain_word i
+pub upper-plain_word : (i : ℕ) → i < 2048 → str_to_ascii_uppercase (plain_word i) ≡ plain_word i
 upper-plain_word i below = upper_letters (plain_word i) (plain_letters i below)
 
 -- a plain word is a word
@@ -51,10 +52,10 @@ no_place_case place number None e h = refl
 no_place_case place number (Some i) e h = absurd (h i (sym e))
 
 -- the next plain word is new
-pub plain_new : (words : List (List ℕ)) (place : ℕ → Option ℕ) (n : ℕ) → n < 2048 → words ≡ map plain_word (range_with_len 0 n) → IsPlaced words place → AreWords words → is_some (place (number_of 8 (upper (plain_word n)))) ≡ false
+pub plain_new : (words : List (List ℕ)) (place : ℕ → Option ℕ) (n : ℕ) → n < 2048 → words ≡ map plain_word (range_with_len 0 n) → IsPlaced words place → AreWords words → is_some (place (number_of 8 (str_to_ascii_uppercase (plain_word n)))) ≡ false
 plain_new words place n below plain placed are =
-    no_place_case place (number_of 8 (upper (plain_word n))) (place (number_of 8 (upper (plain_word n)))) refl (λ i there.
-    let found = placed.found (number_of 8 (upper (plain_word n))) i there in
+    no_place_case place (number_of 8 (str_to_ascii_uppercase (plain_word n))) (place (number_of 8 (str_to_ascii_uppercase (plain_word n)))) refl (λ i there.
+    let found = placed.found (number_of 8 (str_to_ascii_uppercase (plain_word n))) i there in
     let same : found.0 ≡ plain_word n = same_word found.0 (plain_word n) (are.legal i found.0 found.1) (is_word-plain_word n below) (found.2 ∙ ap (number_of 8) (upper-plain_word n below)) in
     let at = plain_at n i found.0 (subst (λ (x : List (List ℕ)). slice_get x i ≡ Some found.0) plain found.1) in
     let equal : i ≡ n = plain_word-same i n (omega (arith, at.0)) below (sym at.1 ∙ same) in

@@ -3,6 +3,7 @@ use Rattle.std.proofs.Common.{◌≡◌, ℕ, zero, suc, ◌+◌, ◌-◌, ◌*�
 use Rattle.std.specs.Prelude.{slice_get, slice_index_or, slice_set}
 use Rattle.std.specs.Char.{is_ascii_uppercase, to_ascii_uppercase}
 use Rattle.std.specs.List.{list_all}
+use Rattle.std.specs.Str.{str_to_ascii_uppercase}
 use Rattle.std.proofs.lemmas.Bool.{and_parts}
 use Rattle.std.proofs.lemmas.Bool.Decides.{nat_tests}
 use Rattle.std.proofs.lemmas.Nat.{mod_below}
@@ -11,7 +12,7 @@ use Rattle.std.proofs.lemmas.List.{take_at, drop_at, drop-drop, append-nil}
 use Rattle.std.proofs.Math.Seq.{take-length, drop-length}
 use borrow.Rule.Slice.PartMut.{mid_of, post_of, put_mid}
 use Rattle.otp_words.specs.Digits.{digits_of}
-use Rattle.otp_words.specs.Dictionaries.{upper, IsDictionary}
+use Rattle.otp_words.specs.Dictionaries.{IsDictionary}
 use Rattle.otp_words.specs.Words.{spaced, words_at, words_text, IsWords, IsSixWords, checked}
 use Rattle.otp_words.proofs.DigitLemmas.{number_of-digits_of}
 use Rattle.otp_words.proofs.DictionaryLemmas.{is_word-parts}
@@ -21,16 +22,16 @@ upper_letter : (c : ℕ) → is_ascii_uppercase c ≡ true → to_ascii_uppercas
 upper_letter c e = grind (arith, nat_tests)
 
 -- upper-case letters stay
-pub upper_letters : (cs : List ℕ) → list_all is_ascii_uppercase cs ≡ true → upper cs ≡ cs
+pub upper_letters : (cs : List ℕ) → list_all is_ascii_uppercase cs ≡ true → str_to_ascii_uppercase cs ≡ cs
 upper_letters [] e = refl
 upper_letters (c ∷ cs) e =
     let parts = and_parts (is_ascii_uppercase c) (list_all is_ascii_uppercase cs) e in
     let head : to_ascii_uppercase c ≡ c = upper_letter c parts.0 in
-    let tail : upper cs ≡ cs = upper_letters cs parts.1 in
+    let tail : str_to_ascii_uppercase cs ≡ cs = upper_letters cs parts.1 in
     cc
 
 -- a word of a dictionary, as it is written
-written_word : (words : List (List ℕ)) (i : ℕ) → IsDictionary words → i < 2048 → slice_get words i ≡ Some (upper (slice_index_or words i []))
+written_word : (words : List (List ℕ)) (i : ℕ) → IsDictionary words → i < 2048 → slice_get words i ≡ Some (str_to_ascii_uppercase (slice_index_or words i []))
 written_word words i dictionary below =
     let there : slice_get words i ≡ Some (slice_index_or words i []) = slice_get-get_or words i [] (omega (arith, dictionary.count)) in
     let legal = is_word-parts (slice_index_or words i []) (dictionary.legal i (slice_index_or words i []) there) in

@@ -1,15 +1,11 @@
 -- Believed: word lists.
 use Rattle.std.specs.Prelude.{◌≡◌, ℕ, ◌+◌, ◌/◌, ◌%◌, Bool, true, List, [], ◌∷◌, Some, length, map, nat_le, ◌&&◌, slice_get}
-use Rattle.std.specs.Char.{is_ascii_uppercase, to_ascii_uppercase}
+use Rattle.std.specs.Char.{is_ascii_uppercase}
 use Rattle.std.specs.List.{list_all, range_with_len}
 
 -- a word: 1 to 4 upper-case ASCII letters
 unfoldable pub is_word : List ℕ → Bool
 is_word word = nat_le 1 (length word) && nat_le (length word) 4 && list_all is_ascii_uppercase word
-
--- bytes in upper case
-abbrev pub upper : List ℕ → List ℕ
-upper bytes = map to_ascii_uppercase bytes
 
 -- a list of 2,048 different words
 pub record IsDictionary (words : List (List ℕ)) : Type 0 where

@@ -1,8 +1,8 @@
 -- Believed: passwords in six words (RFC 2289).
 use Rattle.std.specs.Prelude.{◌≡◌, ℕ, ◌+◌, ◌*◌, ◌%◌, ◌≤◌, true, List, [], ◌∷◌, ◌++◌, length, map, sum, Some, slice_get, slice_index_or}
 use Rattle.std.specs.List.{list_all}
+use Rattle.std.specs.Str.{str_to_ascii_uppercase}
 use Rattle.otp_words.specs.Digits.{digits_of, number_of}
-use Rattle.otp_words.specs.Dictionaries.{upper}
 use Rattle.otp_words.specs.Blanks.{is_blank}
 
 -- the two low bits of the sum of a password's 32 pairs of bits
@@ -30,9 +30,9 @@ words_text words password = spaced (words_at words (digits_of 11 6 (checked pass
 -- a text is the words of a list at these places, in any letter case, parted by spaces and tabs
 abbrev pub IsWords : List (List ℕ) → List ℕ → List ℕ → Type 0
 IsWords words [] text = ⊥
-IsWords words (i ∷ []) text = slice_get words i ≡ Some (upper text)
+IsWords words (i ∷ []) text = slice_get words i ≡ Some (str_to_ascii_uppercase text)
 IsWords words (i ∷ j ∷ places) text =
-    (front : List ℕ) × (gap : List ℕ) × (rest : List ℕ) × (text ≡ front ++ (gap ++ rest)) × (slice_get words i ≡ Some (upper front))
+    (front : List ℕ) × (gap : List ℕ) × (rest : List ℕ) × (text ≡ front ++ (gap ++ rest)) × (slice_get words i ≡ Some (str_to_ascii_uppercase front))
     × (1 ≤ length gap) × (list_all is_blank gap ≡ true) × IsWords words (j ∷ places) rest
 
 -- a text spells a password in six words of a list with right check bits

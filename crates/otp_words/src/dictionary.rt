@@ -12,8 +12,9 @@ ghost use Rattle.otp_words.specs.Lists.{rule_of, fault_at, dictionary_of};
 ghost use Rattle.otp_words.specs.Inner.{IsPlaced, AreWords};
 ghost use Rattle.std.specs.Char.{is_ascii_alphabetic};
 ghost use Rattle.std.specs.List.{list_all, prefix_len};
+ghost use Rattle.std.specs.Str.{str_to_ascii_uppercase};
 ghost use Rattle.otp_words.specs.Digits.{number_of};
-ghost use Rattle.otp_words.specs.Dictionaries.{upper, is_word, plain_word, plain_words, IsDictionary};
+ghost use Rattle.otp_words.specs.Dictionaries.{is_word, plain_word, plain_words, IsDictionary};
 
 use crate::fault::{DictError, DictFault, DictRule};
 use fixed_list::FixedList;
@@ -88,8 +89,8 @@ impl Dictionary {
 
     /// The place of a word in any letter case, if it is in the list.
     pub fn place(&self, word: &[u8]) -> Option<usize>
-        ensures found { IfSome result (λ i. slice_get self.now i ≡ Some (upper word.now)) }
-        ensures only { (i : ℕ) → slice_get self.now i ≡ Some (upper word.now) → result ≡ Some i }
+        ensures found { IfSome result (λ i. slice_get self.now i ≡ Some (str_to_ascii_uppercase word.now)) }
+        ensures only { (i : ℕ) → slice_get self.now i ≡ Some (str_to_ascii_uppercase word.now) → result ≡ Some i }
         ensures legal { IsDictionary self.now }
     {
         let places = &self.places;
@@ -132,7 +133,7 @@ fn add(
     requires legal { AreWords (map list_of words.old.items) }
     ensures rule { IfOk result (λ r. r ≡ rule_of (map list_of words.old.items) line.now) }
     ensures kept { (rule : DictRule) → result ≡ Ok (Some rule) → words.new.items ≡ words.old.items }
-    ensures added { result ≡ Ok None → map list_of words.new.items ≡ map list_of words.old.items ++ upper line.now ∷ [] }
+    ensures added { result ≡ Ok None → map list_of words.new.items ≡ map list_of words.old.items ++ str_to_ascii_uppercase line.now ∷ [] }
     ensures placed { result ≡ Ok None → IsPlaced (map list_of words.new.items) (get nat_cmp places.new) }
     ensures legal { result ≡ Ok None → AreWords (map list_of words.new.items) }
 {
@@ -158,10 +159,10 @@ fn place_word(
 ) -> Result<(), AllocError>
     requires placed { IsPlaced (map list_of words.old.items) (get nat_cmp places.old) }
     requires legal { AreWords (map list_of words.old.items) }
-    requires word { is_word (upper word.now) ≡ true }
+    requires word { is_word (str_to_ascii_uppercase word.now) ≡ true }
     requires short { length word.now ≤ 4 }
-    requires new { is_some (get nat_cmp places.old (number_of 8 (upper word.now))) ≡ false }
-    ensures added { OnOk result (map list_of words.new.items ≡ map list_of words.old.items ++ upper word.now ∷ []) }
+    requires new { is_some (get nat_cmp places.old (number_of 8 (str_to_ascii_uppercase word.now))) ≡ false }
+    ensures added { OnOk result (map list_of words.new.items ≡ map list_of words.old.items ++ str_to_ascii_uppercase word.now ∷ []) }
     ensures placed { OnOk result (IsPlaced (map list_of words.new.items) (get nat_cmp places.new)) }
     ensures legal { OnOk result (AreWords (map list_of words.new.items)) }
 {
@@ -187,7 +188,7 @@ fn plain_word(place: usize) -> [u8; 4]
 /// A word in upper case.
 fn in_upper_case(line: &[u8]) -> FixedList<4>
     requires { length line.now ≤ 4 }
-    ensures { list_of result ≡ upper line.now }
+    ensures { list_of result ≡ str_to_ascii_uppercase line.now }
 {
     let mut word = [0; WORD_MAX];
     for (i, byte) in line.iter().enumerate() {
@@ -250,7 +251,7 @@ fn are_letters(bytes: &[u8]) -> bool
 /// A word in upper case as a number, eight bits a letter.
 fn packed(word: &[u8]) -> u32
     requires { length word.now ≤ 4 }
-    ensures { result ≡ number_of 8 (upper word.now) }
+    ensures { result ≡ number_of 8 (str_to_ascii_uppercase word.now) }
 {
     let mut number = 0;
     for byte in word {

@@ -1,26 +1,27 @@
--- Two sessions of strangers that put the same to the policy are shown the same.
-use Rattle.std.proofs.Common.{◌≡◌, ◌≢◌, ℕ, Bool, true, false, not, ◌&&◌, ◌||◌, ◌⊎◌, inl, inr, cond, eqb, List, [], ◌∷◌, ◌++◌, map, Some, None, refl, sym, ap, subst, ◌∙◌, arith, append_assoc}
-use Rattle.std.proofs.lemmas.Bool.{and_parts, eqb-true, false≢true, or_parts}
+-- Strangers that ask the same and were told the same are shown the same.
+use Rattle.std.proofs.Common.{◌≡◌, ◌≢◌, ℕ, Bool, true, false, not, ◌&&◌, ◌||◌, ◌⊎◌, inl, inr, cond, eqb, List, [], ◌∷◌, ◌++◌, take, refl, sym, ap, subst, ◌∙◌, arith}
+use Rattle.std.proofs.lemmas.Bool.{and_parts, false≢true}
 use Rattle.std.proofs.lemmas.Bool.Decides.{nat_tests}
-use Rattle.std.proofs.lemmas.List.{append-nil}
+use Rattle.std.proofs.lemmas.Option.{slice_get_within}
 use Rattle.policy_model.specs.declared.event.Ask.{Ask}
 use Rattle.policy_model.specs.declared.event.Ask.TheVariants as asks
 use Rattle.policy_model.specs.declared.event.Decision.TheVariants.{Deny}
 use Rattle.policy_model.specs.declared.event.Event.{Event}
-use Rattle.policy_model.specs.Asks.{accepts, is_begin, is_challenge, is_end, is_lost, is_permit, came_by_frame, kind_of, opens, shown_of}
-use Rattle.policy_model.specs.Journal.{has_event, is_own, is_turn_of, open_session_of, opened_after}
+use Rattle.policy_model.specs.Asks.{accepts, is_begin, is_challenge, is_end, is_lost, is_permit, came_by_frame, opens, shown_of}
+use Rattle.policy_model.specs.Journal.{has_event, is_own, is_turn_of, open_session_of}
+use Rattle.policy_model.specs.Cases.{opened_after}
 use Rattle.policy_model.specs.Legal.{IsLegal, IsNext}
 use Rattle.policy_model.specs.Settings.{Settings}
-use Rattle.policy_laws.specs.Strangers.{IsStranger, Question, StrangersSeeNoAccounts, Told, answer_of, asks_in, bare, is_between, question_of, stranger_verdict, told_in, told_of, without_readings}
+use Rattle.policy_laws.specs.Strangers.{IsStrangersAsk, ShowsNoAccounts, Told, is_between, told_in, without_readings}
+use Rattle.policy_laws.specs.Verdicts.{stranger_verdict}
 use Rattle.policy_laws.proofs.Apart.{has_event-push}
 use Rattle.policy_model.proofs.Journals.{open_session_of-push}
-use Rattle.policy_model.proofs.Lists.{filter-push}
 use Rattle.policy_model.proofs.Runs.{next_session, no_begin}
-use Rattle.policy_laws.proofs.Strangers.{opened_some, stranger_event}
+use Rattle.policy_laws.proofs.Sequences.{IsLegal-take}
+use Rattle.policy_laws.proofs.Strangers.{next_at, none_accepted, opened_some, stranger_event}
 use Rattle.policy_laws.proofs.Told.{begin_decided}
 use Rattle.policy_model.proofs.Verdicts.{session_of-other}
-use Rattle.session_laws.proofs.ByEvents.{by_events, by_legal_events}
-use Rattle.session_laws.proofs.Permits.{same_some}
+use Rattle.session_laws.proofs.ByEvents.{by_events}
 
 or_true : (a : Bool) → (a || true) ≡ true
 or_true true = refl
@@ -57,22 +58,6 @@ record IsToldAfter (requests : ℕ) (told : List Told) (e : Event) : Type 0 wher
   pub begin : is_begin e.ask ≡ true → e.decision ≡ Deny 6 0
   pub end : is_end e.ask ≡ false
 
--- the same of each of some events
-abbrev AreTold : ℕ → List Told → List Event → Type 0
-AreTold requests told [] = Unit {0}
-AreTold requests told (e ∷ events) = IsToldAfter requests told e × AreTold requests (told ++ told_of e ∷ []) events
-
-AreTold-push : (requests : ℕ) (told : List Told) (events : List Event) (e : Event) → AreTold requests told events → IsToldAfter requests (told ++ map told_of events) e → AreTold requests told (events ++ e ∷ [])
-AreTold-push requests told [] e h new = (subst (λ t. IsToldAfter requests t e) (append-nil told) new, tt)
-AreTold-push requests told (x ∷ xs) e h new =
-    (h.0, AreTold-push requests (told ++ told_of x ∷ []) xs e h.1 (subst (λ t. IsToldAfter requests t e) (sym (append_assoc told (told_of x ∷ []) (map told_of xs))) new))
-
--- what a stranger's session so far is told
-record IsRefused (journal : List Event) (session : ℕ) : Type 0 where
-  pub some : session ≢ 0
-  pub refused : has_event journal session accepts ≡ false
-  pub kept : has_event journal session (λ e. is_lost e.decision) ≡ false
-
 is_false : (b : Bool) → not b ≡ true → b ≡ false
 is_false true h = absurd cc
 is_false false h = refl
@@ -103,117 +88,47 @@ told_next setup journal e legal next some before refused kept between = record {
       let opened = ap (λ s. has_event journal s opens) own ∙ open_opened setup journal legal e.worker (λ h. some (own ∙ h)) in
       stranger_event setup journal e legal next (record { opened = opened; before = before; request = is; other = other; refused = refused; kept = kept })
 
-told_all : (setup : Settings) (journal : List Event) → IsLegal setup journal → (session : ℕ) → IsRefused journal session → AreTold setup.requests [] (asks_in journal session)
-told_all setup journal legal = by_legal_events setup (λ j. (session : ℕ) → IsRefused j session → AreTold setup.requests [] (asks_in j session)) (λ session s. tt) more journal legal where
-  more : (j : List Event) (e : Event) → IsLegal setup j → IsNext setup j e → ((session : ℕ) → IsRefused j session → AreTold setup.requests [] (asks_in j session)) → (session : ℕ) → IsRefused (j ++ e ∷ []) session → AreTold setup.requests [] (asks_in (j ++ e ∷ []) session)
-  more j e legal next before session s =
-      subst (AreTold setup.requests []) (sym (filter-push (is_own session is_between) j e)) (go (eqb e.session session) refl (is_between e) refl) where
-        a : (has_event j session accepts ≡ false) × (is_own session accepts e ≡ false)
-        a = or_parts _ (is_own session accepts e) (sym (has_event-push j session accepts e) ∙ s.refused)
-
-        b : (has_event j session (λ x. is_lost x.decision) ≡ false) × ((eqb e.session session && is_lost e.decision) ≡ false)
-        b = or_parts _ (eqb e.session session && is_lost e.decision) (sym (has_event-push j session (λ x. is_lost x.decision) e) ∙ s.kept)
-
-        old : AreTold setup.requests [] (asks_in j session)
-        old = before session (record { some = s.some; refused = a.0; kept = b.0 })
-
-        stay : AreTold setup.requests [] (asks_in j session ++ [])
-        stay = subst (AreTold setup.requests []) (sym (append-nil (asks_in j session))) old
-
-        go : (own : Bool) → eqb e.session session ≡ own → (between : Bool) → is_between e ≡ between → AreTold setup.requests [] (asks_in j session ++ cond (own && between) (e ∷ []) [])
-        go false o t is = stay
-        go true o false is = stay
-        go true o true is =
-            let same : e.session ≡ session = eqb-true e.session session o in
-            let told = told_next setup j e legal next (λ h. s.some (sym same ∙ h)) (ap (λ n. has_event j n accepts) same ∙ a.0) (sym (ap (λ x. x && accepts e) o) ∙ a.1) (sym (ap (λ x. x && is_lost e.decision) o) ∙ b.1) is in
-            AreTold-push setup.requests [] (asks_in j session) e old (subst (λ n. IsToldAfter setup.requests (told_in j n) e) same told)
-
 -- a stranger's verdict looks at no reading
 unread : (requests : ℕ) (told : List Told) (ask : Ask) → stranger_verdict requests told ask ≡ stranger_verdict requests told (without_readings ask)
 unfolding stranger_verdict
 unread requests told (asks.Reply words hex) = refl
 unread requests told _ = refl
 
-same_kind : (ask : Ask) → kind_of ask ≡ kind_of (without_readings ask)
-same_kind (asks.Reply words hex) = refl
-same_kind _ = refl
-
 same_begin : (ask : Ask) → is_begin ask ≡ is_begin (without_readings ask)
 same_begin (asks.Reply words hex) = refl
 same_begin _ = refl
 
-challenge_kind : (ask other : Ask) → is_challenge ask ≡ true → is_challenge other ≡ true → kind_of ask ≡ kind_of other
-challenge_kind (asks.Challenge user now) (asks.Challenge name moment) h g = refl
-challenge_kind (asks.Challenge user now) _ h g = absurd cc
-challenge_kind _ other h g = absurd cc
-
-told_same : (e f : Event) → kind_of e.ask ≡ kind_of f.ask → bare (shown_of e.decision) ≡ bare (shown_of f.decision) → told_of e ≡ told_of f
-told_same e f kind decision = cc
-
-none_some : {X : Type 0} (x : X) → None ≡ Some x → ⊥
-none_some x h = absurd cc
-
--- two events that put the same are told the same
-record Same (e f : Event) : Type 0 where
-  pub answer : answer_of e ≡ answer_of f
-  pub told : told_of e ≡ told_of f
-
-same_event : (requests : ℕ) (told : List Told) (e f : Event) → IsToldAfter requests told e → IsToldAfter requests told f → question_of e ≡ question_of f → Same e f
-same_event requests told e f a b h = go (is_challenge e.ask) refl (is_challenge f.ask) refl h where
-  Asked : Event → Bool → Question
-  Asked x c = cond c (let q : Question = record { ask = None; challenge = Some (told_of x).decision } in q) (let q : Question = record { ask = Some (without_readings x.ask); challenge = None } in q)
-
-  shown : is_challenge e.ask ≡ false → is_challenge f.ask ≡ false → without_readings e.ask ≡ without_readings f.ask → (c : Bool) → is_begin e.ask ≡ c → shown_of e.decision ≡ shown_of f.decision
-  shown p q same true is =
-      let other : is_begin f.ask ≡ true = same_begin f.ask ∙ ap is_begin (sym same) ∙ sym (same_begin e.ask) ∙ is in
-      ap shown_of (a.begin is ∙ sym (b.begin other))
-  shown p q same false is =
-      let other : is_begin f.ask ≡ false = same_begin f.ask ∙ ap is_begin (sym same) ∙ sym (same_begin e.ask) ∙ is in
-      let one : came_by_frame e.ask ≡ true = rw (is, a.end) refl in
-      let two : came_by_frame f.ask ≡ true = rw (other, b.end) refl in
-      a.request one p ∙ ap shown_of (unread requests told e.ask ∙ ap (stranger_verdict requests told) same ∙ sym (unread requests told f.ask)) ∙ sym (b.request two q)
-
-  go : (x : Bool) → is_challenge e.ask ≡ x → (y : Bool) → is_challenge f.ask ≡ y → Asked e x ≡ Asked f y → Same e f
-  go true p true q same =
-      let decision : (told_of e).decision ≡ (told_of f).decision = same_some (told_of e).decision (told_of f).decision (ap (λ (q : Question). q.challenge) same) in
-      record {
-        answer = ap (λ c. cond c None (Some (shown_of e.decision))) p ∙ sym (ap (λ c. cond c None (Some (shown_of f.decision))) q);
-        told = told_same e f (challenge_kind e.ask f.ask p q) decision;
-      }
-  go true p false q same = absurd (none_some (without_readings f.ask) (ap (λ (q : Question). q.ask) same))
-  go false p true q same = absurd (none_some (without_readings e.ask) (sym (ap (λ (q : Question). q.ask) same)))
-  go false p false q same =
-      let asked : without_readings e.ask ≡ without_readings f.ask = same_some (without_readings e.ask) (without_readings f.ask) (ap (λ (q : Question). q.ask) same) in
-      let equal = shown p q asked (is_begin e.ask) refl in
-      record {
-        answer = ap (λ c. cond c None (Some (shown_of e.decision))) p ∙ ap Some equal ∙ sym (ap (λ c. cond c None (Some (shown_of f.decision))) q);
-        told = told_same e f (same_kind e.ask ∙ ap kind_of asked ∙ sym (same_kind f.ask)) (ap bare equal);
-      }
-
-same_head : {A : Type 0} (x y : A) (xs ys : List A) → x ∷ xs ≡ y ∷ ys → (x ≡ y) × (xs ≡ ys)
-same_head x y xs ys h = (cc, cc)
-
-same_events : (requests : ℕ) (told : List Told) (es fs : List Event) → AreTold requests told es → AreTold requests told fs → map question_of es ≡ map question_of fs → map answer_of es ≡ map answer_of fs
-same_events requests told [] [] a b h = refl
-same_events requests told [] (f ∷ fs) a b h = absurd cc
-same_events requests told (e ∷ es) [] a b h = absurd cc
-same_events requests told (e ∷ es) (f ∷ fs) a b h =
-    let both = same_head (question_of e) (question_of f) (map question_of es) (map question_of fs) h in
-    let s = same_event requests told e f a.0 b.0 both.0 in
-    let rest = same_events requests (told ++ told_of e ∷ []) es fs a.1 (subst (λ t. AreTold requests (told ++ t ∷ []) fs) (sym s.told) b.1) both.1 in
-    ap (λ x. x ∷ map answer_of es) s.answer ∙ ap (λ l. answer_of f ∷ l) rest
-
-stranger_refused : (setup : Settings) (journal : List Event) → IsLegal setup journal → (session : ℕ) → IsStranger journal session → IsRefused journal session
-stranger_refused setup journal legal session s = record {
-  some = λ h. false≢true (sym (opened_some setup journal legal) ∙ ap (λ n. has_event journal n opens) (sym h) ∙ s.opened);
-  refused = s.refused;
-  kept = s.kept;
-}
+-- what is told of a stranger's ask, by what its session was told before
+told_ask : (setup : Settings) (journal : List Event) → IsLegal setup journal → (k : ℕ) (e : Event) → IsStrangersAsk journal k e → IsToldAfter setup.requests (told_in (take k journal) e.session) e
+told_ask setup journal legal k e s =
+    let lt = slice_get_within journal k e s.stands in
+    let front = IsLegal-take setup journal k (omega (arith, lt)) legal in
+    let some : e.session ≢ 0 = λ h. false≢true (sym (opened_some setup (take k journal) front) ∙ ap (λ n. has_event (take k journal) n opens) (sym h) ∙ s.opened) in
+    let refused = none_accepted journal k e s in
+    told_next setup (take k journal) e front (next_at setup journal legal k e s.stands) some refused.0 refused.1 s.kept s.between
 
 -- strangers see no accounts
-pub strangers_see_no_accounts : (setup setup' : Settings) (journal journal' : List Event) → setup.requests ≡ setup'.requests → IsLegal setup journal → IsLegal setup' journal' → StrangersSeeNoAccounts journal journal'
-strangers_see_no_accounts setup setup' journal journal' same legal legal' = record {
-  alike = λ a b sa sb asked.
-      same_events setup.requests [] (asks_in journal a) (asks_in journal' b) (told_all setup journal legal a (stranger_refused setup journal legal a sa))
-      (subst (λ n. AreTold n [] (asks_in journal' b)) (sym same) (told_all setup' journal' legal' b (stranger_refused setup' journal' legal' b sb))) asked;
-}
+pub shows_no_accounts : (setup : Settings) (journal : List Event) → IsLegal setup journal → ShowsNoAccounts setup journal
+shows_no_accounts setup journal legal = record { alike = alike } where
+  alike : (other_setup : Settings) (other : List Event) → other_setup.requests ≡ setup.requests → IsLegal other_setup other → (k j : ℕ) (e f : Event) → IsStrangersAsk journal k e → IsStrangersAsk other j f → told_in (take k journal) e.session ≡ told_in (take j other) f.session → without_readings e.ask ≡ without_readings f.ask → shown_of e.decision ≡ shown_of f.decision
+  alike other_setup other same other_legal k j e f s t told asked = go (is_begin e.ask) refl where
+    before : List Told
+    before = told_in (take k journal) e.session
+
+    one : IsToldAfter setup.requests before e
+    one = told_ask setup journal legal k e s
+
+    two : IsToldAfter setup.requests before f
+    two = subst (λ n. IsToldAfter n before f) same (subst (λ ts. IsToldAfter other_setup.requests ts f) (sym told) (told_ask other_setup other other_legal j f t))
+
+    begins : is_begin f.ask ≡ is_begin e.ask
+    begins = same_begin f.ask ∙ ap is_begin (sym asked) ∙ sym (same_begin e.ask)
+
+    go : (c : Bool) → is_begin e.ask ≡ c → shown_of e.decision ≡ shown_of f.decision
+    go true is = ap shown_of (one.begin is ∙ sym (two.begin (begins ∙ is)))
+    go false is =
+        let mine : came_by_frame e.ask ≡ true = rw (is, one.end) refl in
+        let its : came_by_frame f.ask ≡ true = rw (begins ∙ is, two.end) refl in
+        one.request mine s.other
+        ∙ ap shown_of (unread setup.requests before e.ask ∙ ap (stranger_verdict setup.requests before) asked ∙ sym (unread setup.requests before f.ask))
+        ∙ sym (two.request its t.other)

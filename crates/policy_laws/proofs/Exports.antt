@@ -15,7 +15,7 @@ use Rattle.policy_model.specs.Journal.{has_event, is_own}
 use Rattle.policy_model.specs.Legal.{IsLegal, IsNext}
 use Rattle.policy_model.specs.Logins.{challenged_user, current_password, verified_user, was_accepted}
 use Rattle.policy_model.specs.Settings.{Settings}
-use Rattle.policy_model.specs.Verdict.{number_named}
+use Rattle.policy_model.specs.Cases.{number_named}
 use Rattle.policy_model.proofs.Lists.{stands_at}
 use Rattle.policy_model.proofs.LoginLemmas.{verified_user-push}
 use Rattle.session_laws.proofs.ByEvents.{some_event}

@@ -14,13 +14,13 @@ use Rattle.policy_model.specs.declared.event.Ask.TheVariants as asks
 use Rattle.policy_model.specs.declared.event.Event.{Event}
 use Rattle.policy_model.specs.declared.reading.TheConstants.{DECOYS_FROM}
 use Rattle.policy_laws.specs.Consequences.{OneTakerAtATime, SequenceFalls}
-use Rattle.policy_model.specs.Asks.{accepts, gives_up, is_challenge_for, is_reply, is_abandon, is_permit, reserves, takes_user, value_of}
+use Rattle.policy_model.specs.Asks.{accepts, gives_up, is_permit, reserves, takes_user, value_of, is_user}
+use Rattle.policy_model.specs.Cases.{is_challenge_for, is_reply, is_abandon, holder_by, is_holder}
 use Rattle.policy_model.specs.Journal.{Place, is_own}
 use Rattle.policy_model.specs.Legal.{IsLegal, IsNext}
-use Rattle.policy_model.specs.Logins.{account_of, current_sequence, holder_by, holder_of, is_live, is_user, challenged_user, last_taking_of, replies_of, reply_for, session_taking, was_given_up}
+use Rattle.policy_model.specs.Logins.{account_of, current_sequence, holder_of, is_live, challenged_user, last_taking_of, replies_of, reply_for, session_taking, was_given_up}
 use Rattle.policy_model.specs.Phases.{is_over}
 use Rattle.policy_model.specs.Settings.{Settings}
-use Rattle.policy_model.specs.Verdict.{is_holder}
 use Rattle.policy_model.proofs.LoginLemmas.{count_replies-push, last_taking_of-last, last_taking_of-none, last_taking_of-push, replies_of-none, was_given_up-push}
 use Rattle.policy_model.proofs.Lists.{stands_at}
 use Rattle.session_laws.proofs.ByEvents.{by_events, some_event}
@@ -184,8 +184,8 @@ sequence_falls setup journal legal = record {
   falls = λ user i k j earlier reply later ik kj a b c.
       let at : (n : ℕ) (e : Event) → slice_get journal n ≡ Some e → get_or journal n some_event ≡ e = λ n e h. get_or_from_slice_get journal n e some_event h in
       let falls =
-      falls_at setup journal legal user i k j some_event ik kj (slice_get_within journal j later c.stands) (ap (reserves user) (at i earlier a.stands) ∙ a.reserved)
-      (ap (λ e. is_some (reply_for user (let p : Place = record { before = take k journal; event = e } in p))) (at k reply b.stands) ∙ b.replies) (ap (reserves user) (at j later c.stands) ∙ c.reserved) in
+      falls_at setup journal legal user i k j some_event ik kj (slice_get_within journal j later c.stands) (ap (reserves user) (at i earlier a.stands) ∙ a.passes)
+      (ap (λ e. is_some (reply_for user (let p : Place = record { before = take k journal; event = e } in p))) (at k reply b.stands) ∙ b.replies) (ap (reserves user) (at j later c.stands) ∙ c.passes) in
       subst (λ e. value_of later.decision < value_of e.decision) (at i earlier a.stands) (subst (λ e. value_of e.decision < value_of (get_or journal i some_event).decision) (at j later c.stands) falls);
 }
 
@@ -309,9 +309,9 @@ one_taker_at_a_time setup journal legal = record {
       let replied = ap (λ x. is_some (reply_for user (let p : Place = record { before = take k journal; event = x } in p))) (at k reply b.stands) ∙ b.replies in
       let none : (n : ℕ) → i < n → n < k → is_own (get_or journal k some_event).session (takes_user user) (get_or journal n some_event) ≡ false =
       λ n above below. no_own_taking (eqb (get_or journal n some_event).session (get_or journal k some_event).session) (takes_user user (get_or journal n some_event))
-      (λ own taken. a.last n (get_or journal n some_event) above below (record { stands = stands_at journal n some_event (omega (arith, below, kn)); takes = taken }) (eqb-true (get_or journal n some_event).session (get_or journal k some_event).session own ∙ ap (λ x. x.session) (at k reply b.stands) ∙ sym same)) in
+      (λ own taken. a.last n (get_or journal n some_event) above below (record { stands = stands_at journal n some_event (omega (arith, below, kn)); passes = taken }) (eqb-true (get_or journal n some_event).session (get_or journal k some_event).session own ∙ ap (λ x. x.session) (at k reply b.stands) ∙ sym same)) in
       let alone = alone_at setup journal legal user i m k some_event im mk kn replied none in
-      false≢true (sym alone ∙ ap (takes_user user) (at m e c.stands) ∙ c.takes);
+      false≢true (sym alone ∙ ap (takes_user user) (at m e c.stands) ∙ c.passes);
 } where
   no_own_taking : (own taken : Bool) → (own ≡ true → taken ≡ true → ⊥) → (own && taken) ≡ false
   no_own_taking true true h = absurd (h refl refl)

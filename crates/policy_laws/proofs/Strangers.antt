@@ -1,6 +1,8 @@
 -- Strangers are told alike: the verdicts on what a session asks by which nobody has logged in.
-use Rattle.std.proofs.Common.{◌≡◌, ◌≢◌, ℕ, ◌+◌, Bool, true, false, not, ◌&&◌, ◌||◌, ◌==◌, cond, eqb, nat_le, List, [], ◌∷◌, ◌++◌, length, get_or, take, Option, Some, None, refl, sym, ap, subst, ◌∙◌, arith}
+use Rattle.std.proofs.Common.{◌≡◌, ◌≢◌, ℕ, ◌+◌, Bool, true, false, not, ◌&&◌, ◌||◌, ◌==◌, cond, eqb, nat_le, List, [], ◌∷◌, ◌++◌, length, take, Option, Some, None, refl, sym, ap, subst, ◌∙◌, arith}
+use Rattle.std.specs.Prelude.{slice_get}
 use Rattle.std.specs.List.{find, list_any}
+use Rattle.std.proofs.lemmas.List.{take_more}
 use Rattle.std.proofs.lemmas.Option.{get_or_from_slice_get, slice_get_within}
 use Rattle.std.proofs.lemmas.Bool.{and_parts, eqb-true, false≢true, ne_eqb, or_parts}
 use Rattle.std.proofs.lemmas.Bool.Decides.{nat_tests}
@@ -14,15 +16,17 @@ use Rattle.policy_model.specs.declared.event.Decision.TheVariants.{Permit, Deny,
 use Rattle.policy_model.specs.declared.event.Event.{Event}
 use Rattle.policy_model.specs.declared.phase.Phase.{Phase}
 use Rattle.policy_model.specs.declared.phase.Phase.TheVariants.{Pre, Challenged, Verified, User, Over}
-use Rattle.policy_model.specs.Asks.{accepts, ends_session, exports, is_begin, is_challenge, is_login_step, is_lost, is_open, is_permit, is_proper, is_reply, came_by_frame, opens, opens_file, permits_kind, request_number, shown_of, value_of}
+use Rattle.policy_model.specs.Asks.{accepts, ends_session, exports, is_begin, is_challenge, is_login_step, is_lost, is_permit, is_proper, came_by_frame, opens, opens_file, permits_kind, request_number, shown_of, value_of}
+use Rattle.policy_model.specs.Cases.{is_open, is_reply, is_taking, is_holder, login_verdict, matching_verdict, readings_verdict, use_verdict}
 use Rattle.policy_model.specs.Handles.{live_handles_of, live_opens, handle_opening}
 use Rattle.policy_model.specs.Journal.{ask_count, events_of, has_event, has_lost, is_own, last_event, open_session_of, openings_of}
 use Rattle.policy_model.specs.Legal.{IsLegal, IsNext, session_of}
 use Rattle.policy_model.specs.Logins.{account_of, challenged_user, holder_of, last_taking_of, session_taking, was_accepted, was_decoyed}
-use Rattle.policy_model.specs.Phases.{is_over, is_taking, phase_of, table_row}
+use Rattle.policy_model.specs.Phases.{is_over, phase_of, table_row}
 use Rattle.policy_model.specs.Settings.{Settings}
-use Rattle.policy_laws.specs.Strangers.{StrangersAreToldAlike, Told, is_challenged, stranger_kind, stranger_verdict, told_end, told_in, told_permit}
-use Rattle.policy_model.specs.Verdict.{decoy_verdict, handle_verdict, is_holder, is_next_password, kind_verdict, login_verdict, matching_verdict, own_verdict, readings, readings_verdict, reply_verdict, request_verdict, row_verdict, use_verdict}
+use Rattle.policy_laws.specs.Strangers.{IsStrangersAsk, Told, told_in}
+use Rattle.policy_laws.specs.Verdicts.{StrangersAreToldAlike, is_challenged, stranger_kind, stranger_verdict, told_end, told_permit}
+use Rattle.policy_model.specs.Verdict.{decoy_verdict, handle_verdict, is_next_password, kind_verdict, own_verdict, readings, reply_verdict, request_verdict, row_verdict}
 use Rattle.policy_laws.proofs.Apart.{has_event-push, is_ending, not_ended}
 use Rattle.policy_model.proofs.Lists.{list_any-filter}
 use Rattle.policy_model.proofs.Runs.{next_decision, next_session, no_begin}
@@ -144,7 +148,7 @@ uses setup journal legal = by_events setup (λ j. (session : ℕ) → Uses j ses
         ap (λ s. has_event j s exports) (sym (eqb-true e.session session both.0))
         ∙ user_exports j e.session (open_phase (phase_of j e.session) (open_judged setup j e.session e.ask (value_of e.decision) is.0 (request_permit setup j e next (request_open e.ask is.0) is.1)))
 
-not_then : (a b : Bool) → (a ≡ true → b ≡ true) → b ≡ false → a ≡ false
+pub not_then : (a b : Bool) → (a ≡ true → b ≡ true) → b ≡ false → a ≡ false
 not_then true b h fails = absurd (false≢true (sym fails ∙ h refl))
 not_then false b h fails = refl
 
@@ -234,7 +238,7 @@ own_shown setup journal session told asks.Finish s request other proper refused 
     let f = λ (p : Phase). shown_of (row_verdict setup journal session asks.Finish kinds.Finish (table_row p kinds.Finish)) in
     ap f s.phase ∙ by_phase f (λ b. Permit 0) (is_challenged told) refl refl
 
-both_false : (a b : Bool) → b ≡ false → (a && b) ≡ false
+pub both_false : (a b : Bool) → b ≡ false → (a && b) ≡ false
 both_false true b h = h
 both_false false b h = refl
 
@@ -377,12 +381,27 @@ stranger_event setup journal e legal next s =
           s.other
           (ap (λ d. is_reply e.ask && is_permit d) (sym here) ∙ s.refused)
 
+-- the events up to and with the one at a place
+pub up_to : (journal : List Event) (k : ℕ) (e : Event) → slice_get journal k ≡ Some e → take (k + 1) journal ≡ take k journal ++ e ∷ []
+up_to journal k e stands = take_more journal k e (slice_get_within journal k e stands) ∙ ap (λ x. take k journal ++ x ∷ []) (get_or_from_slice_get journal k e e stands)
+
+-- the one at a place may follow those before it
+pub next_at : (setup : Settings) (journal : List Event) → IsLegal setup journal → (k : ℕ) (e : Event) → slice_get journal k ≡ Some e → IsNext setup (take k journal) e
+next_at setup journal legal k e stands = subst (IsNext setup (take k journal)) (get_or_from_slice_get journal k e e stands) (legal k e (slice_get_within journal k e stands))
+
+-- a stranger has no permitted REPLY before its ask, and its ask is none
+pub none_accepted : (journal : List Event) (k : ℕ) (e : Event) → IsStrangersAsk journal k e → (has_event (take k journal) e.session accepts ≡ false) × (accepts e ≡ false)
+none_accepted journal k e s =
+    let both = or_parts (has_event (take k journal) e.session accepts) (is_own e.session accepts e) (sym (has_event-push (take k journal) e.session accepts e) ∙ ap (λ es. has_event es e.session accepts) (sym (up_to journal k e s.stands)) ∙ s.refused) in
+    let own : eqb e.session e.session ≡ true = grind (arith, nat_tests) in
+    (both.0, sym (ap (λ b. b && accepts e) own) ∙ both.1)
+
 -- strangers are told what the stranger's verdict says
 pub strangers_are_told_alike : (setup : Settings) (journal : List Event) → IsLegal setup journal → StrangersAreToldAlike setup journal
 strangers_are_told_alike setup journal legal = record {
-  told = λ k e stands s.
-      let lt = slice_get_within journal k e stands in
-      let here : get_or journal k e ≡ e = get_or_from_slice_get journal k e e stands in
-      stranger_event setup (take k journal) e (IsLegal-take setup journal k (omega arith) legal) (subst (IsNext setup (take k journal)) here (legal k e lt)) (record { opened = s.opened; before = s.before; request = s.request; other = s.other; refused = s.refused; kept = s.kept })
-      ∙ verdict_shown setup.requests (told_in (take k journal) e.session) e.ask s.proper;
+  told = λ k e s request proper.
+      let lt = slice_get_within journal k e s.stands in
+      let refused = none_accepted journal k e s in
+      stranger_event setup (take k journal) e (IsLegal-take setup journal k (omega arith) legal) (next_at setup journal legal k e s.stands) (record { opened = s.opened; before = refused.0; request = request; other = s.other; refused = refused.1; kept = s.kept })
+      ∙ verdict_shown setup.requests (told_in (take k journal) e.session) e.ask proper;
 }

@@ -10,12 +10,13 @@ use Rattle.policy_model.specs.declared.event.Ask.TheVariants as asks
 use Rattle.policy_model.specs.declared.event.Decision.{Decision}
 use Rattle.policy_model.specs.declared.event.Decision.TheVariants.{Permit, Deny, Lost}
 use Rattle.policy_model.specs.declared.event.Event.{Event}
-use Rattle.policy_model.specs.Asks.{ends_session, is_begin, is_end, is_finish, is_login_step, is_lost, is_permit, came_by_frame, is_violation, opens, permits_kind, shown_of}
+use Rattle.policy_model.specs.Asks.{ends_session, is_begin, is_end, is_login_step, is_lost, is_permit, came_by_frame, is_violation, opens, permits_kind, shown_of}
+use Rattle.policy_model.specs.Cases.{is_finish, is_taking}
 use Rattle.policy_model.specs.Journal.{ask_count, has_event, has_lost, is_own, open_session_of}
 use Rattle.policy_model.specs.Legal.{IsLegal, IsNext}
-use Rattle.policy_model.specs.Phases.{is_taking}
 use Rattle.policy_model.specs.Settings.{Settings}
-use Rattle.policy_laws.specs.Strangers.{asks_in, bare, is_between, is_challenged, told_end, told_in, told_login_step, told_of, told_permit, told_taking}
+use Rattle.policy_laws.specs.Strangers.{asks_in, bare, is_between, told_in, told_of}
+use Rattle.policy_laws.specs.Verdicts.{is_challenged, told_end, told_login_step, told_permit, told_taking}
 use Rattle.policy_model.specs.Verdict.{verdict_of}
 use Rattle.policy_laws.proofs.Apart.{has_event-push, is_ending}
 use Rattle.policy_model.proofs.Lists.{filter-push}

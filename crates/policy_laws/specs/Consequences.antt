@@ -1,5 +1,5 @@
 -- Believed: what follows of every legal journal, for each user that the setup has an account of. Places are counted from 0.
-use Rattle.std.specs.Prelude.{ℕ, ◌≡◌, ◌≢◌, ◌≤◌, ◌<◌, ◌==◌, true, List, length, take, slice_get, Some, is_some}
+use Rattle.std.specs.Prelude.{ℕ, ◌≡◌, ◌≢◌, ◌≤◌, ◌<◌, ◌==◌, Bool, true, List, length, take, slice_get, Some, is_some}
 use Rattle.request_catalogue.specs.declared.texts.Name.{Name}
 use Rattle.otp_hash.specs.Hashing.{hash_of}
 use Rattle.policy_model.specs.declared.account.Account.{Account}
@@ -9,15 +9,10 @@ use Rattle.policy_model.specs.Journal.{is_own}
 use Rattle.policy_model.specs.Logins.{account_of, accepted_of, challenged_user, current_password, replies_of, reply_for}
 use Rattle.policy_model.specs.Settings.{Settings, account_number, are_distinct}
 
--- at a place stands a permitted CHALLENGE for the user
-pub record TakesAt (journal : List Event) (user : Name) (place : ℕ) (e : Event) : Type 0 where
+-- at a place stands an event that passes a test
+pub record StandsAt (journal : List Event) (test : Event → Bool) (place : ℕ) (e : Event) : Type 0 where
   pub stands : slice_get journal place ≡ Some e
-  pub takes : takes_user user e ≡ true
-
--- at a place stands one that isn't a decoy
-pub record ReservesAt (journal : List Event) (user : Name) (place : ℕ) (e : Event) : Type 0 where
-  pub stands : slice_get journal place ≡ Some e
-  pub reserved : reserves user e ≡ true
+  pub passes : test e ≡ true
 
 -- at a place stands a permitted REPLY for the user
 pub record RepliesAt (journal : List Event) (user : Name) (place : ℕ) (e : Event) : Type 0 where
@@ -31,16 +26,16 @@ pub record NoPasswordTwice (setup : Settings) (journal : List Event) : Type 0 wh
 -- a user has at most as many permitted replies as the setup's sequence, and of the permitted CHALLENGEs for the user that aren't decoys, one behind a permitted REPLY for the user names a smaller number than each one before that REPLY
 pub record SequenceFalls (setup : Settings) (journal : List Event) : Type 0 where
   pub few : (user : Name) (account : Account) → account_of setup user ≡ Some account → length (replies_of journal user) ≤ account.sequence
-  pub falls : (user : Name) (i k j : ℕ) (earlier reply later : Event) → i < k → k < j → ReservesAt journal user i earlier → RepliesAt journal user k reply → ReservesAt journal user j later → value_of later.decision < value_of earlier.decision
+  pub falls : (user : Name) (i k j : ℕ) (earlier reply later : Event) → i < k → k < j → StandsAt journal (reserves user) i earlier → RepliesAt journal user k reply → StandsAt journal (reserves user) j later → value_of later.decision < value_of earlier.decision
 
 -- a permitted CHALLENGE for a user at place i is its session's last one before place k
 pub record IsLastTaking (journal : List Event) (user : Name) (i k : ℕ) (taking : Event) : Type 0 where
-  pub taken : TakesAt journal user i taking
-  pub last : (n : ℕ) (e : Event) → i < n → n < k → TakesAt journal user n e → e.session ≢ taking.session
+  pub taken : StandsAt journal (takes_user user) i taking
+  pub last : (n : ℕ) (e : Event) → i < n → n < k → StandsAt journal (takes_user user) n e → e.session ≢ taking.session
 
 -- between a session's last permitted CHALLENGE for a user and its permitted REPLY for the user stands no permitted CHALLENGE for the user of any session, and no decoy
 pub record OneTakerAtATime (setup : Settings) (journal : List Event) : Type 0 where
-  pub alone : (user : Name) (i k : ℕ) (taking reply : Event) → RepliesAt journal user k reply → IsLastTaking journal user i k taking → taking.session ≡ reply.session → (m : ℕ) (e : Event) → i < m → m < k → TakesAt journal user m e → ⊥
+  pub alone : (user : Name) (i k : ℕ) (taking reply : Event) → RepliesAt journal user k reply → IsLastTaking journal user i k taking → taking.session ≡ reply.session → (m : ℕ) (e : Event) → i < m → m < k → StandsAt journal (takes_user user) m e → ⊥
 
 -- a permitted REPLY of a session, before place k, for the user of the account with a number: its password hashed to the current one
 pub record IsVerifiedBefore (setup : Settings) (journal : List Event) (k session number : ℕ) : Type 0 where

@@ -1,2 +1,3 @@
 pub mod Consequences
 pub mod Strangers
+pub mod Verdicts

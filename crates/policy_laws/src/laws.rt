@@ -6,7 +6,8 @@ ghost use Rattle.policy_model.specs.declared.event.Event.{Event};
 ghost use Rattle.policy_laws.specs.Consequences.{NoPasswordTwice, OneTakerAtATime, SequenceFalls, VerifiedBeforeExport};
 ghost use Rattle.policy_model.specs.Legal.{IsLegal};
 ghost use Rattle.policy_model.specs.Settings.{Settings};
-ghost use Rattle.policy_laws.specs.Strangers.{StrangersAreToldAlike, StrangersSeeNoAccounts};
+ghost use Rattle.policy_laws.specs.Strangers.{ShowsNoAccounts};
+ghost use Rattle.policy_laws.specs.Verdicts.{StrangersAreToldAlike};
 
 /// No password of a user is accepted twice.
 pub fn no_password_twice()
@@ -34,8 +35,8 @@ pub fn strangers_are_told_alike()
     ensures { (setup : Settings) (journal : List Event) → IsLegal setup journal → StrangersAreToldAlike setup journal }
 {}
 
-/// Two sessions by which nobody has logged in, of one journal or of two, that ask the same and whose
-/// challenges are permitted alike are shown the same, whatever accounts stand behind the names.
-pub fn strangers_see_no_accounts()
-    ensures { (one other : Settings) (journal second : List Event) → one.requests ≡ other.requests → IsLegal one journal → IsLegal other second → StrangersSeeNoAccounts journal second }
+/// Sessions by which nobody has logged in, of one journal or of two, are shown the same where they ask
+/// the same and were told the same before, whatever accounts stand behind the names.
+pub fn shows_no_accounts()
+    ensures { (setup : Settings) (journal : List Event) → IsLegal setup journal → ShowsNoAccounts setup journal }
 {}

@@ -5,6 +5,6 @@
 mod laws;
 
 pub use laws::{
-    no_password_twice, one_taker_at_a_time, sequence_falls, strangers_are_told_alike,
-    strangers_see_no_accounts, verified_before_export,
+    no_password_twice, one_taker_at_a_time, sequence_falls, shows_no_accounts,
+    strangers_are_told_alike, verified_before_export,
 };

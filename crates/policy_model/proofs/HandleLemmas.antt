@@ -3,7 +3,8 @@ use Rattle.std.proofs.Common.{◌≡◌, ℕ, ◌+◌, ◌<◌, ◌≤◌, Bool,
 use Rattle.std.specs.List.{find, list_any}
 use Rattle.std.proofs.lemmas.List.{drop_all, drop_more}
 use Rattle.policy_model.specs.declared.event.Event.{Event}
-use Rattle.policy_model.specs.Asks.{closes_file, handle_of, opens_file}
+use Rattle.policy_model.specs.Asks.{closes_file, opens_file}
+use Rattle.policy_model.specs.Cases.{handle_of}
 use Rattle.policy_model.specs.Handles.{live_handles_of, live_opens, handle_opening}
 use Rattle.policy_model.specs.Journal.{events_of, is_own}
 use Rattle.policy_model.proofs.Lists.{list_any-filter}

@@ -3,7 +3,8 @@ use Rattle.std.proofs.Common.{◌≡◌, ℕ, ◌+◌, ◌<◌, Bool, true, fals
 use Rattle.std.specs.List.{last_or}
 use Rattle.std.proofs.lemmas.List.{append-nil, take_more}
 use Rattle.policy_model.specs.declared.event.Event.{Event}
-use Rattle.policy_model.specs.Journal.{is_turn_of, open_session_of, opened_after, session_opened}
+use Rattle.policy_model.specs.Journal.{is_turn_of, open_session_of}
+use Rattle.policy_model.specs.Cases.{opened_after, session_opened}
 use Rattle.policy_model.proofs.Lists.{filter-push, last_or-push}
 
 opened_by : (b : Bool) (turns : List Event) (e : Event) → session_opened (last_or None (turns ++ cond b (e ∷ []) [])) ≡ cond b (session_opened (Some e)) (session_opened (last_or None turns))

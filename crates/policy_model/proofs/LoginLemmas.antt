@@ -9,7 +9,8 @@ use Rattle.policy_model.specs.declared.account.Account.{Account}
 use Rattle.policy_model.specs.declared.event.Event.{Event}
 use Rattle.policy_model.specs.Asks.{accepts, gives_up, reserves, takes}
 use Rattle.policy_model.specs.Journal.{Place, is_own, last_event, places_after, places_of}
-use Rattle.policy_model.specs.Logins.{challenged_user, current_password, last_taking_of, replies_of, reply_for, session_taking, user_before, user_named, verified_user, was_given_up}
+use Rattle.policy_model.specs.Logins.{challenged_user, current_password, last_taking_of, replies_of, reply_for, session_taking, verified_user, was_given_up}
+use Rattle.policy_model.specs.Cases.{user_before, user_named}
 use Rattle.policy_model.proofs.Lists.{last_or-filter_push}
 
 places_after-push : (before events : List Event) (e : Event) → places_after before (events ++ e ∷ []) ≡ places_after before events ++ record { before = before ++ events; event = e } ∷ []

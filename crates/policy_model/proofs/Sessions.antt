@@ -10,7 +10,8 @@ use Rattle.policy_model.specs.declared.event.Decision.{Decision}
 use Rattle.policy_model.specs.declared.event.Decision.TheVariants.{Permit, Deny, Lost}
 use Rattle.policy_model.specs.declared.event.Event.{Event}
 use Rattle.policy_model.specs.Asks.{is_begin, is_permit, came_by_frame, opens}
-use Rattle.policy_model.specs.Journal.{ask_count, is_turn_of, open_session_of, openings_of, session_opened}
+use Rattle.policy_model.specs.Journal.{ask_count, is_turn_of, open_session_of, openings_of}
+use Rattle.policy_model.specs.Cases.{session_opened}
 use Rattle.policy_model.specs.Legal.{session_of}
 use Rattle.policy_model.specs.Runs.{AreNumbered}
 use Rattle.policy_model.proofs.Lists.{filter-push}

@@ -23,7 +23,8 @@ use Rattle.policy_model.specs.Legal.{session_of}
 use Rattle.policy_model.specs.Logins.{account_of, challenged_user, current_sequence, holder_of, is_live, last_taking_of, session_taking, verified_user, was_accepted, was_decoyed}
 use Rattle.policy_model.specs.Phases.{is_over, phase_of, table_row}
 use Rattle.policy_model.specs.Settings.{Settings, same_label}
-use Rattle.policy_model.specs.Verdict.{IsVerdict, NamesRule, account_named, account_verdict, allows, challenge_verdict, close_verdict, decoy_challenge, decoy_verdict, grant_verdict, grants_of, handle_verdict, info_verdict, is_held, is_holder, is_next_password, kind_verdict, login_verdict, matching_verdict, open_verdict, own_verdict, readings, readings_verdict, reply_verdict, request_verdict, row_verdict, sequence_of, table_verdict, use_verdict, verdict_of}
+use Rattle.policy_model.specs.Verdict.{IsVerdict, NamesRule, account_verdict, allows, challenge_verdict, close_verdict, decoy_challenge, decoy_verdict, handle_verdict, info_verdict, is_held, is_next_password, kind_verdict, open_verdict, own_verdict, readings, reply_verdict, request_verdict, row_verdict, verdict_of}
+use Rattle.policy_model.specs.Cases.{account_named, grant_verdict, grants_of, is_holder, login_verdict, matching_verdict, readings_verdict, sequence_of, table_verdict, use_verdict}
 
 -- a request is judged in the worker's open session
 pub verdict_of-request : (setup : Settings) (journal : List Event) (worker : ℕ) (ask : Ask) → came_by_frame ask ≡ true → verdict_of setup journal worker ask ≡ request_verdict setup journal (open_session_of journal worker) ask

@@ -1,12 +1,12 @@
 -- Believed: what can be read off one ask, one decision and one event.
 use Rattle.std.specs.Prelude.{ℕ, Bool, true, false, not, ◌&&◌, ◌||◌, ◌==◌, nat_le, nat_lt, is_some, Option, Some, None, if◌then◌else◌}
+use Rattle.std.specs.Option.{option_map_or}
 use Rattle.request_catalogue.specs.declared.rules.TheConstants.{HOLD_LOST, NO_MATCH}
 use Rattle.request_catalogue.specs.declared.texts.Label.{Label}
 use Rattle.request_catalogue.specs.declared.texts.Name.{Name}
 use Rattle.request_catalogue.specs.declared.kind.Kind.{Kind}
 use Rattle.request_catalogue.specs.declared.kind.Kind.TheVariants as kinds
 use Rattle.request_catalogue.specs.Kinds.{kind_number}
-use Rattle.policy_model.specs.declared.event.Why.{Why}
 use Rattle.policy_model.specs.declared.event.Why.TheVariants as whys
 use Rattle.policy_model.specs.declared.event.Ask.{Ask}
 use Rattle.policy_model.specs.declared.event.Ask.TheVariants as asks
@@ -28,26 +28,6 @@ is_end _ = false
 abbrev pub came_by_frame : Ask → Bool
 came_by_frame ask = not (is_begin ask) && not (is_end ask)
 
-abbrev pub is_finish : Ask → Bool
-is_finish asks.Finish = true
-is_finish _ = false
-
-abbrev pub is_reply : Ask → Bool
-is_reply (asks.Reply words hex) = true
-is_reply _ = false
-
-abbrev pub is_abandon : Ask → Bool
-is_abandon asks.Abandon = true
-is_abandon _ = false
-
-abbrev pub is_export : Ask → Bool
-is_export (asks.Export len) = true
-is_export _ = false
-
-abbrev pub is_open : Ask → Bool
-is_open (asks.OpenFile mode name) = true
-is_open _ = false
-
 -- a CLOSE of this handle
 abbrev pub is_close : ℕ → Ask → Bool
 is_close handle (asks.CloseFile other) = other == handle
@@ -61,11 +41,6 @@ challenge_name _ = None
 abbrev pub is_challenge : Ask → Bool
 is_challenge (asks.Challenge user now) = true
 is_challenge _ = false
-
--- a CHALLENGE for this user
-abbrev pub is_challenge_for : Name → Ask → Bool
-is_challenge_for user (asks.Challenge name now) = same_name name user
-is_challenge_for user _ = false
 
 -- the moment of a CHALLENGE, in milliseconds
 abbrev pub moment_of : Ask → ℕ
@@ -83,13 +58,9 @@ label_named (asks.OpenFile mode name) = Some name
 label_named _ = None
 
 -- the rule that an ask names is in its range
-abbrev pub is_proper_why : Why → Bool
-is_proper_why (whys.Violation rule) = nat_le 1 rule && nat_le rule 7
-is_proper_why _ = true
-
 abbrev pub is_proper : Ask → Bool
 is_proper (asks.Bad rule detail) = nat_le 2 rule && nat_le rule 5
-is_proper (asks.End why) = is_proper_why why
+is_proper (asks.End (whys.Violation rule)) = nat_le 1 rule && nat_le rule 7
 is_proper _ = true
 
 -- the kind of the request that an ask is
@@ -111,13 +82,13 @@ kind_of asks.Finish = Some kinds.Finish
 kind_of (asks.Bad rule detail) = None
 kind_of (asks.End why) = None
 
-abbrev pub number_of_kind : Option Kind → ℕ
-number_of_kind None = 0
-number_of_kind (Some kind) = kind_number kind
-
 -- the request's number, and 0 for an opening, an end and a frame that is no request
 abbrev pub request_number : Ask → ℕ
-request_number ask = number_of_kind (kind_of ask)
+request_number ask = option_map_or kind_number (kind_of ask) 0
+
+-- a request of this kind
+abbrev pub is_kind : Kind → Ask → Bool
+is_kind kind ask = request_number ask == kind_number kind
 
 abbrev pub is_permit : Decision → Bool
 is_permit (decisions.Permit value) = true
@@ -150,16 +121,24 @@ is_violation _ = false
 abbrev pub opens : Event → Bool
 opens e = is_begin e.ask && is_permit e.decision
 
+-- a permitted request of this kind
+abbrev pub permits_kind : Kind → Event → Bool
+permits_kind kind e = is_kind kind e.ask && is_permit e.decision
+
 -- after such an event its session is over: its end, a permitted FINISH, a violation, or a lost decision
 abbrev pub ends_session : Event → Bool
-ends_session e = is_end e.ask || is_finish e.ask && is_permit e.decision || is_violation e.decision || is_lost e.decision
+ends_session e = is_end e.ask || permits_kind kinds.Finish e || is_violation e.decision || is_lost e.decision
 
 -- a permitted CHALLENGE takes its user
 abbrev pub takes : Event → Bool
 takes e = is_some (challenge_name e.ask) && is_permit e.decision
 
+-- a user is there, and it is this one
+abbrev pub is_user : Name → Option Name → Bool
+is_user user found = option_map_or (λ name. same_name name user) found false
+
 abbrev pub takes_user : Name → Event → Bool
-takes_user user e = is_challenge_for user e.ask && is_permit e.decision
+takes_user user e = is_user user (challenge_name e.ask) && is_permit e.decision
 
 -- a permitted CHALLENGE that isn't a decoy reserves its user
 abbrev pub reserves : Name → Event → Bool
@@ -167,7 +146,7 @@ reserves user e = takes_user user e && nat_lt (value_of e.decision) DECOYS_FROM
 
 -- after a REPLY, whatever was decided, and a permitted ABANDON its session holds no user
 abbrev pub gives_up : Event → Bool
-gives_up e = is_reply e.ask || is_abandon e.ask && is_permit e.decision
+gives_up e = is_kind kinds.Reply e.ask || permits_kind kinds.Abandon e
 
 -- an event by which its session leaves whom it holds: it gives up, or it ends
 abbrev pub leaves : Event → Bool
@@ -179,27 +158,20 @@ is_login_step e = takes e || gives_up e
 
 -- a permitted REPLY
 abbrev pub accepts : Event → Bool
-accepts e = is_reply e.ask && is_permit e.decision
+accepts e = permits_kind kinds.Reply e
 
 -- a REPLY that was denied for what it said
 abbrev pub is_denied_reply : Event → Bool
-is_denied_reply e = is_reply e.ask && is_login_denial e.decision
+is_denied_reply e = is_kind kinds.Reply e.ask && is_login_denial e.decision
 
 -- a permitted EXPORT
 abbrev pub exports : Event → Bool
-exports e = is_export e.ask && is_permit e.decision
+exports e = permits_kind kinds.Export e
 
 -- a permitted OPEN; its value is the handle
 abbrev pub opens_file : Event → Bool
-opens_file e = is_open e.ask && is_permit e.decision
-
-abbrev pub handle_of : Event → ℕ
-handle_of e = value_of e.decision
+opens_file e = permits_kind kinds.OpenFile e
 
 -- a permitted CLOSE of a handle
 abbrev pub closes_file : ℕ → Event → Bool
 closes_file handle e = is_close handle e.ask && is_permit e.decision
-
--- a permitted ask of this kind
-abbrev pub permits_kind : Kind → Event → Bool
-permits_kind kind e = request_number e.ask == kind_number kind && is_permit e.decision

@@ -3,13 +3,13 @@ use Rattle.std.specs.Prelude.{ℕ, not, ◌==◌, ◌&&◌, List, [], ◌∷◌,
 use Rattle.std.specs.List.{find, list_any}
 use Rattle.policy_model.specs.declared.event.Event.{Event}
 use Rattle.policy_model.specs.declared.handles.TheConstants.{HANDLE_NUMBERS}
-use Rattle.policy_model.specs.Asks.{closes_file, handle_of, opens_file}
+use Rattle.policy_model.specs.Asks.{closes_file, opens_file, value_of}
 use Rattle.policy_model.specs.Journal.{events_of}
 
 -- the permitted OPENs whose handle has no permitted CLOSE behind them
 abbrev pub live_opens : List Event → List Event
 live_opens [] = []
-live_opens (e ∷ events) = if opens_file e && not (list_any (closes_file (handle_of e)) events) then e ∷ live_opens events else live_opens events
+live_opens (e ∷ events) = if opens_file e && not (list_any (closes_file (value_of e.decision)) events) then e ∷ live_opens events else live_opens events
 
 -- the live handles of a session, as the events that opened them: each has its handle, its name and its mode
 unfoldable pub live_handles_of : List Event → ℕ → List Event
@@ -17,7 +17,7 @@ live_handles_of journal session = live_opens (events_of journal session)
 
 -- the event that opened a live handle
 abbrev pub handle_opening : List Event → ℕ → ℕ → Option Event
-handle_opening journal session handle = find (λ e. handle_of e == handle) (live_handles_of journal session)
+handle_opening journal session handle = find (λ e. value_of e.decision == handle) (live_handles_of journal session)
 
 -- the least handle of 1 to 8 that isn't live, and 0 where there is none
 abbrev pub free_handle_of : List Event → ℕ → ℕ

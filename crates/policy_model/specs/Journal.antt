@@ -1,6 +1,7 @@
 -- Believed: what can be read off the one list of all events.
-use Rattle.std.specs.Prelude.{ℕ, Bool, ◌&&◌, ◌||◌, ◌==◌, not, List, [], ◌∷◌, ◌++◌, filter, count_by, Option, Some, None, if◌then◌else◌}
+use Rattle.std.specs.Prelude.{ℕ, Bool, ◌&&◌, ◌||◌, ◌==◌, not, List, [], ◌∷◌, ◌++◌, filter, count_by, Option, None, if◌then◌else◌}
 use Rattle.std.specs.List.{last_or, list_any}
+use Rattle.std.specs.Option.{option_map_or}
 use Rattle.policy_model.specs.declared.event.Event.{Event}
 use Rattle.policy_model.specs.Asks.{is_begin, is_end, is_permit, came_by_frame, is_lost, opens}
 
@@ -12,18 +13,9 @@ events_of journal session = filter (λ e. e.session == session) journal
 abbrev pub is_turn_of : ℕ → Event → Bool
 is_turn_of worker e = e.worker == worker && (is_begin e.ask || is_end e.ask) && is_permit e.decision
 
--- the session of an opening, and 0 for an end or nothing
-abbrev pub session_opened : Option Event → ℕ
-session_opened None = 0
-session_opened (Some e) = if is_begin e.ask then e.session else 0
-
 -- the worker's open session, or 0: that of its last permitted opening where no permitted end of the worker follows
 abbrev pub open_session_of : List Event → ℕ → ℕ
-open_session_of journal worker = session_opened (last_or None (filter (is_turn_of worker) journal))
-
--- what an event makes of the worker's open session
-abbrev pub opened_after : ℕ → ℕ → Event → ℕ
-opened_after worker session e = if is_turn_of worker e then session_opened (Some e) else session
+open_session_of journal worker = option_map_or (λ e. if is_begin e.ask then e.session else 0) (last_or None (filter (is_turn_of worker) journal)) 0
 
 -- how many asks a session has made besides its opening and its end
 abbrev pub ask_count : List Event → ℕ → ℕ

@@ -8,5 +8,6 @@ pub mod Logins
 pub mod Decoys
 pub mod Handles
 pub mod Verdict
+pub mod Cases
 pub mod Legal
 pub mod Runs

@@ -1,11 +1,12 @@
 -- Believed: who takes and holds a user, and which passwords were accepted.
 use Rattle.std.specs.Prelude.{ℕ, Bool, false, ◌||◌, ◌&&◌, ◌-◌, List, ◌∷◌, length, filter, Option, Some, None, nat_eq, nat_le, not, ◌==◌, unwrap_or, if◌then◌else◌}
 use Rattle.std.specs.List.{after_last, filter_map, find, last_or, list_any}
+use Rattle.std.specs.Option.{option_and_then, option_map_or}
 use Rattle.request_catalogue.specs.declared.texts.Name.{Name}
 use Rattle.policy_model.specs.declared.account.Account.{Account}
 use Rattle.policy_model.specs.declared.event.Event.{Event}
 use Rattle.policy_model.specs.declared.reading.TheConstants.{DECOYS_FROM}
-use Rattle.policy_model.specs.Asks.{accepts, challenge_name, gives_up, reserves, takes, value_of}
+use Rattle.policy_model.specs.Asks.{accepts, challenge_name, gives_up, is_user, reserves, takes, value_of}
 use Rattle.policy_model.specs.Journal.{Place, is_own, last_event, places_of}
 use Rattle.policy_model.specs.Phases.{is_over}
 use Rattle.policy_model.specs.Settings.{Settings, same_name}
@@ -14,32 +15,21 @@ use Rattle.policy_model.specs.Settings.{Settings, same_name}
 abbrev pub account_of : Settings → Name → Option Account
 account_of setup user = find (λ a. same_name a.name user) setup.accounts
 
--- the user that an event names
-abbrev pub user_named : Option Event → Option Name
-user_named None = None
-user_named (Some e) = challenge_name e.ask
-
 -- the user of a session's last permitted CHALLENGE
 unfoldable pub challenged_user : List Event → ℕ → Option Name
-challenged_user journal session = user_named (last_event journal session takes)
-
--- a taking is there, and it names a decoy
-abbrev pub is_decoy : Option Event → Bool
-is_decoy None = false
-is_decoy (Some e) = nat_le DECOYS_FROM (value_of e.decision)
+challenged_user journal session = option_and_then (λ e. challenge_name e.ask) (last_event journal session takes)
 
 -- the session's last permitted CHALLENGE names a decoy
 unfoldable pub was_decoyed : List Event → ℕ → Bool
-was_decoyed journal session = is_decoy (last_event journal session takes)
-
--- the user of the session's last permitted CHALLENGE before a place
-abbrev pub user_before : ℕ → Option Place → Option Name
-user_before session None = None
-user_before session (Some place) = challenged_user place.before session
+was_decoyed journal session = option_map_or (λ e. nat_le DECOYS_FROM (value_of e.decision)) (last_event journal session takes) false
 
 -- the user that a session is logged in as: that of its last permitted CHALLENGE before its permitted REPLY
 unfoldable pub verified_user : List Event → ℕ → Option Name
-verified_user journal session = user_before session (last_or None (filter (λ place. is_own session accepts place.event) (places_of journal)))
+verified_user journal session = option_and_then (λ place. challenged_user place.before session) (last_or None (filter (λ place. is_own session accepts place.event) (places_of journal)))
+
+-- the account that a session is logged in as
+abbrev pub verified_account : Settings → List Event → ℕ → Option Account
+verified_account setup journal session = option_and_then (account_of setup) (verified_user journal session)
 
 -- the last taking of a user: its last permitted CHALLENGE that isn't a decoy, of any session
 unfoldable pub last_taking_of : List Event → Name → Option Event
@@ -47,26 +37,15 @@ last_taking_of journal user = last_or None (filter (reserves user) journal)
 
 -- the session of a taking, and 0 where there is none
 abbrev pub session_taking : Option Event → ℕ
-session_taking None = 0
-session_taking (Some e) = e.session
+session_taking taking = option_map_or (λ e. e.session) taking 0
 
 -- the session of a user's last taking has a REPLY or a permitted ABANDON behind it
 unfoldable pub was_given_up : List Event → Name → Bool
 was_given_up journal user = list_any (is_own (session_taking (last_taking_of journal user)) gives_up) (after_last (reserves user) journal)
 
--- the session of a taking that holds: it gave up nothing, and isn't over
-abbrev pub holder_by : List Event → Bool → Option Event → Option ℕ
-holder_by journal given_up None = None
-holder_by journal given_up (Some e) = if given_up || is_over journal e.session then None else Some e.session
-
 -- the holder of a user: the session of its last taking, unless that session has a REPLY or a permitted ABANDON behind it or is over
 unfoldable pub holder_of : List Event → Name → Option ℕ
-holder_of journal user = holder_by journal (was_given_up journal user) (last_taking_of journal user)
-
--- two users are there, and they are the same
-abbrev pub is_user : Name → Option Name → Bool
-is_user user None = false
-is_user user (Some name) = same_name name user
+holder_of journal user = option_and_then (λ e. if was_given_up journal user || is_over journal e.session then None else Some e.session) (last_taking_of journal user)
 
 -- the password of a permitted REPLY for the user; a REPLY is for the user of its session's last permitted CHALLENGE before it
 abbrev pub reply_for : Name → Place → Option ℕ

@@ -1,6 +1,7 @@
 -- Believed: the phases of a session, and the phase table.
-use Rattle.std.specs.Prelude.{ℕ, Bool, false, not, ◌||◌, List, Option, Some, None, if◌then◌else◌}
+use Rattle.std.specs.Prelude.{ℕ, Bool, false, not, ◌||◌, List, if◌then◌else◌}
 use Rattle.std.specs.List.{list_any}
+use Rattle.std.specs.Option.{option_map_or}
 use Rattle.request_catalogue.specs.declared.kind.Kind.{Kind}
 use Rattle.request_catalogue.specs.declared.kind.Kind.TheVariants as kinds
 use Rattle.policy_model.specs.declared.event.Event.{Event}
@@ -15,18 +16,13 @@ use Rattle.policy_model.specs.Journal.{events_of, has_event, last_event}
 abbrev pub is_over : List Event → ℕ → Bool
 is_over journal session = not (list_any opens (events_of journal session)) || list_any ends_session (events_of journal session)
 
--- an event is there, and it takes a user
-abbrev pub is_taking : Option Event → Bool
-is_taking None = false
-is_taking (Some e) = takes e
-
 -- the phase of a session, by its events: the first that applies
 unfoldable pub phase_of : List Event → ℕ → Phase
 phase_of journal session =
     if is_over journal session then Over
     else (if has_event journal session exports then User
     else (if has_event journal session accepts then Verified
-    else (if is_taking (last_event journal session is_login_step) then Challenged
+    else (if option_map_or takes (last_event journal session is_login_step) false then Challenged
     else Pre)))
 
 -- the phase table: what each phase says of each kind of request

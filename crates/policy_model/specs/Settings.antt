@@ -1,11 +1,13 @@
 -- Believed: what an operator settles before a run, and the ranges of a setup.
 use Rattle.std.specs.Prelude.{ℕ, ◌≡◌, ◌≤◌, ◌*◌, ◌+◌, Bool, true, not, ◌&&◌, ◌==◌, List, [], ◌∷◌, length, codes, nat_le, Option, position}
+use Rattle.std.specs.Int.{to_be_bytes, w64}
 use Rattle.std.specs.List.{list_all, list_any}
 use Rattle.std.specs.Str.{bytes_eq}
+use Rattle.hex.specs.Hex.{encode_lower}
 use Rattle.request_catalogue.specs.declared.texts.Label.{Label}
 use Rattle.request_catalogue.specs.declared.texts.Name.{Name}
 use Rattle.request_catalogue.specs.TextBytes.{label_bytes, name_bytes}
-use Rattle.request_catalogue.specs.Texts.{is_printable}
+use Rattle.request_catalogue.specs.Texts.{is_text}
 use Rattle.policy_model.specs.declared.account.Account.{Account}
 use Rattle.policy_model.specs.declared.account.Grant.{Grant}
 use Rattle.policy_model.specs.declared.parts.SetupParts.{SetupParts}
@@ -37,9 +39,9 @@ abbrev pub are_distinct : {A : Type 0} → (A → A → Bool) → List A → Boo
 are_distinct same [] = true
 are_distinct same (x ∷ xs) = not (list_any (same x) xs) && are_distinct same xs
 
--- a text of low to high printable bytes
-abbrev pub is_text : ℕ → ℕ → List ℕ → Bool
-is_text low high bytes = nat_le low (length bytes) && nat_le (length bytes) high && list_all is_printable bytes
+-- a password in 16 lower-case hexadecimal digits, the most significant first
+abbrev pub password_text : ℕ → List ℕ
+password_text password = encode_lower (to_be_bytes w64 password)
 
 -- the texts of a setup
 abbrev pub are_texts : Settings → Bool

@@ -7,7 +7,7 @@
 --   6. what a session that is logged in asks (kind_verdict)
 use Rattle.std.specs.Prelude.{ℕ, ◌≤◌, ◌+◌, ◌-◌, ◌==◌, ◌&&◌, ◌||◌, Bool, false, not, List, [], ◌++◌, length, Option, Some, None, is_none, nat_eq, nat_le, nat_lt, unwrap_or, bit_and, if◌then◌else◌}
 use Rattle.std.specs.List.{find, list_any}
-use Rattle.std.specs.Option.{option_to_list}
+use Rattle.std.specs.Option.{option_and_then, option_map_or, option_to_list}
 use Rattle.request_catalogue.specs.declared.kind.Kind.{Kind}
 use Rattle.request_catalogue.specs.declared.rules.TheConstants.{ASKS_SPENT, NOT_IN_PHASE, ONCE_ONLY, TRIES_SPENT, USER_HELD, HOLD_LOST, NO_READING, PASSWORD_USED, NO_MATCH, NO_HANDLE, MODE_LACKING, HANDLES_SPENT, NOT_GRANTED, MODE_NOT_GRANTED, NO_INFORMATION}
 use Rattle.request_catalogue.specs.declared.texts.Label.{Label}
@@ -27,26 +27,17 @@ use Rattle.policy_model.specs.Asks.{is_denied_reply, kind_of, mode_of, moment_of
 use Rattle.policy_model.specs.Decoys.{decoy_number}
 use Rattle.policy_model.specs.Handles.{free_handle_of, live_handles_of, handle_opening}
 use Rattle.policy_model.specs.Journal.{ask_count, count_of, has_event, open_session_of, openings_of}
-use Rattle.policy_model.specs.Logins.{account_of, challenged_user, current_password, current_sequence, holder_of, is_live, last_taking_of, session_taking, verified_user, was_accepted, was_decoyed}
+use Rattle.policy_model.specs.Logins.{account_of, challenged_user, current_password, current_sequence, holder_of, is_live, last_taking_of, session_taking, verified_account, verified_user, was_accepted, was_decoyed}
 use Rattle.policy_model.specs.Phases.{is_over, phase_of, table_row}
 use Rattle.policy_model.specs.Settings.{Settings, account_number, same_label}
 
 -- 4. CHALLENGE
 
--- the moment of a taking
-abbrev pub taking_moment : Option Event → ℕ
-taking_moment None = 0
-taking_moment (Some e) = moment_of e.ask
-
--- some other session holds
-abbrev pub is_other : ℕ → Option ℕ → Bool
-is_other session None = false
-is_other session (Some holder) = not (holder == session)
-
 -- another session holds the user, and its taking is less than the hold ago
 abbrev pub is_held : Settings → List Event → ℕ → Name → ℕ → Bool
 is_held setup journal session user now =
-    is_other session (holder_of journal user) && nat_lt now (taking_moment (last_taking_of journal user) + setup.hold)
+    option_map_or (λ holder. not (holder == session)) (holder_of journal user) false
+    && nat_lt now (option_map_or (λ e. moment_of e.ask) (last_taking_of journal user) 0 + setup.hold)
 
 -- what a user is challenged with that can't log in
 abbrev pub decoy_challenge : Settings → Name → Decision
@@ -77,36 +68,18 @@ abbrev pub is_next_password : List Event → Account → ℕ → Bool
 is_next_password journal account password =
     hash_of account.algo password == current_password journal account && not (was_accepted journal account password)
 
--- where no reading is the next password: rule 15 where one was accepted before
-abbrev pub refused_verdict : List Event → Account → List ℕ → Decision
-refused_verdict journal account passwords = if list_any (was_accepted journal account) passwords then Deny PASSWORD_USED 0 else Deny NO_MATCH 0
-
--- the first reading that is the next password
-abbrev pub matching_verdict : List Event → Account → List ℕ → Option ℕ → Decision
-matching_verdict journal account passwords (Some password) = Permit password
-matching_verdict journal account passwords None = refused_verdict journal account passwords
-
--- the readings against an account
-abbrev pub readings_verdict : List Event → List ℕ → Option Account → Decision
-readings_verdict journal passwords None = Deny NO_MATCH 0
-readings_verdict journal passwords (Some account) = matching_verdict journal account passwords (find (is_next_password journal account) passwords)
-
--- the session holds
-abbrev pub is_holder : ℕ → Option ℕ → Bool
-is_holder session None = false
-is_holder session (Some holder) = holder == session
+-- the readings against an account: the first one that is the next password, or rule 15 where one was accepted before
+abbrev pub passwords_verdict : List Event → List ℕ → Account → Decision
+passwords_verdict journal passwords account =
+    option_map_or Permit (find (is_next_password journal account) passwords)
+    (if list_any (was_accepted journal account) passwords then Deny PASSWORD_USED 0 else Deny NO_MATCH 0)
 
 -- a REPLY for a user
 abbrev pub user_verdict : Settings → List Event → ℕ → List ℕ → Name → Decision
 user_verdict setup journal session passwords user =
-    if not (is_holder session (holder_of journal user)) then Deny HOLD_LOST (session_taking (last_taking_of journal user))
+    if not (option_map_or (λ holder. holder == session) (holder_of journal user) false) then Deny HOLD_LOST (session_taking (last_taking_of journal user))
     else (if length passwords == 0 then Deny NO_READING 0
-    else readings_verdict journal passwords (account_of setup user))
-
--- a REPLY of a session that challenged a user
-abbrev pub login_verdict : Settings → List Event → ℕ → List ℕ → Option Name → Decision
-login_verdict setup journal session passwords None = Deny HOLD_LOST 0
-login_verdict setup journal session passwords (Some user) = user_verdict setup journal session passwords user
+    else option_map_or (passwords_verdict journal passwords) (account_of setup user) (Deny NO_MATCH 0))
 
 -- a REPLY to a decoy
 abbrev pub decoy_verdict : List ℕ → Decision
@@ -116,7 +89,7 @@ decoy_verdict passwords = if length passwords == 0 then Deny NO_READING 0 else D
 unfoldable pub reply_verdict : Settings → List Event → ℕ → Option ℕ → Option ℕ → Decision
 reply_verdict setup journal session words hex =
     if was_decoyed journal session then decoy_verdict (readings words hex)
-    else login_verdict setup journal session (readings words hex) (challenged_user journal session)
+    else option_map_or (user_verdict setup journal session (readings words hex)) (challenged_user journal session) (Deny HOLD_LOST 0)
 
 -- 6. what a session that is logged in asks
 
@@ -124,62 +97,37 @@ reply_verdict setup journal session words hex =
 abbrev pub allows : ℕ → ℕ → Bool
 allows mode needed = bit_and needed mode == needed
 
--- a use of an open file
-abbrev pub use_verdict : ℕ → ℕ → Option Event → Decision
-use_verdict handle needed None = Deny NO_HANDLE handle
-use_verdict handle needed (Some e) = if allows (mode_of e.ask) needed then Permit 0 else Deny MODE_LACKING handle
-
 -- a READ or WRITE of a handle; 0 is the client's connection
 unfoldable pub handle_verdict : List Event → ℕ → ℕ → ℕ → Decision
 handle_verdict journal session handle needed =
-    if handle == 0 then Permit 0 else use_verdict handle needed (handle_opening journal session handle)
+    if handle == 0 then Permit 0
+    else option_map_or (λ e. if allows (mode_of e.ask) needed then Permit 0 else Deny MODE_LACKING handle) (handle_opening journal session handle) (Deny NO_HANDLE handle)
 
--- the verified user's account
-abbrev pub account_named : Settings → Option Name → Option Account
-account_named setup None = None
-account_named setup (Some user) = account_of setup user
-
--- the grants of an account
-abbrev pub grants_of : Option Account → List Grant
-grants_of None = []
-grants_of (Some account) = account.grants
-
--- what a grant says of a mode
-abbrev pub grant_verdict : ℕ → ℕ → Option Grant → Decision
-grant_verdict free mode None = Deny NOT_GRANTED 0
-grant_verdict free mode (Some grant) = if allows grant.mode mode then Permit free else Deny MODE_NOT_GRANTED mode
+-- the grant of a file to the user that a session is logged in as
+abbrev pub granted : Settings → List Event → ℕ → Label → Option Grant
+granted setup journal session name = find (λ g. same_label g.name name) (option_map_or (λ a. a.grants) (verified_account setup journal session) [])
 
 -- an OPEN of a file
 unfoldable pub open_verdict : Settings → List Event → ℕ → ℕ → Label → Decision
 open_verdict setup journal session mode name =
     if nat_le 8 (length (live_handles_of journal session)) then Deny HANDLES_SPENT 8
-    else grant_verdict (free_handle_of journal session) mode (find (λ g. same_label g.name name) (grants_of (account_named setup (verified_user journal session))))
+    else option_map_or (λ grant. if allows grant.mode mode then Permit (free_handle_of journal session) else Deny MODE_NOT_GRANTED mode) (granted setup journal session name) (Deny NOT_GRANTED 0)
 
 -- a CLOSE of a handle
 unfoldable pub close_verdict : List Event → ℕ → ℕ → Decision
 close_verdict journal session handle =
     if handle == 0 || is_none (handle_opening journal session handle) then Deny NO_HANDLE handle else Permit 0
 
--- the current sequence of an account that is there
-abbrev pub sequence_of : List Event → Option Account → ℕ
-sequence_of journal None = 0
-sequence_of journal (Some account) = current_sequence journal account
-
 -- an INFO of a number
 unfoldable pub info_verdict : Settings → List Event → ℕ → ℕ → Decision
 info_verdict setup journal session number =
-    if list_any (nat_eq number) setup.info then Permit (sequence_of journal (account_named setup (verified_user journal session))) else Deny NO_INFORMATION number
-
--- the number of the account of a user that is there
-abbrev pub number_named : Settings → Option Name → ℕ
-number_named setup None = 0
-number_named setup (Some user) = unwrap_or (account_number setup user) 0
+    if list_any (nat_eq number) setup.info then Permit (option_map_or (current_sequence journal) (verified_account setup journal session) 0) else Deny NO_INFORMATION number
 
 -- the rules of one kind of request
 unfoldable pub kind_verdict : Settings → List Event → ℕ → Ask → Decision
 kind_verdict setup journal session (asks.Challenge user now) = challenge_verdict setup journal session user now
 kind_verdict setup journal session (asks.Reply words hex) = reply_verdict setup journal session words hex
-kind_verdict setup journal session (asks.Export len) = Permit (number_named setup (verified_user journal session))
+kind_verdict setup journal session (asks.Export len) = Permit (unwrap_or (option_and_then (account_number setup) (verified_user journal session)) 0)
 kind_verdict setup journal session (asks.ReadAt handle offset max) = handle_verdict journal session handle READ
 kind_verdict setup journal session (asks.WriteAt handle offset len) = handle_verdict journal session handle WRITE
 kind_verdict setup journal session (asks.OpenFile mode name) = open_verdict setup journal session mode name
@@ -196,15 +144,10 @@ row_verdict setup journal session ask kind row =
     else (if row.once && has_event journal session (permits_kind kind) then Deny ONCE_ONLY (request_number ask)
     else kind_verdict setup journal session ask)
 
--- what a phase says of a request
-abbrev pub table_verdict : Settings → List Event → ℕ → Ask → Option Kind → Decision
-table_verdict setup journal session ask None = Permit 0
-table_verdict setup journal session ask (Some kind) = row_verdict setup journal session ask kind (table_row (phase_of journal session) kind)
-
--- an ask in a session that isn't over and has asks left: a frame that is no request breaks its own rule
+-- an ask in a session that isn't over and has asks left: a frame that is no request breaks its own rule, and of a request the phase says
 abbrev pub own_verdict : Settings → List Event → ℕ → Ask → Decision
 own_verdict setup journal session (asks.Bad rule detail) = Deny rule detail
-own_verdict setup journal session ask = table_verdict setup journal session ask (kind_of ask)
+own_verdict setup journal session ask = option_map_or (λ kind. row_verdict setup journal session ask kind (table_row (phase_of journal session) kind)) (kind_of ask) (Permit 0)
 
 -- 2. an ask other than an opening and an end, of the worker's open session: rule 6 where there is none or it is over, rule 1 where it has made all its asks
 abbrev pub request_verdict : Settings → List Event → ℕ → Ask → Decision

@@ -2,7 +2,8 @@
 
 ghost use Rattle.std.specs.Prelude.{◌≡◌, ◌≤◌, ◌&&◌, is_none, length, not};
 ghost use Rattle.std.specs.List.{list_any};
-ghost use Rattle.policy_model.specs.Asks.{closes_file, handle_of, opens_file};
+ghost use Rattle.policy_model.specs.Asks.{closes_file, opens_file};
+ghost use Rattle.policy_model.specs.Cases.{handle_of};
 ghost use Rattle.policy_model.specs.Handles.{free_handle_of, live_handles_of, handle_opening};
 ghost use Rattle.policy_model.specs.Journal.{events_of, is_own};
 

@@ -1,7 +1,7 @@
 //! Whether a session holds a user at a moment.
 
 ghost use Rattle.std.specs.Prelude.{◌≡◌, ◌+◌, nat_lt};
-ghost use Rattle.policy_model.specs.Verdict.{is_other};
+ghost use Rattle.policy_model.specs.Cases.{is_other};
 
 /// Whether some other session holds.
 pub fn is_other(session: u32, holder: Option<u32>) -> bool

@@ -3,7 +3,8 @@
 ghost use Rattle.std.specs.Prelude.{◌≡◌, ◌<◌, ◌^◌, ◌-◌, Some, true, length};
 ghost use Rattle.policy_model.specs.Asks.{is_proper, kind_of};
 ghost use Rattle.policy_model.specs.Legal.{event_with, session_of};
-ghost use Rattle.policy_model.specs.Verdict.{IsVerdict, own_verdict, request_verdict, table_verdict, verdict_of};
+ghost use Rattle.policy_model.specs.Verdict.{IsVerdict, own_verdict, request_verdict, verdict_of};
+ghost use Rattle.policy_model.specs.Cases.{table_verdict};
 
 use crate::event::{Ask, Decision, Event};
 use crate::journal::{asks, has_permitted, is_over, open_session, openings, phase};

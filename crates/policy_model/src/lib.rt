@@ -1,6 +1,6 @@
 //! What the monitor decides: the setup, the asks of all sessions, the verdict on each, and the journal
 //! of all events. Everything is decided by looking through the one list of events. Believe `specs/` but
-//! for `Setup.antt`; all that decides stands above.
+//! for `Setup.antt` and `Cases.antt`; all that decides stands above.
 #![tactic(auto)]
 
 mod account;

@@ -3,9 +3,10 @@
 ghost use Rattle.std.specs.Prelude.{◌≡◌, ◌≤◌, ◌<◌, ◌+◌, ◌^◌, ◌==◌, ◌&&◌, ◌||◌, length, nat_eq, not, if◌then◌else◌};
 ghost use Rattle.std.specs.List.{last_or, list_any};
 ghost use Rattle.std.specs.Option.{option_copied, option_to_list};
-ghost use Rattle.policy_model.specs.Asks.{accepts, gives_up, reserves};
+ghost use Rattle.policy_model.specs.Asks.{accepts, gives_up, reserves, is_user};
 ghost use Rattle.policy_model.specs.Journal.{is_own};
-ghost use Rattle.policy_model.specs.Logins.{account_of, challenged_user, current_password, current_sequence, holder_by, holder_of, is_live, is_user, last_taking_of, replies_of, reply_for, session_taking, verified_user, was_accepted, was_decoyed, was_given_up};
+ghost use Rattle.policy_model.specs.Logins.{account_of, challenged_user, current_password, current_sequence, holder_of, is_live, last_taking_of, replies_of, reply_for, session_taking, verified_user, was_accepted, was_decoyed, was_given_up};
+ghost use Rattle.policy_model.specs.Cases.{holder_by};
 
 use crate::account::Account;
 use crate::event::Event;

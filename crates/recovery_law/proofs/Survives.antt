@@ -1,8 +1,8 @@
 -- What a log of lines was given is the lines of the first events, so each image has such lines.
-use Rattle.std.proofs.Common.{◌≡◌, ◌⊎◌, inl, inr, ℕ, zero, suc, ◌+◌, ◌-◌, ◌/◌, ◌<◌, ◌≤◌, min, List, [], ◌∷◌, ◌++◌, length, take, find, refl, sym, ◌∙◌, ap, subst, arith, append_assoc, length-append, length-take, Option, Some, None, IfSome, option_map}
+use Rattle.std.proofs.Common.{◌≡◌, ◌⊎◌, inl, inr, ℕ, zero, suc, ◌+◌, ◌-◌, ◌/◌, ◌<◌, ◌≤◌, min, List, [], ◌∷◌, ◌++◌, length, take, find, refl, sym, ◌∙◌, ap, subst, arith, length-append, length-take, Option, Some, None, IfSome, option_map}
 use Rattle.std.specs.List.{AllByRecursion, concat}
 use Rattle.std.specs.Option.{option_to_list}
-use Rattle.std.proofs.lemmas.List.{append-nil, take-take, take_all, take_at}
+use Rattle.std.proofs.lemmas.List.{take-take, take_all, take_at}
 use Rattle.outside.specs.Told.{Goes}
 use Rattle.policy_model.specs.declared.event.Event.{Event}
 use Rattle.policy_model.specs.Asks.{is_lost}
@@ -10,7 +10,6 @@ use Rattle.policy_model.specs.Journal.{kept_events}
 use Rattle.policy_model.specs.Legal.{next_event}
 use Rattle.policy_model.specs.Settings.{Settings}
 use Rattle.decision_log.specs.Log.{line_of, lines_after}
-use Rattle.decision_log.specs.Values.{line_value}
 use Rattle.decision_log.proofs.Writable.{IsWritable}
 use Rattle.durable_log.specs.Disk.{Story, moment_of, states_of}
 use Rattle.durable_log.specs.Journal.{HasAnswered, LosesNothing}
@@ -22,10 +21,11 @@ use Rattle.ledger_journal.specs.Journals.{IsWhole, records_after, records_of}
 use Rattle.ledger_journal.proofs.BackLemmas.{back}
 use Rattle.ledger_journal.proofs.LineLemmas.{event_is_line, records_len, writable}
 use Rattle.line_log.specs.Kept.{IsLineLog, LineParts, given_of}
-use Rattle.monitor_book.specs.Lines.{HoldsLines, lost_line, lost_line_of}
+use Rattle.monitor_book.specs.Lines.{HoldsLines, lost_line}
+use Rattle.monitor_book.specs.Kept.{lost_line_of}
 use Rattle.recovery_law.specs.Surviving.{HasFirst, IsRunOf, LosesNoEvent, decided_in, lost_event}
 use Rattle.recovery_law.proofs.Cutting.{IsFirst, IsLast, same_lines}
-use Rattle.recovery_law.proofs.Decided.{decided_few, first_whole}
+use Rattle.recovery_law.proofs.Decided.{first_whole}
 
 -- the lines of events, joined
 joined_records : (count : ℕ) (events : List Event) → concat (records_after count events) ≡ lines_after count events
@@ -45,7 +45,7 @@ records_push count (x ∷ events) e =
 
 -- each of them is its text's first
 line_is_first : (number : ℕ) (e : Event) → number ≤ 1048576 → IsWritable e → IsFirst (line_of number e)
-line_is_first number e few w = (omega (arith, line_some (line_value number e)), λ rest. one_line (line_value number e) rest (event_is_line number e few w))
+line_is_first number e few w = (omega (arith, line_some number e), λ rest. one_line number e rest (event_is_line number e few w))
 
 records_first : (count : ℕ) (events : List Event) → count + length events ≤ 1048576 → AllByRecursion IsWritable events → AllByRecursion IsFirst (records_after count events)
 records_first count [] few all = tt

@@ -12,7 +12,11 @@ use Rattle.request_catalogue.specs.Kinds.{kind_number, all_kinds, kind_numbered}
 use Rattle.request_catalogue.specs.Catalogue.{RequestValue, value_of, kind_of, IsInRange, payload_of, IsRequest}
 use Rattle.request_catalogue.proofs.Numbers.{IsBytes}
 use Rattle.request_catalogue.proofs.Table.{asked_by-IsSpelled, asked_by-payload_of}
-use Rattle.request_catalogue.specs.Reading.{asked_by, bad, asked, request_of, IsFault, HasDescriptor, HasOtherFlags, HasUnknownKind, HasBadPayload}
+use Rattle.request_catalogue.specs.Reading.{asked_by, asked, request_of, IsFault, HasDescriptor, HasOtherFlags, HasUnknownKind, HasBadPayload}
+
+-- what is wrong with a message, by which rule, and its detail
+abbrev bad : ℕ → ℕ → Bad
+bad rule detail = record { rule = rule; detail = detail }
 
 -- each kind has its number
 kind_numbered-kind_number : (k : Kind) → kind_numbered (kind_number k) ≡ Some k

@@ -30,22 +30,18 @@ asked_by width kinds.Info payload = then_some (length payload == 4) (Info (numbe
 asked_by width kinds.Note payload = then_some (is_note payload) (Note payload)
 asked_by width kinds.Finish payload = then_some (length payload == 0) Finish
 
--- what is wrong with a message, by which rule, and its detail
-abbrev pub bad : ℕ → ℕ → Bad
-bad rule detail = record { rule = rule; detail = detail }
-
 -- what a message with no flags asks
 abbrev pub asked : Width → ℕ → List ℕ → Option Kind → Result RequestValue Bad
-asked width kind body None = Err (bad UNKNOWN_KIND kind)
-asked width kind body (Some k) = ok_or (asked_by width k body) (bad BAD_PAYLOAD kind)
+asked width kind body None = Err (record { rule = UNKNOWN_KIND; detail = kind })
+asked width kind body (Some k) = ok_or (asked_by width k body) (record { rule = BAD_PAYLOAD; detail = kind })
 
 -- the request of the catalogue that a message is, or the first rule that it breaks
 unfoldable pub request_of : Width → ℕ → ℕ → List ℕ → Result RequestValue Bad
-request_of width kind flags body = if flags % 2 == 1 then Err (bad DESCRIPTOR_FLAG flags) else (if flags == 0 then asked width kind body (kind_numbered kind) else Err (bad OTHER_FLAGS flags))
+request_of width kind flags body = if flags % 2 == 1 then Err (record { rule = DESCRIPTOR_FLAG; detail = flags }) else (if flags == 0 then asked width kind body (kind_numbered kind) else Err (record { rule = OTHER_FLAGS; detail = flags }))
 
 -- why a message is no request: the first of four rules that it breaks, and its detail
 pub data IsFault (width : Width) (kind flags : ℕ) (body : List ℕ) : Bad → Type 0 where
-  HasDescriptor : flags % 2 ≡ 1 → IsFault width kind flags body (bad DESCRIPTOR_FLAG flags)
-  HasOtherFlags : flags % 2 ≡ 0 → flags ≢ 0 → IsFault width kind flags body (bad OTHER_FLAGS flags)
-  HasUnknownKind : flags ≡ 0 → ((k : Kind) → kind_number k ≢ kind) → IsFault width kind flags body (bad UNKNOWN_KIND kind)
-  HasBadPayload : flags ≡ 0 → (k : Kind) → kind_number k ≡ kind → ((value : RequestValue) → kind_of value ≡ k → IsInRange width value → body ≢ payload_of value) → IsFault width kind flags body (bad BAD_PAYLOAD kind)
+  HasDescriptor : flags % 2 ≡ 1 → IsFault width kind flags body (record { rule = DESCRIPTOR_FLAG; detail = flags })
+  HasOtherFlags : flags % 2 ≡ 0 → flags ≢ 0 → IsFault width kind flags body (record { rule = OTHER_FLAGS; detail = flags })
+  HasUnknownKind : flags ≡ 0 → ((k : Kind) → kind_number k ≢ kind) → IsFault width kind flags body (record { rule = UNKNOWN_KIND; detail = kind })
+  HasBadPayload : flags ≡ 0 → (k : Kind) → kind_number k ≡ kind → ((value : RequestValue) → kind_of value ≡ k → IsInRange width value → body ≢ payload_of value) → IsFault width kind flags body (record { rule = BAD_PAYLOAD; detail = kind })

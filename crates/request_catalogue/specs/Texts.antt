@@ -1,30 +1,27 @@
 -- Believed: the rules for the bytes of names, labels, notes and typed replies.
 use Rattle.std.specs.Prelude.{ℕ, Bool, false, List, [], ◌∷◌, length, nat_le, ◌==◌, ◌&&◌, ◌||◌}
 use Rattle.std.specs.List.{list_all}
-
--- `a` to `z`
-abbrev pub is_lowercase : ℕ → Bool
-is_lowercase c = nat_le 97 c && nat_le c 122
-
--- `0` to `9`
-abbrev pub is_digit : ℕ → Bool
-is_digit c = nat_le 48 c && nat_le c 57
+use Rattle.std.specs.Char.{is_ascii_lowercase, is_ascii_digit}
 
 -- space to `~`
 abbrev pub is_printable : ℕ → Bool
 is_printable c = nat_le 32 c && nat_le c 126
 
+-- a text of low to high printable bytes
+abbrev pub is_text : ℕ → ℕ → List ℕ → Bool
+is_text low high bytes = nat_le low (length bytes) && nat_le (length bytes) high && list_all is_printable bytes
+
 -- a name begins with `a` to `z` or `_`
 abbrev pub begins_name : ℕ → Bool
-begins_name c = is_lowercase c || c == 95
+begins_name c = is_ascii_lowercase c || c == 95
 
 -- a name goes on with `a` to `z`, `0` to `9`, `_` or `-`
 abbrev pub continues_name : ℕ → Bool
-continues_name c = is_lowercase c || is_digit c || c == 95 || c == 45
+continues_name c = is_ascii_lowercase c || is_ascii_digit c || c == 95 || c == 45
 
 -- a label goes on with `a` to `z`, `0` to `9`, `.`, `_` or `-`
 abbrev pub continues_label : ℕ → Bool
-continues_label c = is_lowercase c || is_digit c || c == 46 || c == 95 || c == 45
+continues_label c = is_ascii_lowercase c || is_ascii_digit c || c == 46 || c == 95 || c == 45
 
 -- 1 to most bytes, of which the first passes one test and each other one another
 abbrev pub is_word : ℕ → (ℕ → Bool) → (ℕ → Bool) → List ℕ → Bool
@@ -37,11 +34,11 @@ is_name bytes = is_word 32 begins_name continues_name bytes
 
 -- a file's label
 unfoldable pub is_label : List ℕ → Bool
-is_label bytes = is_word 64 is_lowercase continues_label bytes
+is_label bytes = is_word 64 is_ascii_lowercase continues_label bytes
 
 -- a note
 unfoldable pub is_note : List ℕ → Bool
-is_note bytes = nat_le 1 (length bytes) && nat_le (length bytes) 64 && list_all is_printable bytes
+is_note bytes = is_text 1 64 bytes
 
 -- a tab or printable
 abbrev pub is_typed : ℕ → Bool

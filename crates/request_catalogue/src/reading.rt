@@ -6,7 +6,7 @@ ghost use Rattle.request_catalogue.specs.Widths.{transfer_max};
 ghost use Rattle.request_catalogue.specs.Texts.{is_typed_reply};
 ghost use Rattle.request_catalogue.specs.Kinds.{kind_numbered};
 ghost use Rattle.request_catalogue.specs.Catalogue.{RequestValue, value_of, IsRequest};
-ghost use Rattle.request_catalogue.specs.Reading.{asked_by, bad, request_of, IsFault};
+ghost use Rattle.request_catalogue.specs.Reading.{asked_by, request_of, IsFault};
 
 use crate::fields::{number_of, u16_at, u32_at, u64_at};
 use crate::kind::Kind;
@@ -141,7 +141,7 @@ fn look_up(width: Width, kind: u32, flags: u16, body: &[u8]) -> Result<Request<'
 
 /// What is wrong with a message, by which rule, and its detail.
 fn bad(rule: u8, detail: u32) -> Bad
-    ensures { result ≡ bad rule detail }
+    ensures { result ≡ record { rule = rule; detail = detail } }
 {
     Bad { rule, detail }
 }

@@ -1,7 +1,6 @@
 -- All that serving by a service promises, where somebody was served and where nobody was.
 use Rattle.std.proofs.Common.{◌≡◌, ◌≢◌, ◌⊎◌, ℕ, ◌≤◌, Bool, true, false, List, [], ◌∷◌, ◌++◌, length, Option, Some, None, Result, Ok, Err, refl, sym, ap, subst, ◌∙◌, arith, inl, inr, append-nil}
-use Rattle.std.specs.Prelude.{IfSome, ◌==◌, slice_get, is_some}
-use Rattle.std.specs.List.{list_any}
+use Rattle.std.specs.Prelude.{IfSome, slice_get, is_some}
 use Rattle.info_hooks.specs.declared.key.Key.{Key}
 use Rattle.monitor_book.specs.Lines.{LogMatches}
 use Rattle.monitor_run.specs.Headline.{JournalIsLegal, RunPromises}
@@ -13,8 +12,7 @@ use Rattle.outside.specs.Files.{Contents, MayBeReplaced, Replaced, SameFiles}
 use Rattle.outside.specs.Scene.{Scene}
 use Rattle.outside.specs.Told.{Gains, Goes, Rose}
 use Rattle.outside.proofs.Told.{Goes-then, Rose-within}
-use Rattle.policy_laws.proofs.Alike.{strangers_see_no_accounts}
-use Rattle.policy_laws.proofs.Strangers.{strangers_are_told_alike}
+use Rattle.policy_laws.proofs.Alike.{shows_no_accounts}
 use Rattle.policy_model.specs.declared.event.Event.{Event}
 use Rattle.policy_model.specs.Journal.{has_lost, kept_events}
 use Rattle.policy_model.specs.Settings.{Settings}
@@ -28,11 +26,11 @@ use Rattle.service_reading.specs.Found.{service_in}
 use Rattle.session_core.proofs.ReplayLemmas.{consequences}
 use Rattle.serve_mode.specs.declared.error.ServeError.{ServeError}
 use Rattle.serve_mode.specs.declared.error.ServeError.TheVariants as errors
-use Rattle.serve_mode.proofs.StillLemmas.{IsServiceOf, service_of, service_still}
+use Rattle.serve_mode.proofs.StillLemmas.{IsServiceOf, plain_service, service_of, service_still}
 use Rattle.serve_mode.specs.Errors.{IsUnread, error_status, status_of, unread_status}
-use Rattle.serve_mode.specs.Headline.{AccountsMatch, AreAccountsWritten, ListensAt, NoFault, ServeEnded, ServeHasCause, ServePromises, is_run_status, is_unserved_status, serve_statuses, setup_place}
+use Rattle.serve_mode.specs.Headline.{AccountsMatch, AreAccountsWritten, ListensAt, NoFault, ServeEnded, ServeHasCause, ServePromises, is_run_status, is_unserved_status, setup_place}
 use Rattle.fresh_log.specs.Fresh.{IsFresh}
-use Rattle.serve_mode.specs.Services.{IsServedBy, IsUnfresh, plain_service}
+use Rattle.serve_mode.specs.Services.{IsServedBy, IsUnfresh}
 use Rattle.serve_mode.specs.Steps.{IsUnready, WritesBack, WritesNamed, run_end}
 use Rattle.serve_mode.specs.Words.{Named, Plain, Source}
 
@@ -40,7 +38,6 @@ use Rattle.serve_mode.specs.Words.{Named, Plain, Source}
 
 -- what a run's end tells
 record EndTells (end : Result (Unit {0}) ServeError) (written : Result (Unit {0}) ServeError) (lost failed : Bool) : Type 0 where
-  pub listed : list_any (λ s. s == status_of end) serve_statuses ≡ true
   pub served : is_unserved_status (status_of end) ≡ false
   pub six : status_of end ≢ 6
   pub three : status_of end ≢ 3
@@ -56,7 +53,6 @@ record EndTells (end : Result (Unit {0}) ServeError) (written : Result (Unit {0}
 -- no memory was found for the accounts
 at_no_memory : (end written : Result (Unit {0}) ServeError) (lost failed : Bool) → status_of end ≡ 9 → written ≡ Err errors.OutOfMemory → EndTells end written lost failed
 at_no_memory end written lost failed is oom = record {
-  listed = subst (λ n. list_any (λ s. s == n) serve_statuses ≡ true) (sym is) refl;
   served = ap is_unserved_status is;
   six = λ e. omega (arith, is, e);
   three = λ e. omega (arith, is, e);
@@ -73,7 +69,6 @@ at_no_memory end written lost failed is oom = record {
 -- a decision was lost
 at_loss : (end written : Result (Unit {0}) ServeError) (lost failed : Bool) → status_of end ≡ 7 → lost ≡ true → written ≢ Err errors.OutOfMemory → EndTells end written lost failed
 at_loss end written lost failed is some printed = record {
-  listed = subst (λ n. list_any (λ s. s == n) serve_statuses ≡ true) (sym is) refl;
   served = ap is_unserved_status is;
   six = λ e. omega (arith, is, e);
   three = λ e. omega (arith, is, e);
@@ -90,7 +85,6 @@ at_loss end written lost failed is some printed = record {
 -- an accept failed
 at_accept : (end written : Result (Unit {0}) ServeError) (lost failed : Bool) → status_of end ≡ 10 → lost ≡ false → failed ≡ true → written ≢ Err errors.OutOfMemory → EndTells end written lost failed
 at_accept end written lost failed is kept some printed = record {
-  listed = subst (λ n. list_any (λ s. s == n) serve_statuses ≡ true) (sym is) refl;
   served = ap is_unserved_status is;
   six = λ e. omega (arith, is, e);
   three = λ e. omega (arith, is, e);
@@ -107,7 +101,6 @@ at_accept end written lost failed is kept some printed = record {
 -- the accounts were not written
 at_replace : (end written : Result (Unit {0}) ServeError) (lost failed : Bool) → status_of end ≡ 8 → lost ≡ false → written ≡ Err errors.ReplaceFailed → EndTells end written lost failed
 at_replace end written lost failed is kept unwritten = record {
-  listed = subst (λ n. list_any (λ s. s == n) serve_statuses ≡ true) (sym is) refl;
   served = ap is_unserved_status is;
   six = λ e. omega (arith, is, e);
   three = λ e. omega (arith, is, e);
@@ -124,7 +117,6 @@ at_replace end written lost failed is kept unwritten = record {
 -- all went well
 at_success : (end written : Result (Unit {0}) ServeError) (lost failed : Bool) → status_of end ≡ 0 → lost ≡ false → failed ≡ false → written ≡ Ok tt → EndTells end written lost failed
 at_success end written lost failed is kept none done = record {
-  listed = subst (λ n. list_any (λ s. s == n) serve_statuses ≡ true) (sym is) refl;
   served = ap is_unserved_status is;
   six = λ e. omega (arith, is, e);
   three = λ e. omega (arith, is, e);
@@ -264,7 +256,6 @@ module _ {P : Type 0} (source : Source) (service : Service) (ledger : LedgerPart
 
   served_causes : 1 ≤ service.setup.workers → ServeHasCause (status_of (run_end written (has_lost journal) failed)) journal posts scene faults ReadRose ListenRose (Rose log_old log_new) ReplaceRose
   served_causes some = record {
-    listed = tells.listed;
     unserved = λ h. absurd (let f : true ≡ false = sym h ∙ tells.served in cc);
     unbegun = λ none. absurd (let f : length posts ≡ 0 = ap length none in omega (arith, f, ran.one_each, some));
     begun = λ _ none. let f : length posts ≡ 0 = ap length none in omega (arith, f, ran.one_each, some);
@@ -295,11 +286,9 @@ module _ {P : Type 0} (source : Source) (service : Service) (ledger : LedgerPart
     legal = ran.legal;
     sessions = ran.sessions;
     listens = listened posts ran.one_each;
-    operations = ran.operations;
     conversations = ran.conversations;
     log = ran.log;
     consequences = ran.consequences;
-    alike = ran.alike;
     unseen = ran.unseen;
     quota = ran.quota;
     fault_ends = ran.fault_ends;
@@ -354,12 +343,10 @@ module _ {P : Type 0} (source : Source) (service : Service) (status : ℕ) (jour
     legal = legal;
     sessions = record { in_order = λ worker. ([], record { places = ap (λ j. worker_places j worker) events; each = tt; alone = tt }) };
     listens = subst (λ ps. ListensAt service.setup ps listens_old listens_new) (sym none) listens;
-    operations = record { done = λ worker post is. no_post posts worker post none is };
     conversations = record { held = λ worker post is. no_post posts worker post none is };
     log = subst (λ j. LogMatches service.setup j held_old held_new) (sym events) (log_unchanged service.setup held_old held_new log);
     consequences = consequences service.setup journal legal.legal;
-    alike = strangers_are_told_alike service.setup journal legal.legal;
-    unseen = record { alike = λ other_setup other same legal'. strangers_see_no_accounts service.setup other_setup journal other (sym same) legal.legal legal' };
+    unseen = shows_no_accounts service.setup journal legal.legal;
     quota = record { quota = λ worker post is. no_post posts worker post none is };
     fault_ends = record { link = λ worker post is. no_post posts worker post none is; keeper = λ worker post is. no_post posts worker post none is };
     counted = record { each = λ worker post is. no_post posts worker post none is };
@@ -387,9 +374,8 @@ module _ {P : Type 0} (source : Source) (service : Service) (status : ℕ) (jour
       either (inl e) = not 7 refl e
       either (inr e) = not 10 refl e
 
-  unserved_causes : (ReadRose ListenRose LogRose ReplaceRose : Type 0) → list_any (λ s. s == status) serve_statuses ≡ true → is_run_status status ≡ false → (status ≡ 3 → ReadRose) → (status ≡ 6 → ListenRose) → ServeHasCause status journal posts scene faults ReadRose ListenRose LogRose ReplaceRose
-  unserved_causes ReadRose ListenRose LogRose ReplaceRose listed not_run read listen = record {
-    listed = listed;
+  unserved_causes : (ReadRose ListenRose LogRose ReplaceRose : Type 0) → is_run_status status ≡ false → (status ≡ 3 → ReadRose) → (status ≡ 6 → ListenRose) → ServeHasCause status journal posts scene faults ReadRose ListenRose LogRose ReplaceRose
+  unserved_causes ReadRose ListenRose LogRose ReplaceRose not_run read listen = record {
     unserved = λ _. none;
     unbegun = λ _. events;
     begun = λ e _. let f : true ≡ false = sym e ∙ not_run in absurd cc;
@@ -405,7 +391,6 @@ module _ {P : Type 0} (source : Source) (service : Service) (status : ℕ) (jour
 
 -- nobody was served, for an error that isn't that of a run
 pub record TellsUnserved (error : ServeError) (ReadRose ListenRose : Type 0) : Type 0 where
-  pub listed : list_any (λ s. s == error_status error) serve_statuses ≡ true
   pub not_run : is_run_status (error_status error) ≡ false
   pub three : error_status error ≡ 3 → ReadRose
   pub six : error_status error ≡ 6 → ListenRose
@@ -422,7 +407,7 @@ pub unserved_ended : {P : Type 0} (source : Source) (forms : List Key) (error : 
     → ServeEnded source forms end journal posts scene faults old new listens_old listens_new held_old held_new ReadRose ReplaceRose ListenRose LogRose
 unserved_ended source forms error end journal posts scene faults old new listens_old listens_new held_old held_new ReadRose ReplaceRose ListenRose LogRose is why events none kept listens log =
     subst (λ e. ServeEnded source forms e journal posts scene faults old new listens_old listens_new held_old held_new ReadRose ReplaceRose ListenRose LogRose) (sym is) (record {
-      causes = unserved_causes source (plain_service forms) (error_status error) journal posts scene faults events none ReadRose ListenRose LogRose ReplaceRose why.tells.listed why.tells.not_run why.tells.three why.tells.six;
+      causes = unserved_causes source (plain_service forms) (error_status error) journal posts scene faults events none ReadRose ListenRose LogRose ReplaceRose why.tells.not_run why.tells.three why.tells.six;
       unread = λ other e. why.unread other (let f : ◌≡◌ {A = Result (Unit {0}) ServeError} (Err error) (Err (errors.Unread other)) = e in cc);
       unfresh = λ e. why.unfresh (let f : ◌≡◌ {A = Result (Unit {0}) ServeError} (Err error) (Err errors.LogNotFresh) = e in cc);
       served = inl none;
@@ -468,15 +453,7 @@ unread_nine (Named name log) forms old new ReadRose service error why kept is no
 
 -- nothing was read to serve with: a status of it, and its cause
 pub unread_tells : (source : Source) (forms : List Key) (contents : Option Contents) (ReadRose ListenRose : Type 0) (error : ServiceError) → IsUnread source forms contents ReadRose error → TellsUnserved (errors.Unread error) ReadRose ListenRose
-unread_tells source forms contents ReadRose ListenRose error why = record { listed = listed error; not_run = not_run error; three = read_failed source forms contents ReadRose error why; six = λ e. absurd (six error e) } where
-  listed : (error : ServiceError) → list_any (λ s. s == unread_status error) serve_statuses ≡ true
-  listed unread.Failed = refl
-  listed unread.OutOfMemory = refl
-  listed unread.SetupMissing = refl
-  listed unread.WordsMissing = refl
-  listed (unread.SetupRefused fault) = refl
-  listed (unread.WordsRefused fault) = refl
-
+unread_tells source forms contents ReadRose ListenRose error why = record { not_run = not_run error; three = read_failed source forms contents ReadRose error why; six = λ e. absurd (six error e) } where
   not_run : (error : ServiceError) → is_run_status (unread_status error) ≡ false
   not_run unread.Failed = refl
   not_run unread.OutOfMemory = refl
@@ -496,7 +473,7 @@ unread_tells source forms contents ReadRose ListenRose error why = record { list
 -- memory was wanted
 pub memory_why : (source : Source) (forms : List Key) (old new : Option Contents) (ReadRose ListenRose : Type 0) → TellsWhy source forms old new errors.OutOfMemory ReadRose ListenRose
 memory_why source forms old new ReadRose ListenRose = record {
-  tells = record { listed = refl; not_run = refl; three = λ e. absurd (omega (arith, e)); six = λ e. absurd (omega (arith, e)) };
+  tells = record { not_run = refl; three = λ e. absurd (omega (arith, e)); six = λ e. absurd (omega (arith, e)) };
   nine = λ service is read listen. refl;
   unread = λ other same. absurd cc;
   unfresh = λ same. absurd cc;
@@ -523,7 +500,7 @@ unready_why source forms old new ReadRose ListenRose (errors.Unread error) why k
   unfresh = λ same. absurd cc;
 }
 unready_why source forms old new ReadRose ListenRose errors.LogNotFresh why kept = record {
-  tells = record { listed = refl; not_run = refl; three = λ e. absurd (omega (arith, e)); six = λ e. absurd (omega (arith, e)) };
+  tells = record { not_run = refl; three = λ e. absurd (omega (arith, e)); six = λ e. absurd (omega (arith, e)) };
   nine = λ service is read listen. absurd (unfresh_none source forms old new service why kept is);
   unread = λ other same. absurd cc;
   unfresh = λ _. why;
@@ -538,7 +515,7 @@ unready_why source forms old new ReadRose ListenRose errors.ReplaceFailed why ke
 pub not_served_why : (source : Source) (forms : List Key) (old new : Option Contents) (ReadRose ListenRose : Type 0) (error : ServeError) → (error ≡ errors.OutOfMemory) ⊎ ((error ≡ errors.ListenFailed) × ListenRose) → TellsWhy source forms old new error ReadRose ListenRose
 not_served_why source forms old new ReadRose ListenRose error (inl oom) = subst (λ e. TellsWhy source forms old new e ReadRose ListenRose) (sym oom) (memory_why source forms old new ReadRose ListenRose)
 not_served_why source forms old new ReadRose ListenRose error (inr (failed, rose)) = subst (λ e. TellsWhy source forms old new e ReadRose ListenRose) (sym failed) (record {
-  tells = record { listed = refl; not_run = refl; three = λ e. absurd (omega (arith, e)); six = λ _. rose };
+  tells = record { not_run = refl; three = λ e. absurd (omega (arith, e)); six = λ _. rose };
   nine = λ service is read none. absurd (none rose);
   unread = λ other same. absurd cc;
   unfresh = λ same. absurd cc;

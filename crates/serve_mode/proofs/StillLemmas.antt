@@ -6,7 +6,10 @@ use Rattle.info_hooks.specs.declared.key.Key.{Key}
 use Rattle.outside.specs.Files.{Contents, SameFiles}
 use Rattle.outside.specs.Told.{Goes, Rose}
 use Rattle.outside.proofs.Told.{Rose-within}
-use Rattle.policy_model.specs.Settings.{Settings}
+use Rattle.fixed_list.specs.FixedList.{list_of}
+use Rattle.otp_words.specs.Dictionaries.{plain_words}
+use Rattle.policy_model.specs.Salt.{plain_salt}
+use Rattle.policy_model.specs.Settings.{Settings, plain_settings}
 use Rattle.service_model.specs.Service.{Service}
 use Rattle.account_file.specs.Entries.{entries_of}
 use Rattle.account_file.proofs.Once.{setup_once}
@@ -16,7 +19,7 @@ use Rattle.fresh_log.specs.Fresh.{IsFresh}
 use Rattle.service_reading.specs.declared.error.ServiceError.TheVariants as unread
 use Rattle.serve_mode.specs.declared.error.ServeError.{ServeError}
 use Rattle.serve_mode.specs.declared.error.ServeError.TheVariants as errors
-use Rattle.serve_mode.specs.Services.{HasFreshLog, IsServedBy, IsUnfresh, plain_service, tell_throughout}
+use Rattle.serve_mode.specs.Services.{HasFreshLog, IsServedBy, IsUnfresh, plain_entries, tell_throughout}
 use Rattle.serve_mode.specs.Steps.{IsLogRefused, IsReadFrom, IsUnready, log_of, service_by}
 use Rattle.serve_mode.specs.Words.{Named, Plain, Source}
 
@@ -29,6 +32,15 @@ pub record IsNamedService (name : List ℕ) (log : Option (List ℕ)) (forms : L
   pub found : service_in forms files name ≡ Ok (record { entries = entries_of service.setup; words = service.words })
   pub fresh : HasFreshLog log files
 
+-- the plain setup with the plain word list
+abbrev pub plain_service : List Key → Service
+plain_service forms = record { setup = plain_settings; words = plain_words; forms = forms }
+
+-- a file would say this of the plain setup
+plain_is : entries_of plain_settings ≡ plain_entries
+unfolding list_of plain_salt
+plain_is = refl
+
 -- what a run serves by, whose setup comes from there and that can say this
 abbrev pub IsServiceOf : Source → List Key → Option Contents → Option Contents → Service → Type 0
 IsServiceOf Plain forms old new service = service ≡ plain_service forms
@@ -36,7 +48,9 @@ IsServiceOf (Named name log) forms old new service = IsNamedService name log for
 
 -- what is served by, where the files tell throughout
 pub service_of : (source : Source) (forms : List Key) (old new : Option Contents) (service : Service) → tell_throughout source old new ≡ true → IsServedBy source forms old new service → IsServiceOf source forms old new service
-service_of Plain forms old new service told is = is
+service_of Plain forms old new service told (forms_are, words_are, entries_are) =
+    let setup_is = setup_once service.setup plain_settings (entries_are ∙ sym plain_is) in
+    λ i. record { setup = setup_is i; words = words_are i; forms = forms_are i }
 service_of (Named name log) forms None new service told is = absurd (false≢true told)
 service_of (Named name log) forms (Some files) new service told is = record { forms_are = is.forms_are; files = files; told = refl; still = told; found = is.read told; fresh = is.fresh told }
 
@@ -70,7 +84,7 @@ still_fresh (Some log) files later kept fresh = subst IsFresh (kept.same log) fr
 
 -- what was read is what the run was served by, as the files stood before it
 pub read_by : (source : Source) (forms : List Key) (old mid new : Option Contents) (setup : Settings) (words : List (List ℕ)) → IsReadFrom source forms mid setup words → IfSome mid (HasFreshLog (log_of source)) → Goes SameFiles old mid → (is_some new ≡ true → is_some mid ≡ true) → IsServedBy source forms old new (service_by setup words forms)
-read_by Plain forms old mid new setup words (setup_is, words_are) fresh kept telling = λ i. record { setup = setup_is i; words = words_are i; forms = forms }
+read_by Plain forms old mid new setup words (setup_is, words_are) fresh kept telling = (refl, words_are, ap entries_of setup_is ∙ plain_is)
 read_by (Named name log) forms old mid new setup words read fresh kept telling = record { forms_are = refl; read = λ still. reads old mid (telling still) read kept; fresh = λ still. freshens old mid (telling still) fresh kept } where
   reads : (old mid : Option Contents) → is_some mid ≡ true → IsServiceIn forms mid name setup words → Goes SameFiles old mid → IsServiceIn forms old name setup words
   reads old None some read kept = absurd cc

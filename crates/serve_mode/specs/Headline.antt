@@ -2,13 +2,13 @@
 use Rattle.std.specs.Prelude.{◌≡◌, ◌≢◌, ◌⊎◌, ℕ, Bool, true, false, ◌==◌, List, [], ◌∷◌, length, Option, Result, Ok, Err}
 use Rattle.std.specs.List.{list_any}
 use Rattle.policy_laws.specs.Consequences.{HasConsequences}
-use Rattle.policy_laws.specs.Strangers.{StrangersAreToldAlike}
+use Rattle.policy_laws.specs.Strangers.{ShowsNoAccounts}
 use Rattle.account_file.specs.Entries.{entries_of}
 use Rattle.account_file.specs.Setups.{setup_of}
 use Rattle.account_writer.specs.CurrentSetup.{setup_after}
 use Rattle.info_hooks.specs.declared.key.Key.{Key}
 use Rattle.monitor_book.specs.Lines.{LogMatches}
-use Rattle.monitor_run.specs.Headline.{AreFaultless, ConversationsMatch, FaultEndsAreCounted, FaultsAreCounted, IsAnsweredWhole, JournalIsLegal, NoAcceptFailed, OperationsMatch, RunsToQuota, SessionsInOrder, ShowsNoAccounts, SomeAcceptFailed}
+use Rattle.monitor_run.specs.Headline.{AreFaultless, ConversationsMatch, FaultEndsAreCounted, FaultsAreCounted, IsAnsweredWhole, JournalIsLegal, NoAcceptFailed, RunsToQuota, SessionsInOrder, SomeAcceptFailed}
 use Rattle.outside.specs.declared.faults.Faults.{Faults}
 use Rattle.outside.specs.declared.place.Place.{Place as SitePlace}
 use Rattle.outside.specs.Files.{Contents, MayBeReplaced, Replaced, SameFiles}
@@ -62,17 +62,12 @@ AccountsMatch (Named name log) setup status journal old new ReplaceRose = AreAcc
 
 -- ---- the statuses and their causes
 
--- those of `serve`
-abbrev pub serve_statuses : List ℕ
-serve_statuses = 0 ∷ 3 ∷ 4 ∷ 5 ∷ 6 ∷ 7 ∷ 8 ∷ 9 ∷ 10 ∷ 13 ∷ []
-
 -- with these nobody was served
 abbrev pub is_unserved_status : ℕ → Bool
 is_unserved_status status = list_any (λ s. s == status) (3 ∷ 4 ∷ 5 ∷ 6 ∷ 13 ∷ [])
 
 -- what comes only for its cause, and what comes exactly for it; rose says that a count rose in this call
 pub record ServeHasCause {P : Type 0} (status : ℕ) (journal : List Event) (posts : List P) (scene : P → Option Scene) (faults : P → Faults) (ReadRose ListenRose LogRose ReplaceRose : Type 0) : Type 0 where
-  pub listed : list_any (λ s. s == status) serve_statuses ≡ true
   pub unserved : is_unserved_status status ≡ true → posts ≡ []
   pub begun : is_run_status status ≡ true → posts ≢ []
   pub unbegun : posts ≡ [] → journal ≡ []
@@ -112,11 +107,9 @@ pub record ServePromises {P : Type 0} (source : Source) (service : Service) (sta
   pub legal : JournalIsLegal service.setup journal
   pub sessions : SessionsInOrder service journal
   pub listens : ListensAt service.setup posts listens_old listens_new
-  pub operations : OperationsMatch service scene journal posts
   pub conversations : ConversationsMatch service scene journal posts
   pub log : LogMatches service.setup journal held_old held_new
   pub consequences : HasConsequences service.setup journal
-  pub alike : StrangersAreToldAlike service.setup journal
   pub unseen : ShowsNoAccounts service.setup journal
   pub quota : RunsToQuota service.setup scene journal posts
   pub fault_ends : FaultEndsAreCounted faults journal posts

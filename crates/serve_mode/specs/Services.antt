@@ -1,17 +1,25 @@
 -- Believed: what a run serves by.
-use Rattle.std.specs.Prelude.{◌≡◌, ℕ, Bool, true, ◌&&◌, List, Option, Some, None, IfSome, is_some, is_ok}
+use Rattle.std.specs.Prelude.{◌≡◌, ℕ, Bool, true, ◌&&◌, List, [], Option, Some, None, IfSome, is_some, is_ok, codes}
 use Rattle.info_hooks.specs.declared.key.Key.{Key}
 use Rattle.otp_words.specs.Dictionaries.{plain_words}
 use Rattle.outside.specs.Files.{Contents}
-use Rattle.policy_model.specs.Settings.{plain_settings}
+use Rattle.request_catalogue.specs.declared.width.Width.TheVariants.{Narrow}
+use Rattle.account_file.specs.Entries.{SetupEntries, entries_of}
 use Rattle.service_model.specs.Service.{Service}
 use Rattle.service_reading.specs.Found.{IsServiceIn, service_in}
 use Rattle.fresh_log.specs.Fresh.{IsFresh}
 use Rattle.serve_mode.specs.Words.{Named, Plain, Source}
 
--- the plain setup with the plain word list
-abbrev pub plain_service : List Key → Service
-plain_service forms = record { setup = plain_settings; words = plain_words; forms = forms }
+-- what a file would say of the plain setup
+abbrev pub plain_entries : SetupEntries
+plain_entries = record {
+  texts = record { socket = codes "otplogd.sock"; launcher = codes "otplogd"; vault = codes "vault"; words = codes "words"; banner = [] };
+  salt = codes "decoy";
+  frames = Narrow;
+  counts = record { workers = 1; connections = 1; requests = 64; tries = 3; hold = 30000 };
+  info = [];
+  accounts = [];
+}
 
 -- the durable log that is named, if one is, is there and has no record
 abbrev pub HasFreshLog : Option (List ℕ) → Contents → Type 0
@@ -24,9 +32,9 @@ pub record IsReadService (name : List ℕ) (log : Option (List ℕ)) (forms : Li
   pub read : is_some new ≡ true → IsServiceIn forms old name service.setup service.words
   pub fresh : is_some new ≡ true → IfSome old (HasFreshLog log)
 
--- what was served by: the plain service, or one that the files spell where they tell
+-- what was served by: the plain setup with the plain word list, or a service that the files spell where they tell
 abbrev pub IsServedBy : Source → List Key → Option Contents → Option Contents → Service → Type 0
-IsServedBy Plain forms old new service = service ≡ plain_service forms
+IsServedBy Plain forms old new service = (service.forms ≡ forms) × (service.words ≡ plain_words) × (entries_of service.setup ≡ plain_entries)
 IsServedBy (Named name log) forms old new service = IsReadService name log forms old new service
 
 -- the files tell before the run and behind it, where it is by files

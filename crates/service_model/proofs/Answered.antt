@@ -9,17 +9,21 @@ use Rattle.policy_model.specs.declared.event.Why.TheVariants as whys
 use Rattle.service_model.specs.Ends.{is_link_end}
 use Rattle.service_model.specs.Places.{Step, step_places}
 use Rattle.service_model.specs.Answers.{answer_to, answers}
-use Rattle.service_model.specs.Parts.{EndsSession, HandsOver, IsAnswered, IsPart, Part, PartEnd, by_link, exported_by}
+use Rattle.service_model.specs.Parts.{EndsSession, HandsOver, IsPart, Part, PartEnd, exported_by, requests_of}
+use Rattle.service_model.specs.Cases.{by_link}
 use Rattle.service_model.specs.Service.{Service}
 use Rattle.service_model.specs.Sittings.{AreAnswered, AreParts, EndsFirst, Follows, IsSitting, Sitting, all_steps}
 use Rattle.service_model.proofs.Ends.{link_requests}
 use Rattle.service_model.proofs.Sittings.{passes_end, passing}
 use Rattle.service_model.proofs.Stories.{count-sittings}
 
+-- a child was sent the answer to each of its requests, whole
+abbrev IsAnswered : Service → List ℕ → Part → Type 0
+IsAnswered service exported part = part.sent ≡ answers service exported (requests_of part)
+
 answered_part : (service : Service) (exported : List ℕ) (end : PartEnd) (part : Part) → end ≢ by_link → IsPart service exported end part → IsAnswered service exported part
-answered_part service exported end part ne is = record {
-  whole = is.sent.1 ∙ ap (λ last. answers service exported part.served ++ last) (is.sent.2.all ne) ∙ sym (flat_map-append (answer_to service exported) part.served (option_to_list part.final));
-}
+answered_part service exported end part ne is =
+    is.sent.1 ∙ ap (λ last. answers service exported part.served ++ last) (is.sent.2.all ne) ∙ sym (flat_map-append (answer_to service exported) part.served (option_to_list part.final))
 
 handed : HandsOver ≢ by_link
 handed e = absurd cc

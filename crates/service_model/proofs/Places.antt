@@ -4,19 +4,25 @@ use Rattle.std.proofs.lemmas.Bool.Decides.{nat_tests}
 use Rattle.std.proofs.lemmas.List.{append-nil}
 use Rattle.policy_model.specs.declared.event.Event.{Event}
 use Rattle.policy_model.specs.Journal.{Place}
-use Rattle.service_model.proofs.Lists.{count-append, count-cons}
-use Rattle.service_model.specs.Places.{place_of, worker_places, worker_places_after}
+use Rattle.service_model.proofs.Lists.{count-cons}
+use Rattle.service_model.specs.Cases.{place_of, worker_places_after}
+use Rattle.service_model.specs.Places.{worker_places}
 
 pub worker_places_after-append : (worker : ℕ) (before xs ys : List Event) → worker_places_after worker before (xs ++ ys) ≡ worker_places_after worker before xs ++ worker_places_after worker (before ++ xs) ys
 worker_places_after-append worker before [] ys = ap (λ b. worker_places_after worker b ys) (sym (append-nil before))
-worker_places_after-append worker before (x ∷ xs) ys =
-    let front : List Place = cond (eqb x.worker worker) (place_of before x ∷ []) [] in
-    let mid : List Event = before ++ x ∷ [] in
-    ap (λ ps. front ++ ps) (worker_places_after-append worker mid xs ys ∙ ap (λ b. worker_places_after worker mid xs ++ worker_places_after worker b ys) (append_assoc before (x ∷ []) xs))
-    ∙ sym (append_assoc front (worker_places_after worker mid xs) (worker_places_after worker (before ++ (x ∷ xs)) ys))
+worker_places_after-append worker before (x ∷ xs) ys = go (eqb x.worker worker) (worker_places_after-append worker (before ++ x ∷ []) xs ys ∙ ap (λ b. front ++ worker_places_after worker b ys) (append_assoc before (x ∷ []) xs)) where
+  front : List Place
+  front = worker_places_after worker (before ++ x ∷ []) xs
+
+  all : List Place
+  all = worker_places_after worker (before ++ x ∷ []) (xs ++ ys)
+
+  go : (b : Bool) → all ≡ front ++ worker_places_after worker (before ++ (x ∷ xs)) ys → cond b (place_of before x ∷ all) all ≡ cond b (place_of before x ∷ front) front ++ worker_places_after worker (before ++ (x ∷ xs)) ys
+  go true rest = ap (λ ps. place_of before x ∷ ps) rest
+  go false rest = rest
 
 one_place : (worker : ℕ) (before : List Event) (e : Event) → worker_places (before ++ e ∷ []) worker ≡ worker_places before worker ++ cond (eqb e.worker worker) (place_of before e ∷ []) []
-one_place worker before e = worker_places_after-append worker [] before (e ∷ []) ∙ ap (λ ps. worker_places before worker ++ ps) (append-nil (cond (eqb e.worker worker) (place_of before e ∷ []) []))
+one_place worker before e = worker_places_after-append worker [] before (e ∷ [])
 
 -- an event of the worker is one place more
 pub worker_places-own : (worker : ℕ) (before : List Event) (e : Event) → e.worker ≡ worker → worker_places (before ++ e ∷ []) worker ≡ worker_places before worker ++ place_of before e ∷ []
@@ -33,15 +39,15 @@ worker_places-other worker before e other =
 count_after : (f : Event → Bool) (worker : ℕ) (before journal : List Event) → count_by (λ e. eqb e.worker worker && f e) journal ≡ count_by (λ p. f p.event) (worker_places_after worker before journal)
 count_after f worker before [] = refl
 count_after f worker before (e ∷ es) =
-    let front : List Place = cond (eqb e.worker worker) (place_of before e ∷ []) [] in
-    let rest : List Place = worker_places_after worker (before ++ e ∷ []) es in
     count-cons (λ x. eqb x.worker worker && f x) e es
     ∙ ap (λ n. cond (eqb e.worker worker && f e) 1 0 + n) (count_after f worker (before ++ e ∷ []) es)
-    ∙ ap (λ n. n + count_by (λ p. f p.event) rest) (go (eqb e.worker worker))
-    ∙ sym (count-append (λ p. f p.event) front rest) where
-      go : (b : Bool) → cond (b && f e) 1 0 ≡ count_by (λ p. f p.event) (cond b (place_of before e ∷ []) [])
-      go true = sym (zero-add (cond (f e) 1 0))
-      go false = refl
+    ∙ go (eqb e.worker worker) where
+      rest : List Place
+      rest = worker_places_after worker (before ++ e ∷ []) es
+
+      go : (b : Bool) → cond (b && f e) 1 0 + count_by (λ p. f p.event) rest ≡ count_by (λ p. f p.event) (cond b (place_of before e ∷ rest) rest)
+      go true = sym (count-cons (λ p. f p.event) (place_of before e) rest)
+      go false = zero-add (count_by (λ p. f p.event) rest)
 
 -- the events of a worker that pass a test, by its places
 pub count_of-places : (f : Event → Bool) (worker : ℕ) (journal : List Event) → count_by (λ e. eqb e.worker worker && f e) journal ≡ count_by (λ p. f p.event) (worker_places journal worker)

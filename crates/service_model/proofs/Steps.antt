@@ -20,7 +20,8 @@ use Rattle.policy_model.specs.Journal.{Place}
 use Rattle.policy_model.specs.Settings.{Settings}
 use Rattle.service_model.specs.Service.{Service}
 use Rattle.service_model.specs.Places.{Step, step_acts, step_places}
-use Rattle.service_model.specs.Acts.{Operation, Accepts, ending_operations, if_permitted, operation_of, operations_by, operations_of, read_operations, write_operations}
+use Rattle.service_model.specs.Acts.{Operation, Accepts, ending_operations, operation_of, operations_by, operations_of, read_operations, write_operations}
+use Rattle.service_model.specs.Cases.{if_permitted}
 use Rattle.service_model.specs.Parts.{IsRequestStep}
 use Rattle.service_model.specs.Users.{File}
 use Rattle.service_model.proofs.Lists.{count-append, count-cons, count-none}

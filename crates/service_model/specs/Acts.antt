@@ -1,5 +1,6 @@
 -- Believed: the operations that are done for an event.
-use Rattle.std.specs.Prelude.{◌≡◌, ℕ, zero, List, [], ◌∷◌, map, Option, Some, None, Result, Ok, Err}
+use Rattle.std.specs.Prelude.{◌≡◌, ℕ, zero, List, [], ◌∷◌, map, Option, Some, None, Result, Ok, Err, if◌then◌else◌}
+use Rattle.std.specs.Option.{option_map_or}
 use Rattle.imsg_frame.specs.Message.{Message}
 use Rattle.request_catalogue.specs.declared.request.Bad.{Bad}
 use Rattle.request_catalogue.specs.declared.texts.Label.{Label}
@@ -19,6 +20,7 @@ use Rattle.policy_model.specs.declared.event.Why.{Why}
 use Rattle.policy_model.specs.declared.event.Why.TheVariants as whys
 use Rattle.policy_model.specs.declared.event.Decision.{Decision}
 use Rattle.policy_model.specs.declared.event.Decision.TheVariants as decisions
+use Rattle.policy_model.specs.Asks.{is_permit}
 use Rattle.policy_model.specs.Journal.{Place}
 use Rattle.policy_model.specs.Settings.{Settings}
 use Rattle.service_model.specs.Users.{File, file_at, user_role}
@@ -52,13 +54,7 @@ written_by (Ok (requests.WriteAt handle offset bytes)) = bytes
 written_by _ = []
 
 abbrev pub written_bytes : Width → Option Message → List ℕ
-written_bytes width None = []
-written_bytes width (Some message) = written_by (request_of width message.header.kind message.header.flags message.body)
-
--- what is done for a permit alone
-abbrev pub if_permitted : Decision → List Operation → List Operation
-if_permitted (decisions.Permit value) operations = operations
-if_permitted _ operations = []
+written_bytes width message = option_map_or (λ m. written_by (request_of width m.header.kind m.header.flags m.body)) message []
 
 -- of a session's opening: a connection came and a child is started, or, where it is lost, the connection is closed
 abbrev pub opening_operations : ℕ → Decision → List Operation
@@ -91,9 +87,9 @@ export_operations session user = Finishes (Pre session) ∷ Starts user ∷ []
 abbrev pub operations_by : Settings → Place → Ask → Option Message → List Operation
 operations_by setup p asks.Begin message = opening_operations p.event.session p.event.decision
 operations_by setup p (asks.Challenge user now) message = ReadsClock now ∷ []
-operations_by setup p (asks.Export len) message = if_permitted p.event.decision (export_operations p.event.session (user_role setup p))
-operations_by setup p (asks.ReadAt handle offset max) message = if_permitted p.event.decision (read_operations handle (file_at setup p handle) offset max)
-operations_by setup p (asks.WriteAt handle offset len) message = if_permitted p.event.decision (write_operations handle (file_at setup p handle) offset (written_bytes setup.frames message))
+operations_by setup p (asks.Export len) message = if is_permit p.event.decision then export_operations p.event.session (user_role setup p) else []
+operations_by setup p (asks.ReadAt handle offset max) message = if is_permit p.event.decision then read_operations handle (file_at setup p handle) offset max else []
+operations_by setup p (asks.WriteAt handle offset len) message = if is_permit p.event.decision then write_operations handle (file_at setup p handle) offset (written_bytes setup.frames message) else []
 operations_by setup p _ message = []
 
 unfoldable pub operations_of : Settings → Place → Option Message → List Operation

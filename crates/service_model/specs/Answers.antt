@@ -1,12 +1,12 @@
 -- Believed: what a child is told of its requests.
-use Rattle.std.specs.Prelude.{ℕ, ◌==◌, nat_lt, List, [], filter_map, find, slice_get, Option, Some, None, option_map, unwrap_or, if◌then◌else◌}
+use Rattle.std.specs.Prelude.{ℕ, ◌==◌, nat_lt, List, [], filter_map, find, slice_get, Option, Some, None, if◌then◌else◌}
 use Rattle.std.specs.Int.{w32, to_le_bytes}
 use Rattle.std.specs.List.{flat_map}
+use Rattle.std.specs.Option.{option_map_or}
 use Rattle.imsg_frame.specs.Message.{Message, spelling_of, composed_of}
 use Rattle.info_hooks.specs.declared.key.Key.{Key}
 use Rattle.info_hooks.specs.Said.{said}
 use Rattle.request_catalogue.specs.declared.texts.Name.{Name}
-use Rattle.request_catalogue.specs.declared.width.Width.{Width}
 use Rattle.request_catalogue.specs.TextBytes.{name_bytes}
 use Rattle.request_catalogue.specs.Replies.{AnswerValue, Done, Denied, Device, reply_of, reply_kind_of}
 use Rattle.otp_hash.specs.SeedBytes.{seed_bytes}
@@ -29,52 +29,38 @@ use Rattle.service_model.specs.Acts.{bytes_read, failed_device}
 use Rattle.service_model.specs.Places.{Step}
 use Rattle.service_model.specs.Users.{user_at}
 
--- the challenge of a user's account, with the number of the next password
-abbrev pub account_challenge_text : Option Account → ℕ → List ℕ
-account_challenge_text None number = []
-account_challenge_text (Some account) number = challenge_of account.algo number (seed_bytes account.seed)
-
 -- the challenge of a name's decoy
 abbrev pub decoy_challenge_text : Settings → Name → List ℕ
 decoy_challenge_text setup user = challenge_of (decoy_algo setup user) (decoy_number setup user) (decoy_seed setup user)
 
--- what a permitted CHALLENGE with a value is answered by: the account's challenge, or, from 10,000 on, the decoy's
+-- what a permitted CHALLENGE with a value is answered by: the challenge of the user's account with that number, or, from 10,000 on, the decoy's
 abbrev pub challenge_text : Settings → Name → ℕ → List ℕ
-challenge_text setup user value = if nat_lt value DECOYS_FROM then account_challenge_text (account_of setup user) value else decoy_challenge_text setup user
+challenge_text setup user value =
+    if nat_lt value DECOYS_FROM then option_map_or (λ account. challenge_of account.algo value (seed_bytes account.seed)) (account_of setup user) []
+    else decoy_challenge_text setup user
 
--- the imported state: the user's number and name, and the bytes that the child before had exported
-abbrev pub imported_state : Option Account → List ℕ → List ℕ
-imported_state None exported = []
-imported_state (Some account) exported = import_bytes account.uid (name_bytes account.name) exported
+-- what a form says of a user who has so many passwords left
+abbrev pub said_of : Key → Account → ℕ → List ℕ
+said_of key account sequence = said key.form (record { name = account.name; uid = account.uid; algo = account.algo; sequence = sequence })
 
--- what a form, if there is one, says of a user, if one is logged in, who has so many passwords left
-abbrev pub said_of : Option Key → Option Account → ℕ → List ℕ
-said_of (Some key) (Some account) sequence = said key.form (record { name = account.name; uid = account.uid; algo = account.algo; sequence = sequence })
-said_of _ _ sequence = []
-
--- an information text: the form of its number, said of the user
+-- an information text: the form of its number, said of the user who is logged in
 abbrev pub info_text : List Key → ℕ → Option Account → ℕ → List ℕ
-info_text forms number user sequence = said_of (find (λ key. key.number == number) forms) user sequence
+info_text forms number user sequence = option_map_or (λ key. option_map_or (λ account. said_of key account sequence) user []) (find (λ key. key.number == number) forms) []
 
--- the body of what is answered to a permitted ask with a value, where these bytes were exported
+-- the body of what is answered to a permitted ask with a value, where these bytes were exported: to an IMPORT they are told with the user's number and name
 abbrev pub done_body : Service → List ℕ → Place → List Act → Ask → ℕ → List ℕ
 done_body service exported p done asks.Banner value = service.setup.banner
 done_body service exported p done (asks.Challenge user now) value = challenge_text service.setup user value
-done_body service exported p done asks.Import value = imported_state (user_at service.setup p) exported
+done_body service exported p done asks.Import value = option_map_or (λ account. import_bytes account.uid (name_bytes account.name) exported) (user_at service.setup p) []
 done_body service exported p done (asks.ReadAt handle offset max) value = flat_map bytes_read done
 done_body service exported p done (asks.OpenFile mode name) value = to_le_bytes w32 value
 done_body service exported p done (asks.Info number) value = info_text service.forms number (user_at service.setup p) value
 done_body service exported p done _ value = []
 
--- a device that failed, or that all was done
-abbrev pub outcome_value : Option ℕ → List ℕ → AnswerValue
-outcome_value (Some device) body = Device device
-outcome_value None body = Done body
-
--- what is answered to a permitted ask: nothing to an EXPORT
+-- what is answered to a permitted ask: the device that failed, or that all was done, and nothing to an EXPORT
 abbrev pub permitted_value : Service → List ℕ → Place → List Act → Ask → ℕ → Option AnswerValue
 permitted_value service exported p done (asks.Export len) value = None
-permitted_value service exported p done ask value = Some (outcome_value (slice_get (filter_map failed_device done) 0) (done_body service exported p done ask value))
+permitted_value service exported p done ask value = Some (option_map_or Device (slice_get (filter_map failed_device done) 0) (Done (done_body service exported p done ask value)))
 
 -- what is answered to a decision, as it is shown: nothing to a lost one
 abbrev pub answer_value : Service → List ℕ → Place → List Act → Decision → Option AnswerValue
@@ -86,17 +72,14 @@ answer_value service exported p done decisions.Lost = None
 abbrev pub reply_message : Message → ℕ → AnswerValue → Message
 reply_message message session answer = composed_of (reply_kind_of message.header.kind message.header.flags) message.header.peerid session (reply_of answer)
 
-abbrev pub reply_bytes : Width → Message → ℕ → Option AnswerValue → List ℕ
-reply_bytes width message session None = []
-reply_bytes width message session (Some answer) = spelling_of width (reply_message message session answer)
-
 -- the answer to an event that came by a message, where these bytes were exported before
 unfoldable pub reply_to : Service → List ℕ → Message → Place → List Act → List ℕ
-reply_to service exported message p done = reply_bytes service.setup.frames message p.event.session (answer_value service exported p done (shown_of p.event.decision))
+reply_to service exported message p done =
+    option_map_or (λ answer. spelling_of service.setup.frames (reply_message message p.event.session answer)) (answer_value service exported p done (shown_of p.event.decision)) []
 
 -- the bytes that a child is sent for a step; nothing where no message brought it
 abbrev pub answer_to : Service → List ℕ → Step → List ℕ
-answer_to service exported step = unwrap_or (option_map (λ message. reply_to service exported message step.place step.acts) step.message) []
+answer_to service exported step = option_map_or (λ message. reply_to service exported message step.place step.acts) step.message []
 
 abbrev pub answers : Service → List ℕ → List Step → List ℕ
 answers service exported steps = flat_map (answer_to service exported) steps

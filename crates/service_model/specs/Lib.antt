@@ -8,3 +8,4 @@ pub mod Parts
 pub mod Ends
 pub mod Sittings
 pub mod Stories
+pub mod Cases

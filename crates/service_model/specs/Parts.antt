@@ -1,7 +1,8 @@
 -- Believed: what one child had of a session.
-use Rattle.std.specs.Prelude.{◌≡◌, ◌≢◌, ℕ, true, false, List, [], ◌++◌, take, Option, Some, None, IsSomeAnd, option_and_then, option_map, option_to_list, unwrap_or}
+use Rattle.std.specs.Prelude.{◌≡◌, ◌≢◌, ℕ, true, false, List, [], ◌++◌, take, Option, Some, None, IsSomeAnd, option_and_then, option_to_list}
 use Rattle.std.specs.List.{AllByRecursion, flat_map}
-use Rattle.imsg_frame.specs.Message.{Message, spelling_of}
+use Rattle.std.specs.Option.{option_map_or}
+use Rattle.imsg_frame.specs.Message.{spelling_of}
 use Rattle.imsg_frame.specs.Cut.{IsPartialFront, IsBadFront}
 use Rattle.request_catalogue.specs.declared.width.Width.{Width}
 use Rattle.request_catalogue.specs.Widths.{frame_max}
@@ -38,13 +39,9 @@ pub data PartEnd : Type 0 where
 abbrev pub requests_of : Part → List Step
 requests_of part = part.served ++ option_to_list part.final
 
-abbrev pub message_bytes : Width → Option Message → List ℕ
-message_bytes width None = []
-message_bytes width (Some message) = spelling_of width message
-
 -- the bytes by which the steps came
 abbrev pub step_bytes : Width → List Step → List ℕ
-step_bytes width steps = flat_map (λ s. message_bytes width s.message) steps
+step_bytes width steps = flat_map (λ s. option_map_or (spelling_of width) s.message []) steps
 
 -- a child's request, with the message that it came by and the acts that were done for it
 pub record IsRequestStep (service : Service) (step : Step) : Type 0 where
@@ -77,13 +74,10 @@ EndsSo width HandsOver (Some step) rest unread = exports step.place.event ≡ tr
 EndsSo width (EndsSession why) None rest unread = EndsAlone width why rest unread
 EndsSo width (EndsSession why) (Some step) rest unread = (ends_session step.place.event ≡ true) × (why ≡ why_of step.place.event.decision)
 
-abbrev pub by_link : PartEnd
-by_link = EndsSession whys.LinkFault
-
 -- the last answer was sent whole, or, where the link failed, a front of it
 pub record LastSent (end : PartEnd) (whole sent : List ℕ) : Type 0 where
   pub cut : (n : ℕ) × (sent ≡ take n whole)
-  pub all : end ≢ by_link → sent ≡ whole
+  pub all : end ≢ EndsSession whys.LinkFault → sent ≡ whole
 
 -- what one child had of a session, whose part ended so, where these bytes were exported before
 pub record IsPart (service : Service) (exported : List ℕ) (end : PartEnd) (part : Part) : Type 0 where
@@ -91,17 +85,12 @@ pub record IsPart (service : Service) (exported : List ℕ) (end : PartEnd) (par
   pub on : AllByRecursion GoesOn part.served
   pub taken : part.taken ≡ step_bytes service.setup.frames (requests_of part) ++ part.rest
   pub sent : (last : List ℕ) × (part.sent ≡ answers service exported part.served ++ last) × LastSent end (answers service exported (option_to_list part.final)) last
-  pub ended : end ≢ by_link → EndsSo service.setup.frames end part.final part.rest part.unread
-
--- a child was sent the answer to each of its requests, whole
-pub record IsAnswered (service : Service) (exported : List ℕ) (part : Part) : Type 0 where
-  pub whole : part.sent ≡ answers service exported (requests_of part)
+  pub ended : end ≢ EndsSession whys.LinkFault → EndsSo service.setup.frames end part.final part.rest part.unread
 
 -- the acts of the request that ended a part
 abbrev pub final_acts : Option Step → List Act
-final_acts None = []
-final_acts (Some step) = step.acts
+final_acts final = option_map_or (λ step. step.acts) final []
 
 -- the state that a part exported, where the request that ended it is an EXPORT: the body of its message
 abbrev pub exported_by : Option Step → List ℕ
-exported_by final = unwrap_or (option_map (λ message. message.body) (option_and_then (λ step. step.message) final)) []
+exported_by final = option_map_or (λ message. message.body) (option_and_then (λ step. step.message) final) []

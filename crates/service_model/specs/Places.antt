@@ -1,10 +1,10 @@
 -- Believed: places of the journal, and the steps that a worker takes there.
-use Rattle.std.specs.Prelude.{ℕ, ◌==◌, List, [], ◌∷◌, ◌++◌, map, Option, if◌then◌else◌}
+use Rattle.std.specs.Prelude.{ℕ, ◌==◌, List, map, filter, Option}
 use Rattle.std.specs.List.{flat_map}
 use Rattle.imsg_frame.specs.Message.{Message}
 use Rattle.outside.specs.declared.act.Act.{Act}
 use Rattle.policy_model.specs.declared.event.Event.{Event}
-use Rattle.policy_model.specs.Journal.{Place}
+use Rattle.policy_model.specs.Journal.{Place, places_of}
 
 -- an event at its place, with the message that it came by, if it is a child's, and the acts that were done for it
 pub record Step : Type 0 where
@@ -12,17 +12,9 @@ pub record Step : Type 0 where
   pub message : Option Message
   pub acts : List Act
 
-abbrev pub place_of : List Event → Event → Place
-place_of before event = record { before = before; event = event }
-
--- the places of a worker's events in the second list, where the first one stands before it
-abbrev pub worker_places_after : ℕ → List Event → List Event → List Place
-worker_places_after worker before [] = []
-worker_places_after worker before (e ∷ events) = (if e.worker == worker then place_of before e ∷ [] else []) ++ worker_places_after worker (before ++ e ∷ []) events
-
 -- the places of a worker's events in a journal
 abbrev pub worker_places : List Event → ℕ → List Place
-worker_places journal worker = worker_places_after worker [] journal
+worker_places journal worker = filter (λ place. place.event.worker == worker) (places_of journal)
 
 abbrev pub step_places : List Step → List Place
 step_places steps = map (λ s. s.place) steps

@@ -1,6 +1,7 @@
 -- Believed: one session of a worker, and all of them.
-use Rattle.std.specs.Prelude.{◌≡◌, ◌≢◌, ℕ, Bool, true, false, List, [], ◌∷◌, ◌++◌, map, Option, Some, None, IsSomeAnd, option_map, option_to_list, unwrap_or}
+use Rattle.std.specs.Prelude.{◌≡◌, ◌≢◌, ℕ, Bool, true, false, List, [], ◌∷◌, ◌++◌, map, Option, Some, None, IsSomeAnd, option_to_list}
 use Rattle.std.specs.List.{AllByRecursion, flat_map, list_any}
+use Rattle.std.specs.Option.{option_map_or}
 use Rattle.outside.specs.declared.act.Role.{Role}
 use Rattle.outside.specs.declared.act.Role.TheVariants.{Pre}
 use Rattle.outside.specs.Scene.{is_failed_start}
@@ -10,11 +11,12 @@ use Rattle.policy_model.specs.declared.event.Why.{Why}
 use Rattle.policy_model.specs.declared.event.Why.TheVariants as whys
 use Rattle.policy_model.specs.Asks.{is_lost, is_permit}
 use Rattle.policy_model.specs.Settings.{Settings}
+use Rattle.service_model.specs.Answers.{answers}
 use Rattle.service_model.specs.Acts.{AreActsOf, ending_operations, operation_of}
 use Rattle.service_model.specs.Service.{Service}
 use Rattle.service_model.specs.Places.{Step, step_places, worker_places}
 use Rattle.service_model.specs.Ends.{is_lost_end}
-use Rattle.service_model.specs.Parts.{EndsSession, HandsOver, IsAnswered, IsPart, Part, exported_by, final_acts, requests_of}
+use Rattle.service_model.specs.Parts.{EndsSession, HandsOver, IsPart, Part, exported_by, final_acts, requests_of}
 use Rattle.service_model.specs.Users.{user_role}
 
 -- a session: its opening, what each child had of it, and its end; no end where the opening is lost
@@ -77,7 +79,7 @@ pub record IsSitting (service : Service) (sitting : Sitting) : Type 0 where
 
 -- a session behind which its worker serves no more: it has no end, since the opening is lost, or it ended because a decision was lost
 abbrev pub ends_worker : Sitting → Bool
-ends_worker sitting = unwrap_or (option_map (λ ending. is_lost_end ending.place.event.ask) sitting.ending) true
+ends_worker sitting = option_map_or (λ ending. is_lost_end ending.place.event.ask) sitting.ending true
 
 -- behind such a session stands no other
 abbrev pub NoneBehindLoss : List Sitting → Type 0
@@ -94,4 +96,4 @@ pub record AreSittingsOf (service : Service) (journal : List Event) (worker : �
 -- each child of a session was sent the answer to each of its requests, whole: the user's with the state that the first one exported
 abbrev pub AreAnswered : Service → List ℕ → List Part → Type 0
 AreAnswered service exported [] = Unit {0}
-AreAnswered service exported (part ∷ parts) = IsAnswered service exported part × AreAnswered service (exported_by part.final) parts
+AreAnswered service exported (part ∷ parts) = (part.sent ≡ answers service exported (requests_of part)) × AreAnswered service (exported_by part.final) parts

@@ -1,7 +1,7 @@
 //! What is done and said by the whole service: the operations of an event, the answer to a message, and
 //! what one child, one session and one worker had. The definitions stand in `specs/`; a law about them
-//! is the contract of a function here that does nothing. Believe all of them; the session loop stands
-//! above.
+//! is the contract of a function here that does nothing. Believe all of them but for `Cases.antt`; the
+//! session loop stands above.
 #![tactic(auto)]
 
 ghost use Rattle.std.specs.Prelude.{◌≡◌, ◌≤◌, ◌*◌, [], count_by, length, List, ℕ};

@@ -24,18 +24,20 @@ use Rattle.policy_model.specs.declared.event.Ask.TheVariants as asks
 use Rattle.policy_model.specs.declared.event.Decision.{Decision}
 use Rattle.policy_model.specs.declared.event.Decision.TheVariants as decisions
 use Rattle.policy_model.specs.declared.event.Event.{Event}
-use Rattle.policy_model.specs.Asks.{came_by_frame, exports, is_export, is_login_denial, is_permit, kind_of, shown_of}
+use Rattle.policy_model.specs.Asks.{came_by_frame, exports, is_login_denial, is_permit, kind_of, shown_of}
+use Rattle.policy_model.specs.Cases.{is_export}
 use Rattle.policy_model.specs.Journal.{Place, open_session_of}
 use Rattle.policy_model.specs.Settings.{Settings}
 use Rattle.policy_model.proofs.Runs.{next_session, no_begin}
 use Rattle.policy_model.proofs.Verdicts.{session_of-other}
-use Rattle.service_model.specs.Acts.{Operation, ReadsFile, Receives, bytes_read, failed_device, if_permitted, operation_of, operations_by, operations_of, write_operations, written_by, written_bytes}
-use Rattle.service_model.specs.Answers.{answer_value, challenge_text, imported_state, info_text, outcome_value, permitted_value, reply_bytes, reply_to}
+use Rattle.service_model.specs.Acts.{Operation, ReadsFile, Receives, bytes_read, failed_device, operation_of, operations_by, operations_of, write_operations, written_by, written_bytes}
+use Rattle.service_model.specs.Answers.{answer_value, challenge_text, info_text, permitted_value, reply_to}
 use Rattle.service_model.specs.Parts.{IsRequestStep}
-use Rattle.service_model.specs.Places.{Step, place_of, worker_places}
+use Rattle.service_model.specs.Places.{Step, worker_places}
 use Rattle.service_model.specs.Requests.{Asks, IsAskOf}
 use Rattle.service_model.specs.Service.{Service}
-use Rattle.service_model.specs.Users.{File, file_at, file_of, user_at}
+use Rattle.service_model.specs.Users.{File, file_at, user_at}
+use Rattle.service_model.specs.Cases.{file_of, if_permitted, imported_state, outcome_value, reply_bytes, place_of}
 use Rattle.service_model.proofs.Places.{worker_places-own}
 use Rattle.session_turns.specs.Joins.{Joins}
 use Rattle.session_asking.specs.declared.live.LoggedIn.{LoggedIn}

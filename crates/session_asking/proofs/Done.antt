@@ -16,7 +16,8 @@ use Rattle.session_laws.proofs.Numbers.{numbered_by_name, numbered_by_number}
 use Rattle.outside.specs.declared.act.Act.{Act}
 use Rattle.outside.specs.Scene.{Scene}
 use Rattle.service_model.specs.Acts.{Operation, operation_of}
-use Rattle.service_model.specs.Answers.{account_challenge_text, challenge_text, decoy_challenge_text}
+use Rattle.service_model.specs.Answers.{challenge_text, decoy_challenge_text}
+use Rattle.service_model.specs.Cases.{account_challenge_text}
 use Rattle.session_asking.specs.declared.work.Outcome.{Outcome}
 use Rattle.session_asking.specs.declared.work.Outcome.TheVariants as outcomes
 use Rattle.session_asking.specs.Work.{Does, Fits, told}

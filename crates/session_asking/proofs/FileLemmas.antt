@@ -3,11 +3,12 @@ use Rattle.std.proofs.Common.{◌≡◌, ℕ, Bool, true, false, ◌&&◌, cond,
 use Rattle.std.specs.Prelude.{◌==◌}
 use Rattle.std.specs.List.{find}
 use Rattle.std.proofs.lemmas.Bool.{and_parts}
-use Rattle.service_model.specs.Users.{name_of_opening}
+use Rattle.service_model.specs.Cases.{name_of_opening}
 use Rattle.policy_model.specs.declared.event.Ask.{Ask}
 use Rattle.policy_model.specs.declared.event.Ask.TheVariants as asks
 use Rattle.policy_model.specs.declared.event.Event.{Event}
-use Rattle.policy_model.specs.Asks.{closes_file, handle_of, is_close, is_open, is_permit, opens_file, label_named}
+use Rattle.policy_model.specs.Asks.{closes_file, is_close, is_permit, opens_file, label_named}
+use Rattle.policy_model.specs.Cases.{is_open, handle_of}
 use Rattle.policy_model.specs.Handles.{handle_opening, live_handles_of}
 use Rattle.session_laws.specs.Handled.{handles_after}
 use Rattle.session_laws.proofs.HandleSteps.{live_handles_of-own}

@@ -4,7 +4,7 @@ use Rattle.std.specs.Prelude.{is_some}
 use Rattle.std.specs.List.{find, list_all}
 use Rattle.std.proofs.lemmas.Bool.{and_parts, false≢true}
 use Rattle.std.proofs.lemmas.Bool.Decides.{nat_tests}
-use Rattle.service_model.specs.Users.{name_of_opening}
+use Rattle.service_model.specs.Cases.{name_of_opening}
 use Rattle.request_catalogue.specs.declared.kind.Kind.TheVariants as kinds
 use Rattle.request_catalogue.specs.declared.texts.Name.{Name}
 use Rattle.policy_model.specs.declared.account.Account.{Account}
@@ -15,14 +15,15 @@ use Rattle.policy_model.specs.declared.event.Decision.TheVariants.{Permit, Deny,
 use Rattle.policy_model.specs.declared.event.Event.{Event}
 use Rattle.policy_model.specs.declared.phase.Phase.{Phase}
 use Rattle.policy_model.specs.declared.phase.Phase.TheVariants as phases
-use Rattle.policy_model.specs.Asks.{accepts, came_by_frame, closes_file, exports, handle_of, is_permit, kind_of, opens_file, value_of, label_named}
+use Rattle.policy_model.specs.Asks.{accepts, came_by_frame, closes_file, exports, is_permit, kind_of, opens_file, value_of, label_named}
 use Rattle.policy_model.specs.Handles.{handle_opening}
 use Rattle.policy_model.specs.Journal.{has_event}
 use Rattle.policy_model.specs.Legal.{IsNext}
 use Rattle.policy_model.specs.Logins.{account_of, current_sequence, verified_user}
 use Rattle.policy_model.specs.Phases.{phase_of, table_row}
 use Rattle.policy_model.specs.Settings.{IsInRange, Settings, are_accounts, is_account, is_number}
-use Rattle.policy_model.specs.Verdict.{account_named, info_verdict, kind_verdict, sequence_of}
+use Rattle.policy_model.specs.Verdict.{info_verdict, kind_verdict}
+use Rattle.policy_model.specs.Cases.{account_named, sequence_of, handle_of}
 use Rattle.session_laws.proofs.HandleLaws.{gives_least, opened_in_user}
 use Rattle.session_laws.proofs.Permits.{permit_from, request_permit, row_permit}
 use Rattle.session_laws.proofs.Permitted.{accepted_in_challenged, permitted_live}

@@ -27,13 +27,13 @@ use Rattle.policy_model.specs.declared.event.Decision.TheVariants as decisions
 use Rattle.policy_model.specs.declared.event.Event.{Event}
 use Rattle.policy_model.specs.declared.event.Why.TheVariants as whys
 use Rattle.policy_model.specs.declared.phase.Phase.TheVariants as phases
-use Rattle.policy_model.specs.Asks.{accepts, came_by_frame, closes_file, ends_session, exports, handle_of, is_export, is_lost, is_permit, is_proper, opens_file, shown_of, value_of, label_named}
+use Rattle.policy_model.specs.Asks.{accepts, came_by_frame, closes_file, ends_session, exports, is_lost, is_permit, is_proper, opens_file, shown_of, value_of, label_named}
+use Rattle.policy_model.specs.Cases.{is_export, account_named, number_named, handle_of}
 use Rattle.policy_model.specs.Handles.{handle_opening}
 use Rattle.policy_model.specs.Journal.{ask_count, has_event, open_session_of}
 use Rattle.policy_model.specs.Logins.{challenged_user, verified_user}
 use Rattle.policy_model.specs.Runs.{IsOfWorker, IsServing}
 use Rattle.policy_model.specs.Settings.{Settings}
-use Rattle.policy_model.specs.Verdict.{account_named, number_named}
 use Rattle.policy_model.proofs.Runs.{WentOn as KeptServing, goes_on, stays_open}
 use Rattle.session_laws.proofs.HandleLaws.{no_handles_before}
 use Rattle.session_laws.proofs.LoggedIn.{legal_verified}
@@ -44,11 +44,11 @@ use Rattle.session_laws.proofs.PhaseLemmas.{phase_tests}
 use Rattle.session_laws.proofs.SessionEvents.{has_event-own}
 use Rattle.session_laws.proofs.UserLemmas.{verified_user-own}
 use Rattle.child_keeper.specs.Tickets.{session_role}
-use Rattle.service_model.specs.Answers.{answer_value, reply_bytes, reply_to}
+use Rattle.service_model.specs.Answers.{answer_value, reply_to}
 use Rattle.service_model.specs.Parts.{why_of}
-use Rattle.service_model.specs.Places.{place_of}
 use Rattle.service_model.specs.Requests.{Asks}
-use Rattle.service_model.specs.Users.{File, name_of_opening, role_of}
+use Rattle.service_model.specs.Users.{File}
+use Rattle.service_model.specs.Cases.{name_of_opening, role_of, reply_bytes, place_of}
 use Rattle.session_turns.specs.Joins.{Joins, KeepsRights, OthersJoined, Rights}
 use Rattle.session_asking.specs.declared.asking.Turn.{Turn}
 use Rattle.session_asking.specs.declared.asking.Turn.TheVariants as turns

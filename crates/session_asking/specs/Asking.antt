@@ -12,7 +12,8 @@ use Rattle.outside.specs.declared.act.Act.TheVariants as acts
 use Rattle.policy_model.specs.declared.event.Ask.{Ask}
 use Rattle.policy_model.specs.declared.event.Ask.TheVariants as asks
 use Rattle.policy_model.specs.declared.event.Event.{Event}
-use Rattle.policy_model.specs.Asks.{ends_session, is_proper_why}
+use Rattle.policy_model.specs.Asks.{ends_session}
+use Rattle.policy_model.specs.Cases.{is_proper_why}
 use Rattle.service_model.specs.Parts.{why_of}
 use Rattle.session_asking.specs.declared.asking.Turn.{Turn}
 use Rattle.session_asking.specs.declared.asking.Turn.TheVariants as turns

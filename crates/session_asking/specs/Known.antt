@@ -1,16 +1,17 @@
 -- Inner: what is known of a session while its child is served.
 use Rattle.std.specs.Prelude.{◌≡◌, ℕ, ◌+◌, ◌≤◌, ◌<◌, ◌==◌, ◌&&◌, true, List, Option, Some, None, is_some, slice_get, if◌then◌else◌}
-use Rattle.service_model.specs.Users.{File, file_of, name_of_opening}
+use Rattle.service_model.specs.Users.{File}
+use Rattle.service_model.specs.Cases.{file_of, name_of_opening}
 use Rattle.request_catalogue.specs.declared.texts.Label.{Label}
 use Rattle.policy_model.specs.declared.account.Account.{Account}
 use Rattle.policy_model.specs.declared.event.Event.{Event}
-use Rattle.policy_model.specs.Asks.{closes_file, exports, handle_of, opens_file, label_named}
+use Rattle.policy_model.specs.Asks.{closes_file, exports, opens_file, label_named}
 use Rattle.policy_model.specs.Handles.{handle_opening}
 use Rattle.policy_model.specs.Journal.{ask_count, has_event, open_session_of}
 use Rattle.policy_model.specs.Logins.{verified_user}
 use Rattle.policy_model.specs.Runs.{IsRun, IsServing}
 use Rattle.policy_model.specs.Settings.{Settings}
-use Rattle.policy_model.specs.Verdict.{account_named}
+use Rattle.policy_model.specs.Cases.{account_named, handle_of}
 use Rattle.session_turns.specs.Joins.{Rights}
 use Rattle.session_asking.specs.declared.live.LoggedIn.{LoggedIn}
 use Rattle.session_asking.specs.declared.live.UserFile.{UserFile}

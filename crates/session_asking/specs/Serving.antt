@@ -5,15 +5,17 @@ use Rattle.outside.specs.Link.{Exchanged, Link}
 use Rattle.outside.specs.Scene.{Played, Scene}
 use Rattle.outside.specs.Told.{Goes}
 use Rattle.policy_model.specs.declared.event.Event.{Event}
-use Rattle.policy_model.specs.Asks.{exports, is_proper_why, value_of}
+use Rattle.policy_model.specs.Asks.{exports, value_of}
+use Rattle.policy_model.specs.Cases.{is_proper_why}
 use Rattle.policy_model.specs.Journal.{ask_count}
 use Rattle.policy_model.specs.Settings.{Settings}
 use Rattle.service_model.specs.Answers.{answer_to}
-use Rattle.service_model.specs.Parts.{EndsSession, EndsSo, GoesOn, IsRequestStep, LastSent, by_link}
-use Rattle.service_model.specs.Places.{Step, place_of, step_places, worker_places}
+use Rattle.service_model.specs.Parts.{EndsSession, EndsSo, GoesOn, IsRequestStep, LastSent}
+use Rattle.service_model.specs.Places.{Step, step_places, worker_places}
 use Rattle.service_model.specs.Requests.{CameBy}
 use Rattle.service_model.specs.Service.{Service}
-use Rattle.service_model.specs.Users.{role_of, user_at}
+use Rattle.service_model.specs.Users.{user_at}
+use Rattle.service_model.specs.Cases.{role_of, by_link, place_of}
 use Rattle.session_turns.specs.Joins.{Rights}
 use Rattle.session_asking.specs.declared.asking.Turn.{Turn}
 use Rattle.session_asking.specs.declared.asking.Turn.TheVariants as turns

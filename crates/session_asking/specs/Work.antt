@@ -11,8 +11,9 @@ use Rattle.policy_model.specs.declared.event.Ask.{Ask}
 use Rattle.policy_model.specs.declared.event.Ask.TheVariants as asks
 use Rattle.policy_model.specs.declared.event.Decision.{Decision}
 use Rattle.policy_model.specs.declared.event.Decision.TheVariants as decisions
-use Rattle.service_model.specs.Acts.{Operation, ReadsFile, Receives, Sends, WritesFile, bytes_read, failed_device, if_permitted, operation_of, read_operations, write_operations}
-use Rattle.service_model.specs.Answers.{challenge_text, imported_state, info_text, outcome_value}
+use Rattle.service_model.specs.Acts.{Operation, ReadsFile, Receives, Sends, WritesFile, bytes_read, failed_device, operation_of, read_operations, write_operations}
+use Rattle.service_model.specs.Cases.{if_permitted, imported_state, outcome_value}
+use Rattle.service_model.specs.Answers.{challenge_text, info_text}
 use Rattle.service_model.specs.Service.{Service}
 use Rattle.service_model.specs.Users.{File}
 use Rattle.session_asking.specs.declared.work.Outcome.{Outcome}

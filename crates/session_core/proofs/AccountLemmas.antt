@@ -10,7 +10,7 @@ use Rattle.policy_model.specs.declared.account.Account.{Account}
 use Rattle.policy_model.specs.declared.event.Event.{Event}
 use Rattle.policy_model.specs.Logins.{challenged_user, was_decoyed}
 use Rattle.policy_model.specs.Settings.{Settings, account_number}
-use Rattle.policy_model.specs.Verdict.{is_holder}
+use Rattle.policy_model.specs.Cases.{is_holder}
 use Rattle.session_core.specs.Deciding.{account_at}
 use Rattle.session_laws.specs.Numbered.{HoldsOnly, IsNumbered}
 use Rattle.session_laws.proofs.Numbers.{numbered_by_number}

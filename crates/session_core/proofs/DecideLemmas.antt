@@ -23,7 +23,7 @@ use Rattle.policy_model.specs.Journal.{count_of, open_session_of, openings_of}
 use Rattle.policy_model.specs.Logins.{account_of, challenged_user, verified_user, was_decoyed}
 use Rattle.policy_model.specs.Phases.{table_row}
 use Rattle.policy_model.specs.Settings.{Settings}
-use Rattle.policy_model.specs.Verdict.{account_named, account_verdict, challenge_verdict, decoy_verdict, info_verdict, kind_verdict, login_verdict, open_verdict, readings, reply_verdict, request_verdict, sequence_of, user_verdict, verdict_of}
+use Rattle.policy_model.specs.Verdict.{account_verdict, challenge_verdict, decoy_verdict, info_verdict, kind_verdict, open_verdict, readings, reply_verdict, request_verdict, user_verdict, verdict_of}
 use Rattle.policy_model.proofs.Verdicts.{denied_begin, denied_end, verdict_of-begin, verdict_of-end, verdict_of-request}
 use Rattle.session_core.specs.Deciding.{account_at, challenge_by, core_decision, info_by, kind_by, open_by, open_for_account, reply_by, reply_for_account, sequence_at, worker_decision}
 use Rattle.session_core.specs.Parts.{CoreParts, row_of}
@@ -37,7 +37,7 @@ use Rattle.session_table.specs.Marks.{has_mark}
 use Rattle.session_table.specs.Standing.{RowStands, has_taken, is_logged_in}
 use Rattle.session_table.specs.Tables.{WorkerStands}
 use Rattle.session_table.proofs.VerdictLemmas.{close_decides, export_decides, open_decides, refusal_decides, use_decides}
-use Rattle.policy_model.specs.Verdict.{grants_of}
+use Rattle.policy_model.specs.Cases.{account_named, login_verdict, sequence_of, grants_of}
 
 -- 1. The rules of each kind
 

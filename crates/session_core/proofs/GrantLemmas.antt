@@ -15,14 +15,15 @@ use Rattle.policy_model.specs.declared.event.Ask.{Ask}
 use Rattle.policy_model.specs.declared.event.Ask.TheVariants as asks
 use Rattle.policy_model.specs.declared.event.Decision.TheVariants.{Permit}
 use Rattle.policy_model.specs.declared.event.Event.{Event}
-use Rattle.policy_model.specs.Asks.{came_by_frame, is_open, is_permit, opens_file, request_number, value_of, label_named}
+use Rattle.policy_model.specs.Asks.{came_by_frame, is_permit, opens_file, request_number, value_of, label_named}
+use Rattle.policy_model.specs.Cases.{is_open, account_named, grant_verdict, grants_of}
 use Rattle.policy_model.specs.Handles.{free_handle_of, live_handles_of}
 use Rattle.policy_model.specs.Journal.{ask_count}
 use Rattle.policy_model.specs.Legal.{IsNext}
 use Rattle.policy_model.specs.Logins.{verified_user}
 use Rattle.policy_model.specs.Phases.{is_over, phase_of, table_row}
 use Rattle.policy_model.specs.Settings.{IsInRange, Settings, are_distinct, are_grants, is_account, is_number, same_label}
-use Rattle.policy_model.specs.Verdict.{account_named, grant_verdict, grants_of, kind_verdict, open_verdict, request_verdict}
+use Rattle.policy_model.specs.Verdict.{kind_verdict, open_verdict, request_verdict}
 use Rattle.session_core.specs.Settling.{grant_in}
 use Rattle.session_core.proofs.AccountLemmas.{user_is}
 use Rattle.session_laws.proofs.HandleLaws.{opened_in_user}

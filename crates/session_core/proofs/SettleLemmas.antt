@@ -17,12 +17,12 @@ use Rattle.policy_model.specs.declared.event.Event.{Event}
 use Rattle.policy_model.specs.declared.phase.Phase.{Phase}
 use Rattle.policy_model.specs.declared.phase.Phase.TheVariants.{Challenged, Over}
 use Rattle.policy_model.specs.declared.reading.TheConstants.{DECOYS_FROM}
-use Rattle.policy_model.specs.Asks.{accepts, came_by_frame, challenge_name, ends_session, gives_up, is_login_step, is_permit, is_reply, leaves, moment_of, opens, reserves, takes, takes_user, value_of}
+use Rattle.policy_model.specs.Asks.{accepts, came_by_frame, challenge_name, ends_session, gives_up, is_login_step, is_permit, leaves, moment_of, opens, reserves, takes, takes_user, value_of}
+use Rattle.policy_model.specs.Cases.{is_reply, is_holder, taking_moment}
 use Rattle.policy_model.specs.Legal.{IsLegal, IsNext}
 use Rattle.policy_model.specs.Logins.{account_of, holder_of, last_taking_of, replies_of, session_taking, was_decoyed}
 use Rattle.policy_model.specs.Phases.{phase_of}
 use Rattle.policy_model.specs.Settings.{IsInRange, Settings}
-use Rattle.policy_model.specs.Verdict.{is_holder, taking_moment}
 use Rattle.session_core.specs.Settling.{is_challenged, ledger_accepting, ledger_by, ledger_leaving, ledger_taking, may_hold, number_for}
 use Rattle.session_core.specs.Standing.{IsSpendable}
 use Rattle.session_core.proofs.AccountLemmas.{IsUser, as_many, decoy_number_is, holds_at_most, user_is}

@@ -13,7 +13,8 @@ use Rattle.policy_model.specs.declared.event.Decision.{Decision}
 use Rattle.policy_model.specs.declared.event.Event.{Event}
 use Rattle.policy_model.specs.declared.phase.Phase.{Phase}
 use Rattle.policy_model.specs.declared.phase.Phase.TheVariants.{Challenged}
-use Rattle.policy_model.specs.Asks.{accepts, is_begin, is_end, is_lost, is_permit, is_reply, leaves, moment_of, opens, takes}
+use Rattle.policy_model.specs.Asks.{accepts, is_begin, is_end, is_lost, is_permit, leaves, moment_of, opens, takes}
+use Rattle.policy_model.specs.Cases.{is_reply}
 use Rattle.policy_model.specs.Journal.{open_session_of}
 use Rattle.policy_model.specs.Legal.{IsLegal, IsNext, next_event}
 use Rattle.policy_model.specs.Runs.{IsOfWorker}

@@ -4,7 +4,7 @@ ghost use Rattle.std.specs.Prelude.{◌≡◌, ◌≤◌, ◌-◌, ◌^◌, fals
 ghost use Rattle.policy_model.specs.Journal.{has_lost};
 ghost use Rattle.policy_model.specs.Legal.{IsLegal};
 ghost use Rattle.policy_laws.specs.Consequences.{HasConsequences};
-ghost use Rattle.policy_laws.specs.Strangers.{StrangersAreToldAlike};
+ghost use Rattle.policy_laws.specs.Strangers.{ShowsNoAccounts};
 ghost use Rattle.session_core.specs.Replayed.{IsStepOf, asked_of, stepped_of};
 
 use crate::whole::Core;
@@ -24,7 +24,7 @@ pub fn replay(alloc: Global, setup: &Setup, steps: &[Step]) -> Result<Vec<Event>
     ensures kept { IfOk result (λ events. has_lost events.items ≡ false) }
     ensures asks { IfOk result (λ events. map asked_of events.items ≡ map stepped_of steps.now) }
     ensures consequences { IfOk result (λ events. HasConsequences setup.now events.items) }
-    ensures alike { IfOk result (λ events. StrangersAreToldAlike setup.now events.items) }
+    ensures unseen { IfOk result (λ events. ShowsNoAccounts setup.now events.items) }
 {
     let mut core = Core::new(alloc, setup, steps.len() as u32)?;
     let mut events = Vec::with_capacity(alloc, steps.len())?;

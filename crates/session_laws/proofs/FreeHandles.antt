@@ -9,7 +9,7 @@ use Rattle.std.proofs.lemmas.List.{length-map}
 use Rattle.std.proofs.lemmas.Map.Made.{IsDistinct-from_count, length-le_from_is_member}
 use Rattle.policy_model.specs.declared.event.Event.{Event}
 use Rattle.policy_model.specs.declared.handles.TheConstants.{HANDLE_NUMBERS}
-use Rattle.policy_model.specs.Asks.{handle_of}
+use Rattle.policy_model.specs.Cases.{handle_of}
 use Rattle.policy_model.specs.Settings.{is_number}
 
 -- a live handle of this number

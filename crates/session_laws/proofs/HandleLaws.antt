@@ -12,14 +12,15 @@ use Rattle.policy_model.specs.declared.event.Ask.TheVariants as asks
 use Rattle.policy_model.specs.declared.event.Decision.TheVariants.{Permit, Deny}
 use Rattle.policy_model.specs.declared.event.Event.{Event}
 use Rattle.policy_model.specs.declared.phase.Phase.{Phase}
-use Rattle.policy_model.specs.Asks.{came_by_frame, closes_file, exports, handle_of, is_open, is_permit, kind_of, opens_file, value_of}
+use Rattle.policy_model.specs.Asks.{came_by_frame, closes_file, exports, is_permit, kind_of, opens_file, value_of}
+use Rattle.policy_model.specs.Cases.{is_open, account_named, grant_verdict, grants_of, handle_of}
 use Rattle.policy_model.specs.Handles.{free_handle_of, live_handles_of}
 use Rattle.policy_model.specs.Journal.{ask_count, has_event}
 use Rattle.policy_model.specs.Legal.{IsLegal, IsNext}
 use Rattle.policy_model.specs.Logins.{verified_user}
 use Rattle.policy_model.specs.Phases.{is_over, phase_of, table_row}
 use Rattle.policy_model.specs.Settings.{Settings, are_distinct, is_number, same_label}
-use Rattle.policy_model.specs.Verdict.{account_named, allows, grant_verdict, grants_of, kind_verdict, open_verdict, request_verdict}
+use Rattle.policy_model.specs.Verdict.{allows, kind_verdict, open_verdict, request_verdict}
 use Rattle.policy_model.specs.declared.phase.Phase.TheVariants.{Challenged, Over, Pre, User, Verified}
 use Rattle.session_laws.specs.Handled.{GivesLeast, HandlesDiffer, HandlesGoOn, handles_after}
 use Rattle.session_laws.proofs.ByEvents.{by_events}

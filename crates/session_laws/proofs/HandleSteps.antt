@@ -3,7 +3,8 @@ use Rattle.std.proofs.Common.{◌≡◌, ◌≢◌, ℕ, ◌<◌, Bool, true, fa
 use Rattle.std.specs.List.{list_any}
 use Rattle.std.proofs.lemmas.List.Folds.{list_any-append}
 use Rattle.policy_model.specs.declared.event.Event.{Event}
-use Rattle.policy_model.specs.Asks.{closes_file, handle_of, opens_file}
+use Rattle.policy_model.specs.Asks.{closes_file, opens_file}
+use Rattle.policy_model.specs.Cases.{handle_of}
 use Rattle.policy_model.specs.Handles.{live_handles_of, live_opens}
 use Rattle.policy_model.specs.Journal.{events_of}
 use Rattle.policy_model.specs.Runs.{AreNumbered}

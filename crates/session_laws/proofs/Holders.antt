@@ -10,14 +10,14 @@ use Rattle.policy_model.specs.declared.account.Account.{Account}
 use Rattle.policy_model.specs.declared.event.Event.{Event}
 use Rattle.policy_model.specs.declared.phase.Phase.TheVariants.{Pre, Challenged}
 use Rattle.policy_model.specs.declared.reading.TheConstants.{DECOYS_FROM}
-use Rattle.policy_model.specs.Asks.{challenge_name, ends_session, exports, gives_up, is_abandon, is_permit, is_reply, leaves, opens, reserves, takes, value_of}
+use Rattle.policy_model.specs.Asks.{challenge_name, ends_session, exports, gives_up, is_permit, leaves, opens, reserves, takes, value_of}
+use Rattle.policy_model.specs.Cases.{is_abandon, is_reply, holder_by, is_holder}
 use Rattle.policy_model.specs.Journal.{is_own, openings_of}
 use Rattle.policy_model.specs.Legal.{IsLegal, IsNext, session_of}
-use Rattle.policy_model.specs.Logins.{account_of, challenged_user, current_sequence, holder_by, holder_of, last_taking_of, replies_of, reply_for, session_taking, was_decoyed, was_given_up}
+use Rattle.policy_model.specs.Logins.{account_of, challenged_user, current_sequence, holder_of, last_taking_of, replies_of, reply_for, session_taking, was_decoyed, was_given_up}
 use Rattle.policy_model.specs.Phases.{is_over, phase_of}
 use Rattle.policy_model.specs.Runs.{AreNumbered}
 use Rattle.policy_model.specs.Settings.{Settings}
-use Rattle.policy_model.specs.Verdict.{is_holder}
 use Rattle.policy_model.proofs.LoginLemmas.{count_replies-push, last_taking_of-last, last_taking_of-none, last_taking_of-push, was_given_up-push}
 use Rattle.policy_model.proofs.Runs.{next_session}
 use Rattle.session_laws.specs.Phased.{phase_after}

@@ -21,7 +21,8 @@ use Rattle.policy_model.specs.Legal.{event_with, next_event, session_of}
 use Rattle.policy_model.specs.Logins.{account_of, challenged_user, current_sequence, verified_user, was_decoyed}
 use Rattle.policy_model.specs.Phases.{is_over, phase_of, table_row}
 use Rattle.policy_model.specs.Settings.{Settings, same_label}
-use Rattle.policy_model.specs.Verdict.{account_named, account_verdict, challenge_verdict, close_verdict, decoy_verdict, grant_verdict, grants_of, handle_verdict, info_verdict, kind_verdict, number_named, open_verdict, own_verdict, readings, reply_verdict, request_verdict, row_verdict, sequence_of, table_verdict, use_verdict, user_verdict, verdict_of}
+use Rattle.policy_model.specs.Verdict.{account_verdict, challenge_verdict, close_verdict, decoy_verdict, handle_verdict, info_verdict, kind_verdict, open_verdict, own_verdict, readings, reply_verdict, request_verdict, row_verdict, user_verdict, verdict_of}
+use Rattle.policy_model.specs.Cases.{account_named, grant_verdict, grants_of, number_named, sequence_of, table_verdict, use_verdict}
 use Rattle.policy_model.proofs.Verdicts.{verdict_of-request}
 use Rattle.session_laws.specs.Judged.{cell_decision, closing_decision, event_by, event_session, is_free_ask, is_over_phase, opening_decision, request_decision}
 use Rattle.session_laws.specs.Numbered.{IsNumbered}

@@ -10,7 +10,8 @@ use Rattle.policy_model.specs.declared.event.Event.{Event}
 use Rattle.policy_model.specs.declared.phase.Phase.{Phase}
 use Rattle.policy_model.specs.declared.phase.Phase.TheVariants.{Pre, Challenged, Verified, User, Over}
 use Rattle.policy_model.specs.declared.reading.TheConstants.{DECOYS_FROM}
-use Rattle.policy_model.specs.Asks.{accepts, challenge_name, ends_session, exports, is_challenge_for, is_login_step, is_permit, is_reply, opens, reserves, takes, value_of}
+use Rattle.policy_model.specs.Asks.{accepts, challenge_name, ends_session, exports, is_login_step, is_permit, opens, reserves, takes, value_of}
+use Rattle.policy_model.specs.Cases.{is_challenge_for, is_reply}
 use Rattle.policy_model.specs.Journal.{has_event, openings_of}
 use Rattle.policy_model.specs.Legal.{IsLegal, IsNext}
 use Rattle.policy_model.specs.Logins.{challenged_user, verified_user, was_decoyed}

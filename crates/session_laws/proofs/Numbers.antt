@@ -13,7 +13,7 @@ use Rattle.policy_model.specs.Legal.{IsLegal}
 use Rattle.policy_model.specs.Logins.{account_of, challenged_user, holder_of, was_decoyed}
 use Rattle.policy_model.specs.Phases.{phase_of}
 use Rattle.policy_model.specs.Settings.{IsInRange, Settings, account_number, are_distinct, is_account, same_name}
-use Rattle.policy_model.specs.Verdict.{is_holder}
+use Rattle.policy_model.specs.Cases.{is_holder}
 use Rattle.session_laws.specs.Numbered.{HoldsNone, HoldsOnly, IsNumbered}
 use Rattle.session_laws.specs.Tied.{IsTied}
 use Rattle.session_laws.proofs.Holders.{decoyed_holds_none, legal_tied, unchallenged_holds_none}

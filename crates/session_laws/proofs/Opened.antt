@@ -10,7 +10,8 @@ use Rattle.policy_model.specs.declared.event.Decision.{Decision}
 use Rattle.policy_model.specs.declared.event.Decision.TheVariants.{Permit, Deny, Lost}
 use Rattle.policy_model.specs.declared.event.Event.{Event}
 use Rattle.policy_model.specs.declared.reading.TheConstants.{DECOYS_FROM}
-use Rattle.policy_model.specs.Asks.{accepts, came_by_frame, challenge_name, ends_session, exports, is_denied_reply, is_login_step, is_permit, kind_of, number_of_kind, opens, opens_file, permits_kind, request_number, takes, value_of}
+use Rattle.policy_model.specs.Asks.{accepts, came_by_frame, challenge_name, ends_session, exports, is_denied_reply, is_login_step, is_permit, kind_of, opens, opens_file, permits_kind, request_number, takes, value_of}
+use Rattle.policy_model.specs.Cases.{number_of_kind}
 use Rattle.policy_model.specs.Journal.{last_event, openings_of}
 use Rattle.policy_model.specs.Legal.{IsLegal, IsNext}
 use Rattle.policy_model.specs.Logins.{challenged_user, was_decoyed}

@@ -17,14 +17,15 @@ use Rattle.policy_model.specs.declared.event.Decision.TheVariants.{Permit, Deny,
 use Rattle.policy_model.specs.declared.event.Event.{Event}
 use Rattle.policy_model.specs.declared.phase.Row.{Row}
 use Rattle.policy_model.specs.declared.reading.TheConstants.{DECOYS_FROM}
-use Rattle.policy_model.specs.Asks.{accepts, exports, is_challenge_for, is_denied_reply, is_export, is_lost, is_permit, is_reply, came_by_frame, permits_kind, request_number, reserves, takes_user, value_of}
+use Rattle.policy_model.specs.Asks.{accepts, exports, is_denied_reply, is_lost, is_permit, came_by_frame, permits_kind, request_number, reserves, takes_user, value_of, is_user}
+use Rattle.policy_model.specs.Cases.{is_challenge_for, is_export, is_reply, is_holder, login_verdict, matching_verdict, number_named, readings_verdict}
 use Rattle.policy_model.specs.Decoys.{decoy_number}
 use Rattle.policy_model.specs.Journal.{ask_count, count_of, has_event, open_session_of}
 use Rattle.policy_model.specs.Legal.{IsNext}
-use Rattle.policy_model.specs.Logins.{account_of, challenged_user, current_sequence, holder_of, is_live, is_user, last_taking_of, reply_for, session_taking, verified_user, was_accepted, was_decoyed}
+use Rattle.policy_model.specs.Logins.{account_of, challenged_user, current_sequence, holder_of, is_live, last_taking_of, reply_for, session_taking, verified_user, was_accepted, was_decoyed}
 use Rattle.policy_model.specs.Phases.{is_over, phase_of, table_row}
 use Rattle.policy_model.specs.Settings.{Settings, same_name}
-use Rattle.policy_model.specs.Verdict.{account_verdict, challenge_verdict, decoy_challenge, decoy_verdict, is_holder, is_held, is_next_password, kind_verdict, login_verdict, matching_verdict, number_named, readings, readings_verdict, reply_verdict, request_verdict, row_verdict}
+use Rattle.policy_model.specs.Verdict.{account_verdict, challenge_verdict, decoy_challenge, decoy_verdict, is_held, is_next_password, kind_verdict, readings, reply_verdict, request_verdict, row_verdict}
 use Rattle.policy_model.proofs.Runs.{next_decision, next_session, no_begin}
 use Rattle.policy_model.proofs.Verdicts.{session_of-other, verdict_of-request}
 

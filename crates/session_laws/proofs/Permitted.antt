@@ -13,13 +13,14 @@ use Rattle.policy_model.specs.declared.event.Event.{Event}
 use Rattle.policy_model.specs.declared.phase.Phase.{Phase}
 use Rattle.policy_model.specs.declared.phase.Phase.TheVariants.{Pre, Challenged, Verified, User, Over}
 use Rattle.policy_model.specs.declared.reading.TheConstants.{DECOYS_FROM}
-use Rattle.policy_model.specs.Asks.{accepts, challenge_name, came_by_frame, ends_session, exports, gives_up, is_challenge_for, is_export, is_login_step, is_permit, is_reply, kind_of, opens, request_number, reserves, takes, takes_user, value_of}
+use Rattle.policy_model.specs.Asks.{accepts, challenge_name, came_by_frame, ends_session, exports, gives_up, is_login_step, is_permit, kind_of, opens, request_number, reserves, takes, takes_user, value_of}
+use Rattle.policy_model.specs.Cases.{is_challenge_for, is_export, is_reply, table_verdict}
 use Rattle.policy_model.specs.Journal.{ask_count}
 use Rattle.policy_model.specs.Legal.{IsNext}
 use Rattle.policy_model.specs.Phases.{is_over, phase_of, table_row}
 use Rattle.policy_model.specs.Settings.{Settings}
 use Rattle.policy_model.specs.Logins.{was_decoyed}
-use Rattle.policy_model.specs.Verdict.{decoy_verdict, kind_verdict, own_verdict, readings, reply_verdict, request_verdict, table_verdict}
+use Rattle.policy_model.specs.Verdict.{decoy_verdict, kind_verdict, own_verdict, readings, reply_verdict, request_verdict}
 use Rattle.session_laws.proofs.Permits.{permit_from, request_permit, row_permit, same_from_same_name}
 
 -- 1. What every permitted request tells

@@ -5,7 +5,8 @@ use Rattle.policy_model.specs.declared.phase.Phase.{Phase}
 use Rattle.policy_model.specs.declared.phase.Phase.TheVariants.{Pre, Challenged, Verified, User, Over}
 use Rattle.policy_model.specs.Asks.{accepts, ends_session, exports, is_login_step, opens, takes}
 use Rattle.policy_model.specs.Journal.{has_event, last_event}
-use Rattle.policy_model.specs.Phases.{is_over, is_taking, phase_of}
+use Rattle.policy_model.specs.Phases.{is_over, phase_of}
+use Rattle.policy_model.specs.Cases.{is_taking}
 use Rattle.session_laws.specs.Judged.{is_over_phase}
 use Rattle.session_laws.specs.Phased.{IsPhasedBy, phase_after}
 use Rattle.session_laws.proofs.SessionEvents.{has_event-other, has_event-own, is_over-other, is_over-own, last_event-other, last_event-own}

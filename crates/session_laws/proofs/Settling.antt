@@ -10,11 +10,11 @@ use Rattle.request_catalogue.specs.declared.texts.Name.{Name}
 use Rattle.policy_model.specs.declared.account.Account.{Account}
 use Rattle.policy_model.specs.declared.event.Event.{Event}
 use Rattle.policy_model.specs.declared.reading.TheConstants.{DECOYS_FROM}
-use Rattle.policy_model.specs.Asks.{accepts, leaves, reserves, takes, takes_user, value_of}
+use Rattle.policy_model.specs.Asks.{accepts, leaves, reserves, takes, takes_user, value_of, is_user}
 use Rattle.policy_model.specs.Legal.{IsLegal, IsNext}
-use Rattle.policy_model.specs.Logins.{account_of, challenged_user, current_sequence, holder_of, is_live, is_user, last_taking_of, replies_of, reply_for}
+use Rattle.policy_model.specs.Logins.{account_of, challenged_user, current_sequence, holder_of, is_live, last_taking_of, replies_of, reply_for}
 use Rattle.policy_model.specs.Settings.{IsInRange, Settings, are_distinct, are_grants, is_account, is_number, same_name}
-use Rattle.policy_model.specs.Verdict.{is_holder}
+use Rattle.policy_model.specs.Cases.{is_holder}
 use Rattle.policy_model.proofs.LoginLemmas.{last_taking_of-push, replies_of-push}
 use Rattle.policy_model.proofs.Runs.{next_session}
 use Rattle.session_laws.specs.Tied.{AcceptsNext, IsTied, LeavesUser, ReservesLive, holder_after}

@@ -5,7 +5,8 @@ use Rattle.policy_model.specs.declared.event.Event.{Event}
 use Rattle.policy_model.specs.declared.reading.TheConstants.{DECOYS_FROM}
 use Rattle.policy_model.specs.Asks.{accepts, challenge_name, takes, value_of}
 use Rattle.policy_model.specs.Journal.{is_own, last_event}
-use Rattle.policy_model.specs.Logins.{challenged_user, is_decoy, user_named, verified_user, was_decoyed}
+use Rattle.policy_model.specs.Logins.{challenged_user, verified_user, was_decoyed}
+use Rattle.policy_model.specs.Cases.{is_decoy, user_named}
 use Rattle.policy_model.specs.Runs.{AreNumbered}
 use Rattle.policy_model.proofs.LoginLemmas.{challenged_user-push, verified_user-push}
 use Rattle.session_laws.proofs.SessionEvents.{last_event-new, last_event-push, other_is, own_is}

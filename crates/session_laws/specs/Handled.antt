@@ -2,7 +2,8 @@
 use Rattle.std.specs.Prelude.{ℕ, ◌≡◌, ◌≢◌, ◌≤◌, ◌<◌, ◌==◌, true, not, List, [], ◌∷◌, ◌++◌, filter, length, map, None, if◌then◌else◌}
 use Rattle.std.specs.List.{list_all}
 use Rattle.policy_model.specs.declared.event.Event.{Event}
-use Rattle.policy_model.specs.Asks.{closes_file, handle_of, opens_file}
+use Rattle.policy_model.specs.Asks.{closes_file, opens_file}
+use Rattle.policy_model.specs.Cases.{handle_of}
 use Rattle.policy_model.specs.Handles.{free_handle_of, handle_opening, live_handles_of}
 use Rattle.policy_model.specs.Settings.{are_distinct, is_number}
 

@@ -11,7 +11,7 @@ use Rattle.policy_model.specs.Legal.{IsLegal, IsNext}
 use Rattle.policy_model.specs.Logins.{account_of, challenged_user, holder_of, is_live, was_decoyed}
 use Rattle.policy_model.specs.Phases.{phase_of}
 use Rattle.policy_model.specs.Settings.{IsInRange, Settings, account_number}
-use Rattle.policy_model.specs.Verdict.{is_holder}
+use Rattle.policy_model.specs.Cases.{is_holder}
 use Rattle.session_laws.specs.Counted.{CountsForItsOwn, LeavesOthers}
 use Rattle.session_laws.specs.Handled.{GivesLeast, HandlesDiffer}
 use Rattle.session_laws.specs.LoggedIn.{IsChallenged, IsLoggedIn}

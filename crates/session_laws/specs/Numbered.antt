@@ -5,7 +5,7 @@ use Rattle.policy_model.specs.declared.account.Account.{Account}
 use Rattle.policy_model.specs.declared.event.Event.{Event}
 use Rattle.policy_model.specs.Logins.{account_of, holder_of}
 use Rattle.policy_model.specs.Settings.{Settings, account_number}
-use Rattle.policy_model.specs.Verdict.{is_holder}
+use Rattle.policy_model.specs.Cases.{is_holder}
 
 -- an account of a name stands at a number
 pub record IsNumbered (setup : Settings) (user : Name) (number : ℕ) (account : Account) : Type 0 where

@@ -22,16 +22,18 @@ use Rattle.policy_model.specs.declared.event.Decision.TheVariants as decisions
 use Rattle.policy_model.specs.declared.event.Event.{Event}
 use Rattle.policy_model.specs.declared.event.Why.{Why}
 use Rattle.policy_model.specs.declared.event.Why.TheVariants as whys
-use Rattle.policy_model.specs.Asks.{came_by_frame, exports, is_export, is_permit, shown_of}
+use Rattle.policy_model.specs.Asks.{came_by_frame, exports, is_permit, shown_of}
+use Rattle.policy_model.specs.Cases.{is_export}
 use Rattle.policy_model.specs.Journal.{Place}
 use Rattle.policy_model.specs.Settings.{Settings}
 use Rattle.request_catalogue.specs.declared.width.Width.{Width}
 use Rattle.child_keeper.specs.Starts.{ChangesChild}
 use Rattle.child_keeper.specs.Tickets as tickets
 use Rattle.service_model.specs.Acts.{Finishes, Starts, operations_by, operations_of}
-use Rattle.service_model.specs.Answers.{answer_value, answers, reply_bytes, reply_to}
-use Rattle.service_model.specs.Parts.{EndsSession, HandsOver, IsPart, IsRequestStep, Part, exported_by, final_acts, message_bytes, requests_of, step_bytes}
-use Rattle.service_model.specs.Places.{Step, place_of, step_acts, step_places, worker_places}
+use Rattle.service_model.specs.Answers.{answer_value, answers, reply_to}
+use Rattle.service_model.specs.Cases.{reply_bytes, message_bytes, place_of}
+use Rattle.service_model.specs.Parts.{EndsSession, HandsOver, IsPart, IsRequestStep, Part, exported_by, final_acts, requests_of, step_bytes}
+use Rattle.service_model.specs.Places.{Step, step_acts, step_places, worker_places}
 use Rattle.service_model.specs.Requests.{CameBy}
 use Rattle.service_model.specs.Service.{Service}
 use Rattle.service_model.specs.Sittings.{EndsFirst, IsEnding}

@@ -27,8 +27,9 @@ use Rattle.policy_model.proofs.Verdicts.{session_of-other}
 use Rattle.request_catalogue.specs.declared.width.Width.{Width}
 use Rattle.service_model.specs.Acts.{Finishes, HangsUp, ending_operations}
 use Rattle.service_model.specs.Answers.{answers}
-use Rattle.service_model.specs.Parts.{EndsSession, EndsSo, Part, by_link, step_bytes, why_of}
-use Rattle.service_model.specs.Places.{Step, place_of, step_acts, worker_places}
+use Rattle.service_model.specs.Parts.{EndsSession, EndsSo, Part, step_bytes, why_of}
+use Rattle.service_model.specs.Cases.{by_link, place_of}
+use Rattle.service_model.specs.Places.{Step, step_acts, worker_places}
 use Rattle.service_model.specs.Stories.{talk_of}
 use Rattle.service_model.proofs.Places.{worker_places-own}
 use Rattle.service_model.proofs.Steps.{acts-append}

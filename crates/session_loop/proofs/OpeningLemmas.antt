@@ -17,7 +17,8 @@ use Rattle.policy_model.specs.declared.event.Decision.TheVariants as decisions
 use Rattle.policy_model.specs.declared.event.Event.{Event}
 use Rattle.policy_model.specs.declared.event.Why.{Why}
 use Rattle.policy_model.specs.declared.event.Why.TheVariants as whys
-use Rattle.policy_model.specs.Asks.{exports, handle_of, is_lost, is_permit}
+use Rattle.policy_model.specs.Asks.{exports, is_lost, is_permit}
+use Rattle.policy_model.specs.Cases.{handle_of}
 use Rattle.policy_model.specs.Journal.{ask_count, has_event, openings_of}
 use Rattle.policy_model.specs.Runs.{IsIdle, IsRun, IsServing}
 use Rattle.policy_model.specs.Settings.{Settings}
@@ -28,11 +29,11 @@ use Rattle.session_laws.proofs.HandleLaws.{no_handles_before}
 use Rattle.session_laws.proofs.SessionEvents.{has_event-new, has_event-own}
 use Rattle.service_model.specs.Acts.{Accepts, opening_operations, operation_of, operations_by, operations_of}
 use Rattle.service_model.specs.Parts.{Part, requests_of}
-use Rattle.service_model.specs.Places.{Step, place_of, step_acts, worker_places}
+use Rattle.service_model.specs.Places.{Step, step_acts, worker_places}
 use Rattle.service_model.specs.Service.{Service}
 use Rattle.service_model.specs.Sittings.{IsOpening, Sitting}
 use Rattle.service_model.specs.Stories.{IsPlanned, talk_of}
-use Rattle.service_model.specs.Users.{name_of_opening}
+use Rattle.service_model.specs.Cases.{name_of_opening, place_of}
 use Rattle.service_model.proofs.Places.{worker_places-own}
 use Rattle.session_asking.specs.Known.{Knows}
 use Rattle.session_asking.specs.Serving.{Steps}

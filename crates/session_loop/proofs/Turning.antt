@@ -15,7 +15,8 @@ use Rattle.policy_model.specs.declared.event.Why.TheVariants as whys
 use Rattle.request_catalogue.specs.declared.width.Width.{Width}
 use Rattle.request_catalogue.specs.Widths.{frame_max}
 use Rattle.service_model.specs.Answers.{answer_to, answers}
-use Rattle.service_model.specs.Parts.{EndsSession, GoesOn, IsRequestStep, LastSent, message_bytes, step_bytes}
+use Rattle.service_model.specs.Parts.{EndsSession, GoesOn, IsRequestStep, LastSent, step_bytes}
+use Rattle.service_model.specs.Cases.{message_bytes}
 use Rattle.service_model.specs.Places.{Step, step_acts, step_places, worker_places}
 use Rattle.service_model.specs.Service.{Service}
 use Rattle.service_model.proofs.Lists.{All-append}

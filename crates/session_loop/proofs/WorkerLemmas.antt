@@ -1,6 +1,6 @@
 -- A worker's story, with one more session and with its last accept.
 use Rattle.std.proofs.Common.{◌≡◌, ℕ, ◌+◌, ◌*◌, ◌<◌, ◌≤◌, Bool, true, false, cond, List, [], ◌∷◌, ◌++◌, length, map, Option, Some, None, refl, sym, ap, subst, ◌∙◌, append-nil, zero-add, arith}
-use Rattle.std.specs.Prelude.{option_map, unwrap_or}
+use Rattle.std.specs.Option.{option_map_or}
 use Rattle.std.specs.List.{AllByRecursion, flat_map}
 use Rattle.std.proofs.lemmas.List.{map-append}
 use Rattle.std.proofs.lemmas.List.Concat.{flat_map-append}
@@ -190,7 +190,7 @@ not_lost whys.LinkFault other = refl
 
 pub goes_on_behind : (s : Sitting) (why : Why) → EndsFor why s.ending → (why ≡ whys.LogLost → ⊥) → GoesOnBehind s
 goes_on_behind s why ended other = go s.ending ended where
-  go : (ending : Option Step) → EndsFor why ending → unwrap_or (option_map (λ e. is_lost_end e.place.event.ask) ending) true ≡ false
+  go : (ending : Option Step) → EndsFor why ending → option_map_or (λ e. is_lost_end e.place.event.ask) ending true ≡ false
   go None ended = absurd (other ended)
   go (Some step) ended = ap is_lost_end ended ∙ not_lost why other
 

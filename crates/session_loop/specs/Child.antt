@@ -15,11 +15,12 @@ use Rattle.request_catalogue.specs.declared.width.Width.{Width}
 use Rattle.request_catalogue.specs.Widths.{frame_max}
 use Rattle.child_keeper.specs.Tickets.{NamesAccount, user_role}
 use Rattle.service_model.specs.Answers.{answers}
-use Rattle.service_model.specs.Parts.{EndsSession, EndsSo, GoesOn, IsRequestStep, LastSent, by_link, step_bytes}
-use Rattle.service_model.specs.Places.{Step, place_of, step_acts}
+use Rattle.service_model.specs.Parts.{EndsSession, EndsSo, GoesOn, IsRequestStep, LastSent, step_bytes}
+use Rattle.service_model.specs.Places.{Step, step_acts}
 use Rattle.service_model.specs.Requests.{CameBy}
 use Rattle.service_model.specs.Service.{Service}
-use Rattle.service_model.specs.Users.{role_of, user_at}
+use Rattle.service_model.specs.Users.{user_at}
+use Rattle.service_model.specs.Cases.{role_of, by_link, place_of}
 use Rattle.session_asking.specs.declared.asking.Turn.{Turn}
 use Rattle.session_asking.specs.declared.asking.Turn.TheVariants as turns
 use Rattle.session_asking.specs.declared.live.LoggedIn.{LoggedIn}

@@ -4,7 +4,7 @@ ghost use Rattle.std.specs.Prelude.{◌≡◌, true};
 ghost use Rattle.child_keeper.specs.Links.{pre_child, user_child};
 ghost use Rattle.outside.specs.Faults.{CountNothing, FinishCounts, NoneFell};
 ghost use Rattle.outside.specs.Scene.{Did};
-ghost use Rattle.policy_model.specs.Asks.{is_proper_why};
+ghost use Rattle.policy_model.specs.Cases.{is_proper_why};
 ghost use Rattle.session_turns.specs.Joins.{KeepsRights};
 ghost use Rattle.session_loop.specs.Sessions.{CanEnd, ClosesWith, EndsOpen, IsOver};
 

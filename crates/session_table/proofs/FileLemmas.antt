@@ -8,7 +8,8 @@ use Rattle.policy_model.specs.declared.account.Grant.{Grant}
 use Rattle.policy_model.specs.declared.event.Decision.TheVariants.{Permit, Deny}
 use Rattle.policy_model.specs.declared.handles.TheConstants.{HANDLE_NUMBERS}
 use Rattle.policy_model.specs.Settings.{are_distinct, same_label}
-use Rattle.policy_model.specs.Verdict.{allows, grant_verdict}
+use Rattle.policy_model.specs.Verdict.{allows}
+use Rattle.policy_model.specs.Cases.{grant_verdict}
 use Rattle.session_table.specs.declared.handles.LiveHandle.{LiveHandle}
 use Rattle.session_table.specs.Files.{AreHandles, AreUpTo, IsNewHandle, file_at, free_of, is_free, open_decision, without}
 

@@ -13,7 +13,8 @@ use Rattle.policy_model.specs.declared.event.Decision.TheVariants.{Permit}
 use Rattle.policy_model.specs.declared.event.Event.{Event}
 use Rattle.policy_model.specs.declared.phase.Phase.{Phase}
 use Rattle.policy_model.specs.declared.phase.Phase.TheVariants.{Pre, Challenged, Verified, User, Over}
-use Rattle.policy_model.specs.Asks.{came_by_frame, handle_of, is_denied_reply, is_lost, is_open, is_permit, kind_of, opens, opens_file, value_of}
+use Rattle.policy_model.specs.Asks.{came_by_frame, is_denied_reply, is_lost, is_permit, kind_of, opens, opens_file, value_of}
+use Rattle.policy_model.specs.Cases.{is_open, handle_of}
 use Rattle.policy_model.specs.Handles.{live_handles_of}
 use Rattle.policy_model.specs.Journal.{ask_count, count_of, events_of, is_own, open_session_of}
 use Rattle.policy_model.specs.Legal.{IsNext}

@@ -17,7 +17,8 @@ use Rattle.policy_model.specs.declared.event.Event.{Event}
 use Rattle.policy_model.specs.declared.phase.Phase.{Phase}
 use Rattle.policy_model.specs.declared.phase.Phase.TheVariants.{Pre, Challenged, Verified, User, Over}
 use Rattle.policy_model.specs.declared.reading.TheConstants.{DECOYS_FROM}
-use Rattle.policy_model.specs.Asks.{accepts, came_by_frame, challenge_name, closes_file, ends_session, exports, handle_of, is_close, is_denied_reply, is_login_step, is_open, is_permit, is_reply, kind_of, mode_of, opens, opens_file, permits_kind, takes, value_of, label_named}
+use Rattle.policy_model.specs.Asks.{accepts, came_by_frame, challenge_name, closes_file, ends_session, exports, is_close, is_denied_reply, is_login_step, is_permit, kind_of, mode_of, opens, opens_file, permits_kind, takes, value_of, label_named}
+use Rattle.policy_model.specs.Cases.{is_open, is_reply, handle_of}
 use Rattle.policy_model.specs.Handles.{live_handles_of}
 use Rattle.policy_model.specs.Journal.{openings_of}
 use Rattle.policy_model.specs.Logins.{challenged_user, verified_user, was_decoyed}

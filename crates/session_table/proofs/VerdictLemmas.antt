@@ -16,13 +16,14 @@ use Rattle.policy_model.specs.declared.event.Event.{Event}
 use Rattle.policy_model.specs.declared.handles.TheConstants.{HANDLE_NUMBERS}
 use Rattle.policy_model.specs.declared.phase.Phase.{Phase}
 use Rattle.policy_model.specs.declared.phase.Phase.TheVariants.{Pre, Challenged, Verified, User, Over}
-use Rattle.policy_model.specs.Asks.{accepts, came_by_frame, exports, handle_of, is_login_step, request_number}
+use Rattle.policy_model.specs.Asks.{accepts, came_by_frame, exports, is_login_step, request_number}
 use Rattle.policy_model.specs.Handles.{free_handle_of, handle_opening, live_handles_of}
 use Rattle.policy_model.specs.Journal.{ask_count, has_event, last_event}
 use Rattle.policy_model.specs.Logins.{challenged_user, verified_user}
-use Rattle.policy_model.specs.Phases.{is_over, is_taking, phase_of, table_row}
+use Rattle.policy_model.specs.Phases.{is_over, phase_of, table_row}
+use Rattle.policy_model.specs.Cases.{is_taking, account_named, grant_verdict, grants_of, number_named, use_verdict, handle_of}
 use Rattle.policy_model.specs.Settings.{Settings, account_number, same_label}
-use Rattle.policy_model.specs.Verdict.{account_named, close_verdict, grant_verdict, grants_of, handle_verdict, kind_verdict, number_named, open_verdict, own_verdict, request_verdict, row_verdict, use_verdict}
+use Rattle.policy_model.specs.Verdict.{close_verdict, handle_verdict, kind_verdict, open_verdict, own_verdict, request_verdict, row_verdict}
 use Rattle.session_laws.specs.Judged.{is_over_phase}
 use Rattle.session_laws.proofs.Numbers.{numbered_by_number}
 use Rattle.session_table.specs.declared.handles.LiveHandle.{LiveHandle}

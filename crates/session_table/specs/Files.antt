@@ -10,9 +10,10 @@ use Rattle.policy_model.specs.declared.event.Decision.{Decision}
 use Rattle.policy_model.specs.declared.event.Decision.TheVariants.{Permit, Deny}
 use Rattle.policy_model.specs.declared.event.Event.{Event}
 use Rattle.policy_model.specs.declared.handles.TheConstants.{HANDLE_NUMBERS}
-use Rattle.policy_model.specs.Asks.{handle_of, is_permit, mode_of, opens_file, value_of}
+use Rattle.policy_model.specs.Asks.{is_permit, mode_of, opens_file, value_of}
 use Rattle.policy_model.specs.Settings.{same_label}
-use Rattle.policy_model.specs.Verdict.{allows, grant_verdict}
+use Rattle.policy_model.specs.Verdict.{allows}
+use Rattle.policy_model.specs.Cases.{grant_verdict, handle_of}
 use Rattle.session_table.specs.declared.handles.LiveHandle.{LiveHandle}
 
 -- the file with this handle

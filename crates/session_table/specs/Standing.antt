@@ -17,7 +17,7 @@ use Rattle.policy_model.specs.Logins.{challenged_user, verified_user, was_decoye
 use Rattle.policy_model.specs.Phases.{phase_of}
 use Rattle.policy_model.specs.Runs.{AreNumbered}
 use Rattle.policy_model.specs.Settings.{Settings, account_number, same_label}
-use Rattle.policy_model.specs.Verdict.{grants_of}
+use Rattle.policy_model.specs.Cases.{grants_of}
 use Rattle.session_table.specs.declared.handles.LiveHandle.{LiveHandle}
 use Rattle.session_table.specs.declared.rows.SessionRow.{SessionRow}
 use Rattle.session_table.specs.Files.{file_opened}

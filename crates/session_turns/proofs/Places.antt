@@ -3,7 +3,8 @@ use Rattle.std.proofs.Common.{◌≡◌, Bool, true, false, cond, eqb, ℕ, List
 use Rattle.std.proofs.lemmas.List.{append_cancel_left}
 use Rattle.std.proofs.lemmas.List.Elements.{filter-append}
 use Rattle.service_model.proofs.Places.{worker_places_after-append}
-use Rattle.service_model.specs.Places.{place_of, worker_places, worker_places_after}
+use Rattle.service_model.specs.Places.{worker_places}
+use Rattle.service_model.specs.Cases.{place_of, worker_places_after}
 use Rattle.policy_model.specs.declared.event.Event.{Event}
 use Rattle.turn_cell.specs.Facts.{StartsWith}
 
@@ -21,7 +22,7 @@ none_joined worker old rest same = append_cancel_left (own worker old) (own work
 no_places : (worker : ℕ) (before rest : List Event) → own worker rest ≡ [] → worker_places_after worker before rest ≡ []
 no_places worker before [] h = refl
 no_places worker before (e ∷ es) h = go (eqb e.worker worker) h (no_places worker (before ++ e ∷ []) es) where
-  go : (b : Bool) → cond b (e ∷ own worker es) (own worker es) ≡ [] → (own worker es ≡ [] → worker_places_after worker (before ++ e ∷ []) es ≡ []) → cond b (place_of before e ∷ []) [] ++ worker_places_after worker (before ++ e ∷ []) es ≡ []
+  go : (b : Bool) → cond b (e ∷ own worker es) (own worker es) ≡ [] → (own worker es ≡ [] → worker_places_after worker (before ++ e ∷ []) es ≡ []) → cond b (place_of before e ∷ worker_places_after worker (before ++ e ∷ []) es) (worker_places_after worker (before ++ e ∷ []) es) ≡ []
   go true h rest = absurd cc
   go false h rest = rest h
 

@@ -1,27 +1,29 @@
-use Rattle.std.proofs.Common.{◌≡◌, ◌∙◌, ◌+◌, ◌<◌, ◌++◌, ◌∷◌, [], ℕ, List, map, take, length, codes, refl, sym, ap, arith, option_and_then, length-append}
+use Rattle.std.proofs.Common.{◌≡◌, ◌∙◌, ◌+◌, ◌<◌, ◌∷◌, [], ℕ, List, map, length, length-append, refl, sym, ap, arith}
 use Rattle.std.specs.Prelude.{◌==◌}
-use Rattle.std.proofs.lemmas.List.{length-map, map-append, length-take-le}
+use Rattle.std.proofs.lemmas.List.{length-map, map-append}
 use Rattle.request_catalogue.specs.TextBytes.{name_bytes}
 use Rattle.policy_model.specs.declared.account.Account.{Account}
 use Rattle.policy_model.specs.Settings.{is_account, same_name}
-use Rattle.toml.specs.Data.{Data, get, as_str}
+use Rattle.toml.specs.Data.{Data}
 use Rattle.toml.specs.View.{view}
-use Rattle.account_file.specs.Accounts.{read_account, account_behind, uid_at, uids_of}
-use Rattle.account_file.specs.Entries.{account_entry}
-use Rattle.account_file.specs.Trees.{strings_at}
-use Rattle.account_file.proofs.EachLemmas.{read_none, read_stop, read_more, read_all, handed_on, distinct_more, list_all_more, filter_map_more, view_at, none_left}
+use Rattle.account_file.specs.Accounts.{read_account, next_account}
+use Rattle.account_file.specs.Entries.{AccountEntry, account_entry}
+use Rattle.account_file.proofs.EachLemmas.{read_none, read_stop, read_more, read_all, handed_on, distinct_more, list_all_more, view_at, none_left}
+use Rattle.account_file.proofs.KeyLemmas.{map_map}
 use Rattle.account_file.proofs.accounts.each_account.Goals as goal
 
 pub loop-item-init : goal.loop-item-init
-loop-item-init c = rw c.new-accounts.ensures.items (record { read = read_none account_behind (map view c.args.items.now); earlier_names = refl; earlier_uids = refl; len = refl; legal = refl; names = refl; uids = refl })
+loop-item-init c = rw c.new-accounts.ensures.items (record { read = read_none next_account (map view c.args.items.now); len = refl; legal = refl; names = refl; uids = refl })
 
--- an account behind the items before it is one at the next place, behind the accounts of these names and numbers
-behind : (place i : ℕ) (all : List Data) (value : Data) (accounts seen : List Account) → strings_at (codes "name") (take i all) ≡ map (λ (a : Account). name_bytes a.name) accounts → uids_of (take i all) ≡ map (λ (a : Account). a.uid) accounts → i < length all → place ≡ i + 1 → seen ≡ accounts → account_behind (take i all) value ≡ read_account place (map (λ (a : Account). name_bytes a.name) seen) (map (λ (a : Account). a.uid) seen) value
-behind place i all value accounts seen names uids lt at same =
-    let long : length (take i all) + 1 ≡ place = ap (λ (n : ℕ). n + 1) (length-take-le i all (omega arith)) ∙ sym at in
-    ap (λ (n : ℕ). read_account n (strings_at (codes "name") (take i all)) (uids_of (take i all)) value) long
-    ∙ ap (λ (ns : List (List ℕ)). read_account place ns (uids_of (take i all)) value) (names ∙ ap (map (λ (a : Account). name_bytes a.name)) (sym same))
-    ∙ ap (λ (us : List ℕ). read_account place (map (λ (a : Account). name_bytes a.name) seen) us value) (uids ∙ ap (map (λ (a : Account). a.uid)) (sym same))
+-- an account behind the same others
+behind : (place : ℕ) (value : Data) (accounts seen : List Account) → place ≡ length accounts + 1 → seen ≡ accounts → next_account (map account_entry accounts) value ≡ read_account place (map (λ (a : Account). name_bytes a.name) seen) (map (λ (a : Account). a.uid) seen) value
+behind place value accounts seen at same =
+    let others = map account_entry accounts in
+    let next : length others + 1 ≡ place = ap (λ (n : ℕ). n + 1) (length-map accounts account_entry) ∙ sym at in
+    ap (λ (n : ℕ). read_account n (map (λ (e : AccountEntry). e.name) others) (map (λ (e : AccountEntry). e.uid) others) value) next
+    ∙ ap (λ (names : List (List ℕ)). read_account place names (map (λ (e : AccountEntry). e.uid) others) value) (map_map (λ (e : AccountEntry). e.name) account_entry accounts)
+    ∙ ap (λ (uids : List ℕ). read_account place (map (λ (a : Account). name_bytes a.name) accounts) uids value) (map_map (λ (e : AccountEntry). e.uid) account_entry accounts)
+    ∙ ap (λ (all : List Account). read_account place (map (λ (a : Account). name_bytes a.name) all) (map (λ (a : Account). a.uid) all) value) (sym same)
 
 pub overflow_cast-place : goal.overflow_cast-place
 overflow_cast-place c = omega (arith, c.loop-item.invariant.len, c.loop-item.accounts.ok.0)
@@ -35,10 +37,10 @@ returns-in_err-account-clause-read c =
     let i = c.loop-item.item-index in
     let accounts = c.loop-item.accounts.items in
     let within : i < length (map view vs) = simp length-map c.loop-item-test.true in
-    let place : c.len.result + 1 ≡ i + 1 = omega (arith, c.len.ensures, c.loop-item.accounts.ok.0, c.loop-item.invariant.len) in
-    let there = behind (c.len.result + 1) i (map view vs) (view c.item-item.result) accounts c.as_slice.result.now c.loop-item.invariant.earlier_names c.loop-item.invariant.earlier_uids within place c.as_slice.ensures.value in
+    let place : c.len.result + 1 ≡ length accounts + 1 = omega (arith, c.len.ensures, c.loop-item.accounts.ok.0) in
+    let there = behind (c.len.result + 1) (view c.item-item.result) accounts c.as_slice.result.now place c.as_slice.ensures.value in
     handed_on _ account_entry c.from_residual.result c.in_err-account.field-0.0 _ _ c.from_residual.ensures.1 c.in_err-account.ensures.read
-    (λ f fault. read_stop account_behind (map view vs) i (map account_entry accounts) (view c.item-item.result) f c.loop-item.invariant.read within (view_at vs i c.item-item.result c.loop-item-test.true c.item-item.is) (there ∙ fault))
+    (λ f fault. read_stop next_account (map view vs) i (map account_entry accounts) (view c.item-item.result) f c.loop-item.invariant.read within (view_at vs i c.item-item.result c.loop-item-test.true c.item-item.is) (there ∙ fault))
 
 pub loop-item-preserved : goal.loop-item-preserved
 loop-item-preserved c =
@@ -48,21 +50,13 @@ loop-item-preserved c =
     let account = c.in_ok-account.account in
     let within : i < length (map view vs) = simp length-map c.loop-item-test.true in
     let at = view_at vs i c.item-item.result c.loop-item-test.true c.item-item.is in
-    let place : c.len.result + 1 ≡ i + 1 = omega (arith, c.len.ensures, c.loop-item.accounts.ok.0, c.loop-item.invariant.len) in
-    let value = behind (c.len.result + 1) i (map view vs) (view c.item-item.result) accounts c.as_slice.result.now c.loop-item.invariant.earlier_names c.loop-item.invariant.earlier_uids within place c.as_slice.ensures.value ∙ c.in_ok-account.ensures.read in
+    let place : c.len.result + 1 ≡ length accounts + 1 = omega (arith, c.len.ensures, c.loop-item.accounts.ok.0) in
+    let value = behind (c.len.result + 1) (view c.item-item.result) accounts c.as_slice.result.now place c.as_slice.ensures.value ∙ c.in_ok-account.ensures.read in
     let new_name = rw c.as_slice.ensures.value at c.in_ok-account.ensures.new_name in
     let new_uid = rw c.as_slice.ensures.value at c.in_ok-account.ensures.new_uid in
     rw c.in_ok-push.ensures.items
     (record {
-      read = rw (map-append account_entry accounts (account ∷ [])) (read_more account_behind (map view vs) i (map account_entry accounts) (view c.item-item.result) (account_entry account) c.loop-item.invariant.read within at value);
-      earlier_names =
-          filter_map_more (λ (d : Data). option_and_then as_str (get (codes "name") d)) (map view vs) i (view c.item-item.result) (name_bytes account.name) within at c.in_ok-account.ensures.named
-          ∙ ap (λ (ns : List (List ℕ)). ns ++ name_bytes account.name ∷ []) c.loop-item.invariant.earlier_names
-          ∙ sym (map-append (λ (a : Account). name_bytes a.name) accounts (account ∷ []));
-      earlier_uids =
-          filter_map_more uid_at (map view vs) i (view c.item-item.result) account.uid within at c.in_ok-account.ensures.numbered
-          ∙ ap (λ (us : List ℕ). us ++ account.uid ∷ []) c.loop-item.invariant.earlier_uids
-          ∙ sym (map-append (λ (a : Account). a.uid) accounts (account ∷ []));
+      read = rw (map-append account_entry accounts (account ∷ [])) (read_more next_account (map view vs) i (map account_entry accounts) (view c.item-item.result) (account_entry account) c.loop-item.invariant.read within at value);
       len = length-append accounts (account ∷ []) ∙ ap (λ (n : ℕ). n + 1) c.loop-item.invariant.len;
       legal = list_all_more is_account accounts account c.loop-item.invariant.legal c.in_ok-account.ensures.legal;
       names = distinct_more (λ (a b : Account). same_name a.name b.name) accounts account c.loop-item.invariant.names new_name;
@@ -70,4 +64,4 @@ loop-item-preserved c =
     })
 
 pub returns-clause-read : goal.returns-clause-read
-returns-clause-read c = read_all account_behind (map view c.args.items.now) c.loop-item.item-index (map account_entry c.loop-item.accounts.items) c.loop-item.invariant.read (none_left c.args.items.now c.loop-item.item-index c.loop-item-test.false)
+returns-clause-read c = read_all next_account (map view c.args.items.now) c.loop-item.item-index (map account_entry c.loop-item.accounts.items) c.loop-item.invariant.read (none_left c.args.items.now c.loop-item.item-index c.loop-item-test.false)

@@ -1,18 +1,15 @@
-use Rattle.std.proofs.Common.{◌≡◌, true, map, take, length, codes}
+use Rattle.std.proofs.Common.{◌≡◌, true, map, length}
 use Rattle.std.specs.List.{list_all}
-use Rattle.request_catalogue.specs.TextBytes.{label_bytes}
 use Rattle.policy_model.specs.Settings.{is_number, are_distinct, same_label}
 use Rattle.toml.specs.View.{view}
-use Rattle.account_file.specs.Accounts.{grant_behind}
+use Rattle.account_file.specs.Accounts.{read_grant}
 use Rattle.account_file.specs.Entries.{grant_entry}
-use Rattle.account_file.specs.Trees.{strings_at}
 use Rattle.account_file.proofs.EachLemmas.{IsReadTo}
 use Rattle.account_file.proofs.grants.each_grant.Given as goal
 
 abbrev pub invariant-loop-item : goal.invariant-loop-item
 invariant-loop-item l = record {
-  read : IsReadTo (grant_behind l.account) (map view l.items) l.item-index (map grant_entry l.grants.items);
-  names : strings_at (codes "name") (take l.item-index (map view l.items)) ≡ map (λ g. label_bytes g.name) l.grants.items;
+  read : IsReadTo (read_grant l.account) (map view l.items) l.item-index (map grant_entry l.grants.items);
   len : length l.grants.items ≡ l.item-index;
   modes : list_all (λ g. is_number 1 3 g.mode) l.grants.items ≡ true;
   different : are_distinct (λ a b. same_label a.name b.name) l.grants.items ≡ true;

@@ -4,7 +4,8 @@ use Rattle.toml.specs.View.{view, table_view}
 use Rattle.toml.specs.declared.value.Value.{Value}
 use Rattle.account_file.specs.declared.fault.SetupFault.{SetupFault}
 use Rattle.account_file.specs.Faults.{Answers}
-use Rattle.account_file.specs.Setups.{info_items, read_info}
+use Rattle.account_file.specs.Numbers.{read_info}
+use Rattle.account_file.specs.Setups.{info_items}
 use Rattle.account_file.proofs.InfoLemmas.{info_of-view}
 use Rattle.account_file.proofs.info.read_info.Goals as goal
 

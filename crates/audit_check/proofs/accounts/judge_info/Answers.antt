@@ -1,7 +1,7 @@
 use Rattle.std.proofs.Common.{◌∙◌, ap}
 use Rattle.policy_model.specs.declared.event.Decision.TheVariants.{Permit}
 use Rattle.policy_model.specs.Logins.{verified_user}
-use Rattle.policy_model.specs.Verdict.{account_named, sequence_of}
+use Rattle.policy_model.specs.Cases.{account_named, sequence_of}
 use Rattle.audit_check.proofs.OwnEvents.{verified_is}
 use Rattle.audit_check.proofs.accounts.judge_info.Goals as goal
 

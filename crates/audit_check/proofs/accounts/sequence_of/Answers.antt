@@ -1,5 +1,5 @@
 use Rattle.std.proofs.Common.{◌∙◌, ap, sym}
-use Rattle.policy_model.specs.Verdict.{account_named, sequence_of}
+use Rattle.policy_model.specs.Cases.{account_named, sequence_of}
 use Rattle.audit_check.proofs.KeptLemmas.{sequence_none, sequence_some}
 use Rattle.audit_check.proofs.accounts.sequence_of.Goals as goal
 

@@ -1,11 +1,12 @@
 use Rattle.std.proofs.Common.{ℕ, List, ◌≡◌, ◌≤◌, ◌+◌, ◌++◌, length, take, drop, refl, ap, sym, ◌∙◌, arith}
 use Rattle.std.proofs.Math.Seq.{take-append_seam}
 use Rattle.imsg_frame.specs.Message.{composed_of, spelling_of}
+use Rattle.imsg_frame.specs.Requests.{request_message}
 use Rattle.imsg_frame.proofs.Spelling.{length-spelling_of}
 use Rattle.request_catalogue.specs.declared.width.Width.{Width}
 use Rattle.request_catalogue.specs.Kinds.{kind_number}
 use Rattle.request_catalogue.specs.Catalogue.{RequestValue, IsInRange, kind_of, payload_of, value_of}
-use Rattle.child_protocol.specs.Frames.{IsPut, frame_width, request_bytes, request_message}
+use Rattle.child_protocol.specs.Frames.{IsPut, frame_width, request_bytes}
 use Rattle.child_protocol.proofs.Frames.{reads_in}
 use Rattle.child_protocol.proofs.frame.put_frame.Goals as goal
 

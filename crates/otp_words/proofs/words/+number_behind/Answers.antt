@@ -6,8 +6,8 @@ use Rattle.std.proofs.lemmas.Option.{slice_get_within}
 use Rattle.std.proofs.lemmas.List.Sums.{prefix_len-le-length}
 use Rattle.std.proofs.lemmas.List.{take-append-drop}
 use Rattle.std.specs.Bool.{then_some}
+use Rattle.std.specs.Str.{str_to_ascii_uppercase}
 use Rattle.otp_words.specs.Blanks.{is_blank, is_no_blank}
-use Rattle.otp_words.specs.Dictionaries.{upper}
 use Rattle.otp_words.proofs.WordLemmas.{front_of, behind, gap_of, behind_gap}
 use Rattle.otp_words.proofs.RunLemmas.{list_all-prefix}
 use Rattle.otp_words.proofs.NumberLemmas.{not_found, last_only, last_found, then_some_below, number_grows, more_only, no_gap, more_found}
@@ -23,7 +23,7 @@ pub returns-in_err-number-clause-only : goal.returns-in_err-number-clause-only
 returns-in_err-number-clause-only t c = λ places long is.
     let text = c.args.text.now in
     let word : c.split_at.result.0.now ≡ front_of text = c.split_at.ensures.front ∙ ap (λ (n : ℕ). take n text) c.word_len.ensures in
-    absurd (not_found c.args.dictionary.now text places c.place.result c.place.ensures.legal is (λ i e. c.place.ensures.only i (e ∙ ap (λ (w : List ℕ). Some (upper w)) (sym word))) c.in_err-number.was)
+    absurd (not_found c.args.dictionary.now text places c.place.result c.place.ensures.legal is (λ i e. c.place.ensures.only i (e ∙ ap (λ (w : List ℕ). Some (str_to_ascii_uppercase w)) (sym word))) c.in_err-number.was)
 
 pub returns-then-count-eq1-clause-found : goal.returns-then-count-eq1-clause-found
 returns-then-count-eq1-clause-found t c =
@@ -42,13 +42,13 @@ returns-then-count-eq1-clause-only t c = λ places long is.
     let word : c.split_at.result.0.now ≡ front_of text = c.split_at.ensures.front ∙ ap (λ (n : ℕ). take n text) c.word_len.ensures in
     let left : c.split_at.result.1.now ≡ behind text = c.split_at.ensures.back ∙ ap (λ (n : ℕ). drop n text) c.word_len.ensures in
     let e = c.then_some.ensures ∙ ap (λ (b : Bool). then_some b (front * 2048 + place)) c.is_empty.ensures in
-    last_only c.args.dictionary.now text places c.split_at.result.1.now front place c.place.result c.then_some.result c.place.ensures.legal (long ∙ c.if-count-eq1.true) is (λ i there. c.place.ensures.only i (there ∙ ap (λ (w : List ℕ). Some (upper w)) (sym word))) c.in_ok-number.was left e
+    last_only c.args.dictionary.now text places c.split_at.result.1.now front place c.place.result c.then_some.result c.place.ensures.legal (long ∙ c.if-count-eq1.true) is (λ i there. c.place.ensures.only i (there ∙ ap (λ (w : List ℕ). Some (str_to_ascii_uppercase w)) (sym word))) c.in_ok-number.was left e
 
 pub returns-then-count-eq1-clause-small : goal.returns-then-count-eq1-clause-small
 returns-then-count-eq1-clause-small t c =
     let front = c.args.front in
     let place = c.in_ok-number.field-0 in
-    let below : place < 2048 = omega (arith, slice_get_within c.args.dictionary.now place (upper c.split_at.result.0.now) c.in_ok-number.ensures.found, c.place.ensures.legal.count) in
+    let below : place < 2048 = omega (arith, slice_get_within c.args.dictionary.now place (str_to_ascii_uppercase c.split_at.result.0.now) c.in_ok-number.ensures.found, c.place.ensures.legal.count) in
     let all : 11 * (6 - (c.args.count - 1)) ≡ 66 = omega arith in
     let small : front * 2048 + place < 2 ^ 66 = subst (λ (bits : ℕ). front * 2048 + place < 2 ^ bits) all (number_grows c.args.count front place c.requires.some c.requires.few c.requires.small below) in
     then_some_below c.is_empty.result (front * 2048 + place) (2 ^ 66) c.then_some.result small c.then_some.ensures
@@ -63,7 +63,7 @@ returns-then-is_empty-clause-only t c = λ places long is.
 pub number_behind-requires : goal.number_behind-requires
 number_behind-requires t c =
     let place = c.in_ok-number.field-0 in
-    let below : place < 2048 = omega (arith, slice_get_within c.args.dictionary.now place (upper c.split_at.result.0.now) c.in_ok-number.ensures.found, c.place.ensures.legal.count) in
+    let below : place < 2048 = omega (arith, slice_get_within c.args.dictionary.now place (str_to_ascii_uppercase c.split_at.result.0.now) c.in_ok-number.ensures.found, c.place.ensures.legal.count) in
     (omega arith, (omega arith, (omega arith, number_grows c.args.count c.args.front place c.requires.some c.requires.few c.requires.small below)))
 
 pub returns-clause-found : goal.returns-clause-found
@@ -82,5 +82,5 @@ returns-clause-only t c = λ places long is.
     let word : c.split_at.result.0.now ≡ front_of text = c.split_at.ensures.front ∙ ap (λ (n : ℕ). take n text) c.word_len.ensures in
     let left : c.split_at.result.1.now ≡ behind text = c.split_at.ensures.back ∙ ap (λ (n : ℕ). drop n text) c.word_len.ensures in
     let rest : c.split_at-2.result.1.now ≡ behind_gap (behind text) = c.split_at-2.ensures.back ∙ ap (λ (n : ℕ). drop n c.split_at.result.1.now) c.gap_len.ensures ∙ ap behind_gap left in
-    more_only c.args.dictionary.now text places c.args.count c.args.front c.in_ok-number.field-0 c.place.result c.number_behind.result c.place.ensures.legal c.if-count-eq1.false long is (λ i there. c.place.ensures.only i (there ∙ ap (λ (w : List ℕ). Some (upper w)) (sym word))) c.in_ok-number.was
+    more_only c.args.dictionary.now text places c.args.count c.args.front c.in_ok-number.field-0 c.place.result c.number_behind.result c.place.ensures.legal c.if-count-eq1.false long is (λ i there. c.place.ensures.only i (there ∙ ap (λ (w : List ℕ). Some (str_to_ascii_uppercase w)) (sym word))) c.in_ok-number.was
     (λ others some there. c.number_behind.ensures.only others some (subst (λ (x : List ℕ). IsWords c.args.dictionary.now others x) (sym rest) there))

@@ -2,7 +2,7 @@ use Rattle.std.proofs.Common.{◌≡◌, ◌+◌, ◌==◌, true, false, cond, S
 use Rattle.std.proofs.lemmas.Bool.{ne_eqb}
 use Rattle.std.specs.List.{find}
 use Rattle.std.proofs.lemmas.List.{take_rest}
-use Rattle.policy_model.specs.Asks.{handle_of}
+use Rattle.policy_model.specs.Cases.{handle_of}
 use Rattle.policy_model.specs.Handles.{handle_opening}
 use Rattle.policy_model.proofs.HandleLemmas.{is_live, live_handles_of-end, handle_opening-live, handle_opening-other}
 use Rattle.policy_model.proofs.handles.opening.Goals as goal

@@ -1,6 +1,6 @@
 use Rattle.std.proofs.Common.{◌∙◌, ◌+◌, ◌++◌, ◌∷◌, [], map, take, sym, ap, subst, arith}
 use Rattle.std.proofs.lemmas.List.{length-append, map-append, take_more}
-use Rattle.policy_laws.proofs.Strangers.{strangers_are_told_alike}
+use Rattle.policy_laws.proofs.Alike.{shows_no_accounts}
 use Rattle.policy_model.specs.Legal.{IsLegal}
 use Rattle.policy_model.specs.Settings.{Settings}
 use Rattle.session_core.specs.Replayed.{asked_of, stepped_of}
@@ -42,8 +42,8 @@ returns-clause-legal c = subst (λ (s : Settings). IsLegal s c.loop-step.events.
 pub returns-clause-kept : goal.returns-clause-kept
 returns-clause-kept c = c.loop-step.invariant.stands.kept
 
-pub returns-clause-alike : goal.returns-clause-alike
-returns-clause-alike c = strangers_are_told_alike c.args.setup.now c.loop-step.events.items (subst (λ (s : Settings). IsLegal s c.loop-step.events.items) c.loop-step.invariant.setup c.loop-step.invariant.stands.legal)
+pub returns-clause-unseen : goal.returns-clause-unseen
+returns-clause-unseen c = shows_no_accounts c.args.setup.now c.loop-step.events.items (subst (λ (s : Settings). IsLegal s c.loop-step.events.items) c.loop-step.invariant.setup c.loop-step.invariant.stands.legal)
 
 pub returns-clause-consequences : goal.returns-clause-consequences
 returns-clause-consequences c = consequences c.args.setup.now c.loop-step.events.items (subst (λ (s : Settings). IsLegal s c.loop-step.events.items) c.loop-step.invariant.setup c.loop-step.invariant.stands.legal)

@@ -1,6 +1,6 @@
 use Rattle.std.proofs.Common.{◌≡◌, ◌∙◌, ap, sym, true}
 use Rattle.policy_model.specs.Asks.{accepts}
-use Rattle.policy_model.specs.Logins.{user_named}
+use Rattle.policy_model.specs.Cases.{user_named}
 use Rattle.audit_check.proofs.KeptLemmas.{accepted_open, accepted_user, found_for, nobody_for}
 use Rattle.audit_check.proofs.history.History.account_of_reply.Goals as goal
 

@@ -1,5 +1,5 @@
 use Rattle.std.proofs.Common.{subst}
-use Rattle.policy_laws.proofs.Strangers.{strangers_are_told_alike}
+use Rattle.policy_laws.proofs.Alike.{shows_no_accounts}
 use Rattle.session_core.specs.Parts.{setup_of}
 use Rattle.session_core.proofs.ReplayLemmas.{consequences}
 use Rattle.monitor_book.specs.Kept.{IsBook}
@@ -14,7 +14,7 @@ returns-clause-consequences g c =
     let kept : IsBook c.args.self = subst IsBook c.self.view_is c.self.invariant.0 in
     consequences (setup_of c.args.self.core) c.args.self.journal kept.history.run.legal
 
-pub returns-clause-alike : goal.returns-clause-alike
-returns-clause-alike g c =
+pub returns-clause-unseen : goal.returns-clause-unseen
+returns-clause-unseen g c =
     let kept : IsBook c.args.self = subst IsBook c.self.view_is c.self.invariant.0 in
-    strangers_are_told_alike (setup_of c.args.self.core) c.args.self.journal kept.history.run.legal
+    shows_no_accounts (setup_of c.args.self.core) c.args.self.journal kept.history.run.legal
