@@ -1,7 +1,7 @@
 //! The tables of a setup file.
 
 ghost use Rattle.std.specs.Prelude.{◌≡◌, ◌≤◌, IfOk, OnOk, map, true};
-ghost use Rattle.toml.specs.Data.{string};
+ghost use Rattle.toml.specs.Data.{no_members, string};
 ghost use Rattle.toml.specs.View.{table_view, view};
 ghost use Rattle.account_writer.specs.Tables.{account_members, grant_data, grant_members, is_writable, number, put_counts, put_member, put_texts, with_current};
 
@@ -46,19 +46,32 @@ pub(crate) fn account_table(
     ensures writable { is_writable (with_current account.now current) ≡ true }
 {
     let mut table = Table::new(alloc);
-    put(alloc, &mut table, "name", name_value(alloc, &account.name)?)?;
-    put(alloc, &mut table, "uid", Value::from(account.uid))?;
-    let algo = algo_value(alloc, account.algo)?;
-    put(alloc, &mut table, "algorithm", algo)?;
-    put(alloc, &mut table, "seed", seed_value(alloc, &account.seed)?)?;
-    let sequence = u32::from(current.sequence);
-    put(alloc, &mut table, "sequence", Value::from(sequence))?;
-    let password = password_value(alloc, current.password)?;
-    put(alloc, &mut table, "password", password)?;
-    put(alloc, &mut table, "enabled", Value::from(account.enabled))?;
-    let grants = grant_values(alloc, account.grants.as_slice())?;
-    put(alloc, &mut table, "grants", Value::from(grants))?;
+    put_account(alloc, &mut table, account, current)?;
     Ok(table)
+}
+
+/// Puts an account into a table with nothing in it. That the table stays with the caller is what keeps
+/// the proof short.
+fn put_account(
+    alloc: Global,
+    table: &mut Table,
+    account: &Account,
+    current: Current,
+) -> Result<(), AllocError>
+    requires { table_view table.now ≡ no_members }
+    ensures { OnOk result (table_view table.new ≡ account_members (with_current account.now current)) }
+{
+    put(alloc, table, "name", name_value(alloc, &account.name)?)?;
+    put(alloc, table, "uid", Value::from(account.uid))?;
+    put(alloc, table, "algorithm", algo_value(alloc, account.algo)?)?;
+    put(alloc, table, "seed", seed_value(alloc, &account.seed)?)?;
+    let sequence = u32::from(current.sequence);
+    put(alloc, table, "sequence", Value::from(sequence))?;
+    let password = password_value(alloc, current.password)?;
+    put(alloc, table, "password", password)?;
+    put(alloc, table, "enabled", Value::from(account.enabled))?;
+    let grants = grant_values(alloc, account.grants.as_slice())?;
+    put(alloc, table, "grants", Value::from(grants))
 }
 
 /// Puts the texts of a setup, and what is written as one.

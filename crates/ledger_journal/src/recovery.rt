@@ -1,13 +1,14 @@
 //! The ledger that a log brings back.
 
-ghost use Rattle.std.specs.Prelude.{◌≡◌, ◌&&◌, List, ℕ, map, not};
+ghost use Rattle.std.specs.Prelude.{◌≡◌, ◌+◌, ◌≤◌, ◌&&◌, [], List, ℕ, length, map, not};
 ghost use Rattle.policy_model.specs.declared.event.Event.{Event};
 ghost use Rattle.policy_model.specs.Settings.{Settings};
 ghost use Rattle.durable_log.specs.Records.{HasRecords};
 ghost use Rattle.policy_model.specs.Logins.{account_after};
+ghost use Rattle.ledger_journal.specs.Logins.{left_of};
 ghost use Rattle.ledger_journal.specs.Journals.{IsBackAt, IsRecoveredAs, IsThereAlready, IsWhole, records_of};
 ghost use Rattle.ledger_journal.specs.Reads.{HasBeenRead, IsRead, first_of};
-ghost use Rattle.ledger_journal.specs.Recovering.{IsAnswerOf, IsLogOr, is_none_left};
+ghost use Rattle.ledger_journal.specs.Recovering.{HasAccepted, IsAnswerOf, IsLogOr, is_none_left};
 
 use crate::answer::{RecoverError, Recovered};
 use crate::login::Login;
@@ -42,18 +43,44 @@ fn answer_of(alloc: Global, setup: &Setup, log: &Log) -> Result<Recovered, Recov
     ensures { (records : List (List ℕ)) → IsRead setup.now records log.now → IsAnswerOf setup.now records result }
 {
     let left = left_over(alloc, setup, log.logins.as_slice())?;
+    answer_by(alloc, setup, log, left.as_slice())
+}
+
+/// What they bring back where these replies are left to be spent. That the list of these stays with the
+/// caller is what keeps the proof short.
+fn answer_by(
+    alloc: Global,
+    setup: &Setup,
+    log: &Log,
+    left: &[Login],
+) -> Result<Recovered, RecoverError>
+    requires read { HasBeenRead setup.now log.now }
+    requires left { left.now ≡ left_of setup.now log.now.logins.items }
+    ensures { (records : List (List ℕ)) → IsRead setup.now records log.now → IsAnswerOf setup.now records result }
+{
     let Ok(cap) = u32::try_from(left.len()) else {
         return Err(RecoverError::OutOfMemory);
     };
-    let mut ledger = Ledger::new(alloc, setup, cap)?;
-    let refused = spend_all(&mut ledger, left.as_slice());
+    let ledger = Ledger::new(alloc, setup, cap)?;
+    spent_answer(ledger, log, left)
+}
+
+/// What they bring back where these replies are left to be spent in a ledger that accepted none.
+fn spent_answer(mut ledger: Ledger, log: &Log, left: &[Login]) -> Result<Recovered, RecoverError>
+    requires read { HasBeenRead ledger.setup log.now }
+    requires left { left.now ≡ left_of ledger.setup log.now.logins.items }
+    requires room { ledger.spent + length left.now ≤ ledger.cap }
+    requires own { HasAccepted ledger.setup [] ledger }
+    ensures { (records : List (List ℕ)) → IsRead ledger.setup records log.now → IsAnswerOf ledger.setup records result }
+{
+    let refused = spend_all(&mut ledger, left);
     match first_of(log.bad, refused) {
         Some(number) => Err(RecoverError::Line { number }),
         None => Ok(Recovered {
             ledger,
             lines: log.count as u32,
             accepted: log.logins.len() as u32,
-            already: are_passed(log.logins.as_slice(), left.as_slice()),
+            already: are_passed(log.logins.as_slice(), left),
         }),
     }
 }

@@ -1,9 +1,10 @@
 //! All memory of a run, taken before it listens.
 
-ghost use Rattle.std.specs.Prelude.{◌≡◌, ℕ, All, IfErr, IfOk, List, Option, Some, length};
+ghost use Rattle.std.specs.Prelude.{◌≡◌, [], ℕ, All, IfErr, IfOk, List, Option, Some, length};
 ghost use Rattle.monitor_run.specs.Prepared.{LogStays};
 ghost use Rattle.monitor_run.specs.Workers.{IsDeskOf};
 ghost use Rattle.policy_model.specs.Settings.{quota_of};
+ghost use Rattle.session_core.specs.Parts.{setup_of};
 ghost use Rattle.turn_cell.specs.Facts.{AreNewPasses, IsCellOf};
 
 use crate::desk::Desk;
@@ -66,19 +67,37 @@ fn cell_of<K: Sink>(
     ensures new { IfOk result (λ r. AreNewPasses r.0 r.1.items) }
     ensures back { IfErr result (λ back. LogStays (K.held log) (K.held back) (K.faults log) (K.faults back)) }
 {
+    let book = book_of(alloc, setup, log)?;
+    match open_cell(alloc, book) {
+        Ok(opened) => Ok(opened),
+        Err((book, _)) => Err(log_of(book)),
+    }
+}
+
+/// An empty book of a setup; or, where there isn't the memory, the log as it was.
+fn book_of<K: Sink>(alloc: Global, setup: &Setup, log: K) -> Result<Book<K>, K>
+    ensures empty { IfOk result (λ book. book.journal ≡ []) }
+    ensures setup { IfOk result (λ book. setup_of book.core ≡ setup.now) }
+    ensures held { IfOk result (λ book. (book.held_first ≡ K.held log) × (book.held ≡ K.held log)) }
+    ensures faults { IfOk result (λ book. (book.faults_first ≡ K.faults log) × (book.faults ≡ K.faults log)) }
+    ensures back { IfErr result (λ back. back ≡ log) }
+{
     let Ok(core) = Core::new(alloc, setup, setup.events_max() as u32) else {
         return Err(log);
     };
     match Book::new(alloc, core, log) {
-        Ok(book) => match open_cell(alloc, book) {
-            Ok(opened) => Ok(opened),
-            Err((book, _)) => {
-                let (_core, _journal, log) = book.parts();
-                Err(log)
-            }
-        },
+        Ok(book) => Ok(book),
         Err((_core, log, _)) => Err(log),
     }
+}
+
+/// The log of a book that isn't wanted.
+fn log_of<K: Sink>(book: Book<K>) -> K
+    ensures held { K.held result ≡ book.held }
+    ensures faults { K.faults result ≡ book.faults }
+{
+    let (_core, _journal, log) = book.parts();
+    log
 }
 
 /// Takes all memory of a run that answers from these texts and writes to a log. Where there isn't the memory,

@@ -67,28 +67,54 @@ impl<
         ensures counts { listen_faults_of self.new
             ≡ count_after result (listen_faults_of self.old) }
     {
-        let opened = open_posts(&self.rt, self.alloc, place, &self.limits);
+        let opened = open_posts(self, place);
         counted(&mut self.listen_faults, opened)
     }
 }
 
 /// Takes the place's socket, and gives each worker a post on it.
 fn open_posts<R: Files<File = File> + Net + Clock + Clone + Drop>(
-    rt: &R,
-    alloc: Global,
+    site: &RealSite<R>,
     place: &Place,
-    limits: &Limits,
 ) -> io::Result<Vec<RealPost<R>>>
     ensures workers { IfOk result (λ posts. vec_len posts ≡ place.now.workers) }
     ensures fresh { IfOk result (λ posts. All IsFreshPost posts.items) }
     ensures from { IfOk result (λ posts. All (IsPostAt place.now) posts.items) }
 {
-    let seat = Seat::take(rt, alloc, place.socket.as_str())?;
-    let clock = PostClock::start(rt);
-    let mut posts = Vec::new(alloc);
+    let seat = Seat::take(&site.rt, site.alloc, place.socket.as_str())?;
+    posts_on(site, &seat, place)
+}
+
+/// Gives each worker a post on this seat. Their clocks start at one moment.
+fn posts_on<R: Clock + Clone + Drop>(
+    site: &RealSite<R>,
+    seat: &Seat,
+    place: &Place,
+) -> io::Result<Vec<RealPost<R>>>
+    ensures workers { IfOk result (λ posts. vec_len posts ≡ place.now.workers) }
+    ensures fresh { IfOk result (λ posts. All IsFreshPost posts.items) }
+    ensures from { IfOk result (λ posts. All (IsPostAt place.now) posts.items) }
+{
+    let clock = PostClock::start(&site.rt);
+    let mut posts = Vec::new(site.alloc);
     for _ in 0..place.workers {
-        let seat = seat.try_clone()?;
-        posts.push(RealPost::new(rt.clone()?, alloc, seat, place.copy(alloc)?, *limits, clock))?;
+        posts.push(post_on(site, seat, place, clock)?)?;
     }
     Ok(posts)
+}
+
+/// A post of this place on another handle of the seat.
+fn post_on<R: Clone + Drop>(
+    site: &RealSite<R>,
+    seat: &Seat,
+    place: &Place,
+    clock: PostClock,
+) -> io::Result<RealPost<R>>
+    ensures fresh { IfOk result (λ post. IsFreshPost post) }
+    ensures from { IfOk result (λ post. IsPostAt place.now post) }
+{
+    let seat = seat.try_clone()?;
+    let rt = site.rt.clone()?;
+    let place = place.copy(site.alloc)?;
+    Ok(RealPost::new(rt, site.alloc, seat, place, site.limits, clock))
 }

@@ -1,4 +1,4 @@
-ghost use Rattle.std.specs.Prelude.{◌≡◌, ◌≤◌, IfOk, None, length, true};
+ghost use Rattle.std.specs.Prelude.{◌≡◌, ◌≤◌, ◌∷◌, [], IfOk, None, OnOk, codes, length, true};
 ghost use Rattle.std.specs.Process.{command_args, command_program};
 ghost use Rattle.outside.specs.Faults.{count_after};
 ghost use Rattle.outside.specs.Launching.{launch_words};
@@ -81,23 +81,44 @@ pub fn command_of(alloc: Global, launcher: &str, role: &Role) -> io::Result<Comm
     ensures words { IfOk result (λ command. command_args command ≡ launch_words role.now) }
 {
     let mut command = Command::new(alloc, launcher)?;
+    give_words(alloc, &mut command, role)?;
+    command.stderr(Stdio::null());
+    Ok(command)
+}
+
+/// Gives a command without words those of a role. That the command stays with the caller is what
+/// keeps the proof short.
+fn give_words(alloc: Global, command: &mut Command, role: &Role) -> io::Result<()>
+    requires { command_args command.now ≡ [] }
+    ensures program { OnOk result (command_program command.new ≡ command_program command.old) }
+    ensures words { OnOk result (command_args command.new ≡ launch_words role.now) }
+{
     match role {
         Role::Pre { session } => {
             let session = format!(in alloc; "{session}")?;
             command.arg(PRE_MODE)?.arg(session.as_str())?;
+            Ok(())
         }
         Role::User { session, uid, user } => {
             let session = format!(in alloc; "{session}")?;
             let uid = format!(in alloc; "{uid}")?;
-            command.arg(USER_MODE)?.arg(session.as_str())?;
-            let Ok(user) = str::from_utf8(user.as_slice()) else {
-                return Err(io::Error::from(ErrorKind::InvalidInput));
-            };
-            command.arg(uid.as_str())?.arg(user)?;
+            give_user(command, session.as_str(), uid.as_str(), user.as_slice())
         }
     }
-    command.stderr(Stdio::null());
-    Ok(command)
+}
+
+/// Gives a command without words those of a user's child.
+fn give_user(command: &mut Command, session: &str, uid: &str, user: &[u8]) -> io::Result<()>
+    requires { command_args command.now ≡ [] }
+    ensures program { OnOk result (command_program command.new ≡ command_program command.old) }
+    ensures words { OnOk result (command_args command.new ≡ codes "child-user" ∷ session.now ∷ uid.now ∷ user.now ∷ []) }
+{
+    command.arg(USER_MODE)?.arg(session)?;
+    let Ok(user) = str::from_utf8(user) else {
+        return Err(io::Error::from(ErrorKind::InvalidInput));
+    };
+    command.arg(uid)?.arg(user)?;
+    Ok(())
 }
 
 /// Starts a child of this role by the launcher, which may keep a reading or a writing waiting for
@@ -114,15 +135,26 @@ pub fn launch<R: Processes<Started = SystemProcess> + Net>(
 {
     let (ours, theirs) = UnixStream::pair(rt)?;
     socket::limit(&ours, limit)?;
-    let theirs = OwnedFd::from(theirs);
-    let mut command = command_of(alloc, launcher, &role)?;
-    command.stdin(theirs.try_clone()?).stdout(theirs);
     Ok(RealStream {
-        program: command.spawn(rt)?,
+        program: start(rt, alloc, launcher, &role, theirs)?,
         socket: ours,
         role,
         faults: 0,
     })
+}
+
+/// Starts the program of a child, whose standard input and output are both this socket.
+fn start<R: Processes<Started = SystemProcess>>(
+    rt: &R,
+    alloc: Global,
+    launcher: &str,
+    role: &Role,
+    socket: UnixStream,
+) -> io::Result<Child<SystemProcess>> {
+    let socket = OwnedFd::from(socket);
+    let mut command = command_of(alloc, launcher, role)?;
+    command.stdin(socket.try_clone()?).stdout(socket);
+    command.spawn(rt)
 }
 
 /// Closes the child's socket and waits for its end. One that isn't gone in time is killed. The

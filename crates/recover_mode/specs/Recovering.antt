@@ -55,6 +55,15 @@ IsLogError setup image (errors.LogRefused number) = IsRefused setup image number
 IsLogError setup image errors.OutOfMemory = Unit {0}
 IsLogError setup image _ = ⊥
 
+-- what is written and sent of what was recovered
+pub record AreTextsOf (parts : RecoverParts) (setup : Settings) (recovered : Recovered) (texts : Texts) : Type 0 where
+  pub setup_file : texts.setup ≡ parts.setup
+  pub log_file : texts.log ≡ parts.log
+  pub spelled : setup_of texts.bytes.items ≡ Ok (entries_of (current_setup setup recovered.ledger.accounts))
+  pub lines : texts.recovery.lines ≡ recovered.lines
+  pub accepted : texts.recovery.accepted ≡ recovered.accepted
+  pub line : string_bytes texts.line ≡ recovery_line texts.recovery
+
 -- what is written and sent: the bytes spell the setup with the ledger's sequences and passwords
 pub record AreTexts (parts : RecoverParts) (setup : Settings) (image : List ℕ) (texts : Texts) : Type 0 where
   pub recovered : Recovered

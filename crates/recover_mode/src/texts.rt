@@ -3,7 +3,7 @@
 ghost use Rattle.std.specs.Prelude.{◌≡◌, Err, IfOk};
 ghost use Rattle.recover_mode.specs.declared.error.RecoveryError.{RecoveryError};
 ghost use Rattle.recover_mode.specs.Commands.{command_parts};
-ghost use Rattle.recover_mode.specs.Recovering.{AreTexts, IsBroughtBack, IsLogError};
+ghost use Rattle.recover_mode.specs.Recovering.{AreTexts, AreTextsOf, IsBroughtBack, IsLogError};
 
 use crate::basis::Basis;
 use crate::command::RecoverCommand;
@@ -12,7 +12,8 @@ use crate::line::{Recovery, recovery_line};
 use account_writer::write_accounts;
 use ledger_journal::{RecoverError, Recovered, recover};
 use outside::Word;
-use std::alloc::Global;
+use policy_model::Setup;
+use std::alloc::{AllocError, Global};
 
 /// What is written and sent, all of whose memory is taken before anything is written.
 #[derive(Drop)]
@@ -40,6 +41,20 @@ pub(crate) fn texts_of(
         IsLogError basis.now.setup basis.now.image.items error }
 {
     let recovered = bring_back(alloc, basis)?;
+    Ok(recovered_texts(alloc, command, &basis.setup, &recovered)?)
+}
+
+/// What is written and sent of what was recovered. That the ledger stays with the caller is what keeps
+/// the proof short.
+fn recovered_texts(
+    alloc: Global,
+    command: &RecoverCommand<'_>,
+    setup: &Setup,
+    recovered: &Recovered,
+) -> Result<Texts, AllocError>
+    requires { recovered.now.ledger.setup ≡ setup.now }
+    ensures { IfOk result (AreTextsOf (command_parts command.now) setup.now recovered.now) }
+{
     let recovery = Recovery {
         lines: recovered.lines,
         accepted: recovered.accepted,
@@ -47,7 +62,7 @@ pub(crate) fn texts_of(
     Ok(Texts {
         setup: Word::of(alloc, command.setup.as_bytes())?,
         log: Word::of(alloc, command.log.as_bytes())?,
-        bytes: write_accounts(alloc, &basis.setup, &recovered.ledger)?,
+        bytes: write_accounts(alloc, setup, &recovered.ledger)?,
         line: recovery_line(alloc, recovery)?,
         recovery,
     })

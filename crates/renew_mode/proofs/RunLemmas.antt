@@ -7,6 +7,7 @@ use Rattle.outside.proofs.Told.{Goes-same, Goes-then}
 use Rattle.file_front.proofs.FrontLemmas.{SameFiles-then}
 use Rattle.request_catalogue.specs.declared.texts.Name.{Name}
 use Rattle.request_catalogue.specs.TextBytes.{name_bytes}
+use Rattle.policy_model.specs.Settings.{Settings}
 use Rattle.otp_extended.specs.declared.renewal.Renewed.{Renewed}
 use Rattle.otp_extended.specs.declared.run.Renewal.{Renewal}
 use Rattle.otp_extended.specs.declared.run.RenewalFault.{RenewalFault}
@@ -19,6 +20,7 @@ use Rattle.renew_mode.specs.declared.basis.Basis.{Basis}
 use Rattle.renew_mode.specs.declared.texts.Texts.{Texts}
 use Rattle.renew_mode.specs.Bases.{HasBasis, IsFileError}
 use Rattle.renew_mode.specs.Errors.{may_be_written}
+use Rattle.renew_mode.specs.Installing.{IsInstalling}
 use Rattle.renew_mode.specs.Outcome.{IsOutcome, IsRead, Spares}
 use Rattle.renew_mode.specs.Renewing.{AreTexts, IsMade, IsPut, IsRenewing}
 use Rattle.renew_mode.proofs.RenewLemmas.{HasBasis-before}
@@ -45,19 +47,25 @@ same-may_be_replaced name bytes = Goes-then SameFiles (MayBeReplaced name bytes)
 nothing-received : (link : Option Link) → Goes OnlyReceived link link
 nothing-received link = Goes-same OnlyReceived (λ l. record { received = []; few = omega arith; passed = Exchanged-none l }) link
 
+-- of an input that renews
+only-received : (setup : Settings) (dictionary : List (List ℕ)) (user : Name) (renewal : Renewal) (before after : Option Link) → Goes (renewals.Comes setup dictionary user (Ok renewal)) before after → Goes OnlyReceived before after
+only-received setup dictionary user renewal before None goes = tt
+only-received setup dictionary user renewal None (Some after) goes = absurd goes
+only-received setup dictionary user renewal (Some before) (Some after) goes = goes.received
+
 -- ---- where the setup and the word list were read
 
 -- what failed of the writing and the sending
-pub IsRenewing-put : {parts : RenewParts} {basis : Basis} (R E E' : Type 0) (renewed : Renewed) (texts : Texts) (a c : Option Contents) (before between after : Option Link) (error : RenewError) → IsMade parts basis renewed texts before between → (E → E') → IsPut texts a c between after R E (Err error) → IsRenewing parts basis a c before after R E' (Err error)
-IsRenewing-put R E E' renewed texts a c before between after errors.ReplaceFailed made e put = (texts, between, renewed, made, put)
-IsRenewing-put R E E' renewed texts a c before between after errors.SendFailed made e put = (texts, between, renewed, made, (e put.0, put.1, put.2))
-IsRenewing-put R E E' renewed texts a c before between after errors.ReadFailed made e put = absurd put
-IsRenewing-put R E E' renewed texts a c before between after errors.SetupMissing made e put = absurd put
-IsRenewing-put R E E' renewed texts a c before between after (errors.SetupRefused fault) made e put = absurd put
-IsRenewing-put R E E' renewed texts a c before between after errors.WordsMissing made e put = absurd put
-IsRenewing-put R E E' renewed texts a c before between after (errors.WordsRefused fault) made e put = absurd put
-IsRenewing-put R E E' renewed texts a c before between after (errors.NoRenewal fault) made e put = absurd put
-IsRenewing-put R E E' renewed texts a c before between after errors.OutOfMemory made e put = absurd put
+pub IsInstalling-put : {parts : RenewParts} {renewal : Renewal} (R E : Type 0) (texts : Texts) (a c : Option Contents) (between after : Option Link) (error : RenewError) → AreTexts parts renewal texts → IsPut texts a c between after R E (Err error) → IsInstalling parts renewal a c between after R E (Err error)
+IsInstalling-put R E texts a c between after errors.ReplaceFailed are put = (texts, are, put)
+IsInstalling-put R E texts a c between after errors.SendFailed are put = (texts, are, put)
+IsInstalling-put R E texts a c between after errors.ReadFailed are put = absurd put
+IsInstalling-put R E texts a c between after errors.SetupMissing are put = absurd put
+IsInstalling-put R E texts a c between after (errors.SetupRefused fault) are put = absurd put
+IsInstalling-put R E texts a c between after errors.WordsMissing are put = absurd put
+IsInstalling-put R E texts a c between after (errors.WordsRefused fault) are put = absurd put
+IsInstalling-put R E texts a c between after (errors.NoRenewal fault) are put = absurd put
+IsInstalling-put R E texts a c between after errors.OutOfMemory are put = absurd put
 
 -- the input renews nothing
 pub IsRenewing-none : {parts : RenewParts} {basis : Basis} {E : Type 0} (R : Type 0) (user : Name) (contents : Option Contents) (before after : Option Link) (fault : RenewalFault) → name_bytes user ≡ parts.user → renewals.IsOutcome basis.setup basis.dictionary user before after E (Err fault) → IsRenewing parts basis contents contents before after R E (Err (errors.NoRenewal fault))
@@ -98,13 +106,29 @@ IsOutcome-unread parts a b link R P E errors.ReplaceFailed why goes = absurd why
 IsOutcome-unread parts a b link R P E errors.SendFailed why goes = absurd why
 
 -- the line and the bytes of a renewal of a user
-pub IsMade-of : (parts : RenewParts) (basis : Basis) (user : Name) (renewal : Renewal) (texts : Texts) (before between : Option Link) → name_bytes user ≡ parts.user → Goes (renewals.Comes basis.setup basis.dictionary user (Ok renewal)) before between → AreTexts parts renewal texts → IsMade parts basis renewal.renewed texts before between
-IsMade-of parts basis user renewal texts before between named comes texts_are = record {
+IsMade-of : (parts : RenewParts) (basis : Basis) (user : Name) (renewal : Renewal) (renewed : Renewed) (texts : Texts) (before between : Option Link) → name_bytes user ≡ parts.user → Goes (renewals.Comes basis.setup basis.dictionary user (Ok renewal)) before between → renewed ≡ renewal.renewed → AreTexts parts renewal texts → IsMade parts basis renewed texts before between
+IsMade-of parts basis user renewal renewed texts before between named comes is texts_are = record {
   renewal = renewal;
-  renewed_is = refl;
+  renewed_is = is;
   received = record { user = user; named = named; comes = comes };
   texts_are = texts_are;
 }
+
+-- what was installed of a response that renews the account
+pub IsRenewing-installed : (parts : RenewParts) (basis : Basis) (R E E' : Type 0) (user : Name) (renewal : Renewal) (a c : Option Contents) (before between after : Option Link) (result : Result Renewed RenewError) → name_bytes user ≡ parts.user → Goes (renewals.Comes basis.setup basis.dictionary user (Ok renewal)) before between → (E → E') → IsInstalling parts renewal a c between after R E result → IsRenewing parts basis a c before after R E' result
+IsRenewing-installed parts basis R E E' user renewal a c before between after (Ok renewed) named comes e h =
+    (h.1, between, IsMade-of parts basis user renewal renewed h.1 before between named comes h.0 h.2, h.3)
+IsRenewing-installed parts basis R E E' user renewal a c before between after (Err errors.OutOfMemory) named comes e h = rw (h.0, h.1) (only-received _ _ user renewal before between comes, same-files a)
+IsRenewing-installed parts basis R E E' user renewal a c before between after (Err errors.ReplaceFailed) named comes e h =
+    (h.0, between, renewal.renewed, IsMade-of parts basis user renewal renewal.renewed h.0 before between named comes refl h.1, h.2)
+IsRenewing-installed parts basis R E E' user renewal a c before between after (Err errors.SendFailed) named comes e h =
+    (h.0, between, renewal.renewed, IsMade-of parts basis user renewal renewal.renewed h.0 before between named comes refl h.1, (e h.2.0, h.2.1, h.2.2))
+IsRenewing-installed parts basis R E E' user renewal a c before between after (Err errors.ReadFailed) named comes e h = absurd h.2
+IsRenewing-installed parts basis R E E' user renewal a c before between after (Err errors.SetupMissing) named comes e h = absurd h.2
+IsRenewing-installed parts basis R E E' user renewal a c before between after (Err (errors.SetupRefused fault)) named comes e h = absurd h.2
+IsRenewing-installed parts basis R E E' user renewal a c before between after (Err errors.WordsMissing) named comes e h = absurd h.2
+IsRenewing-installed parts basis R E E' user renewal a c before between after (Err (errors.WordsRefused fault)) named comes e h = absurd h.2
+IsRenewing-installed parts basis R E E' user renewal a c before between after (Err (errors.NoRenewal fault)) named comes e h = absurd h.2
 
 -- ---- what is written
 

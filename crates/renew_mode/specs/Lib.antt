@@ -1,4 +1,5 @@
 pub mod Errors
 pub mod Bases
 pub mod Renewing
+pub mod Installing
 pub mod Outcome

@@ -5,13 +5,14 @@ ghost use Rattle.outside.specs.Files.{SameFiles};
 ghost use Rattle.outside.specs.Told.{Goes, Rose};
 ghost use Rattle.otp_extended.specs.Commands.{command_parts};
 ghost use Rattle.renew_mode.specs.Errors.{ends_before_input, may_be_written, status_of};
+ghost use Rattle.renew_mode.specs.Installing.{IsInstalling};
 ghost use Rattle.renew_mode.specs.Outcome.{IsOutcome, Spares};
 ghost use Rattle.renew_mode.specs.Renewing.{IsPut, IsRenewing};
 
 use crate::basis::{Basis, read_basis};
 use crate::error::RenewError;
 use crate::texts::{Texts, texts_of};
-use otp_extended::{RenewCommand, Renewed, receive_renewal};
+use otp_extended::{RenewCommand, Renewal, Renewed, receive_renewal};
 use outside::{Files, Stream};
 use std::alloc::Global;
 
@@ -73,7 +74,26 @@ fn renew_account<F: Files, E: Stream>(
     ensures faults { E.faults ends.old ≤ E.faults ends.new }
 {
     let renewal = receive_renewal(alloc, &basis.setup, &basis.dictionary, &command.user, ends)?;
-    let texts = texts_of(alloc, command, &renewal)?;
+    install(alloc, command, &renewal, files, ends)
+}
+
+/// Writes the setup of a renewal, and then tells it. That the renewal stays with the caller is what
+/// keeps the proof short.
+fn install<F: Files, E: Stream>(
+    alloc: Global,
+    command: &RenewCommand<'_>,
+    renewal: &Renewal,
+    files: &mut F,
+    ends: &mut E,
+) -> Result<Renewed, RenewError>
+    ensures outcome { IsInstalling (command_parts command.now) renewal.now (F.contents files.old) (F.contents files.new)
+        (E.link ends.old) (E.link ends.new) (Rose (F.replace_faults files.old) (F.replace_faults files.new))
+        (Rose (E.faults ends.old) (E.faults ends.new)) result }
+    ensures read_faults { F.read_faults files.old ≤ F.read_faults files.new }
+    ensures replace_faults { F.replace_faults files.old ≤ F.replace_faults files.new }
+    ensures faults { E.faults ends.old ≤ E.faults ends.new }
+{
+    let texts = texts_of(alloc, command, renewal)?;
     put(&texts, files, ends)?;
     Ok(renewal.renewed)
 }

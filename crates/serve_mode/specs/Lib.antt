@@ -4,3 +4,4 @@ pub mod Services
 pub mod Errors
 pub mod Headline
 pub mod Steps
+pub mod Finished

@@ -4,6 +4,7 @@ ghost use Rattle.std.specs.Prelude.{◌≡◌, [], Err};
 ghost use Rattle.monitor_run.specs.Prepared.{LogStays};
 ghost use Rattle.outside.specs.Told.{Rose};
 ghost use Rattle.serve_mode.specs.Commands.{source_of};
+ghost use Rattle.serve_mode.specs.Finished.{IsFinished};
 ghost use Rattle.serve_mode.specs.Headline.{ServeEnded};
 ghost use Rattle.serve_mode.specs.Steps.{run_end};
 ghost use Rattle.serve_mode.specs.Words.{Plain};
@@ -15,7 +16,7 @@ use crate::reading::make_ready;
 use crate::serving::serve;
 use monitor_run::Ran;
 use outside::{Files, Sink, Site};
-use policy_model::{Event, has_lost};
+use policy_model::{Event, Setup, has_lost};
 use service_reading::Information;
 use std::alloc::Global;
 use std::sync::Wait;
@@ -60,6 +61,40 @@ fn run_end(written: Result<(), ServeError>, lost: bool, failed: bool) -> Result<
     }
 }
 
+/// Writes the accounts of a run back, and says how it ended. Its parts are taken apart here, and not
+/// beside what it ran by: that keeps the proof short.
+fn finish<F: Files, P, K>(
+    alloc: Global,
+    command: &ServeCommand<'_>,
+    setup: &Setup,
+    ran: Ran<P, K>,
+    files: &mut F,
+) -> Served<P, K>
+    requires { ran.core.ledger.setup ≡ setup.now }
+    ensures finished { IsFinished (source_of command.now) setup.now ran.core.ledger ran.journal.items ran.accept_failed
+        (F.contents files.old) (F.contents files.new) (Rose (F.replace_faults files.old) (F.replace_faults files.new)) result.end }
+    ensures journal { result.journal ≡ ran.journal }
+    ensures log { result.log ≡ ran.log }
+    ensures posts { result.posts ≡ ran.posts }
+    ensures plain { source_of command.now ≡ Plain → files.new ≡ files.old }
+    ensures read_faults { F.read_faults files.new ≡ F.read_faults files.old }
+{
+    let Ran {
+        core,
+        journal,
+        log,
+        posts,
+        accept_failed,
+    } = ran;
+    let written = write_back(alloc, command, setup, &core, files);
+    Served {
+        end: run_end(written, has_lost(&journal), accept_failed),
+        journal,
+        log,
+        posts,
+    }
+}
+
 /// Runs the mode: reads the setup and its word list, sees that the durable log that is named, if one is,
 /// has no record, takes all memory of the run, listens, serves all
 /// connections of all workers, and writes the accounts back to the setup's file, also where the run
@@ -87,22 +122,7 @@ pub fn run_serve<F: Files, S: Site, K: Sink, I: Information + Sync, R: Threads +
 {
     match make_ready(alloc, command, files, information) {
         Ok(house) => match serve(rt, alloc, &house, site, log) {
-            Ok(ran) => {
-                let Ran {
-                    core,
-                    journal,
-                    log,
-                    posts,
-                    accept_failed,
-                } = ran;
-                let written = write_back(alloc, command, &house.setup, &core, files);
-                Served {
-                    end: run_end(written, has_lost(&journal), accept_failed),
-                    journal,
-                    log,
-                    posts,
-                }
-            }
+            Ok(ran) => finish(alloc, command, &house.setup, ran, files),
             Err((error, log)) => unserved(alloc, error, log),
         },
         Err(error) => unserved(alloc, error, log),

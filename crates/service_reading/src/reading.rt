@@ -1,6 +1,8 @@
 //! The reading.
 
-ghost use Rattle.std.specs.Prelude.{◌≡◌, ◌≤◌, Err, IfOk};
+ghost use Rattle.std.specs.Prelude.{◌≡◌, ◌≤◌, Err, IfOk, Ok};
+ghost use Rattle.file_front.specs.declared.list.ListError.{ListError};
+ghost use Rattle.file_front.specs.Lists.{IsJudgedSo, IsListFault};
 ghost use Rattle.outside.specs.Files.{SameFiles};
 ghost use Rattle.outside.specs.Told.{Goes, Rose};
 ghost use Rattle.service_reading.specs.declared.error.ServiceError.{ServiceError};
@@ -10,7 +12,7 @@ ghost use Rattle.service_reading.specs.Found.{IsServiceIn};
 use crate::error::ServiceError;
 use crate::information::Information;
 use crate::informed::informed;
-use file_front::read_list;
+use file_front::{ListError, read_list};
 use otp_words::Dictionary;
 use outside::Files;
 use policy_model::Setup;
@@ -45,10 +47,26 @@ pub fn read_service<F: Files, I: Information>(
 {
     let setup = read_setup_file(alloc, files, name)?;
     match informed(setup, information) {
-        Ok(setup) => {
-            let dictionary = read_list(alloc, files, setup.parts().words.as_str())?;
-            Ok(ServiceParts { setup, dictionary })
-        }
+        Ok(setup) => Ok(with_list(alloc, files, setup)?),
         Err(fault) => Err(ServiceError::SetupRefused(fault)),
     }
+}
+
+/// A setup with the word list that it names, which is read here. That it is read apart from the setup's
+/// own file is what keeps the proof short.
+fn with_list<F: Files>(
+    alloc: Global,
+    files: &mut F,
+    setup: Setup,
+) -> Result<ServiceParts, ListError>
+    ensures setup { IfOk result (λ parts. parts.setup ≡ setup) }
+    ensures words { IfOk result (λ parts. IsJudgedSo (F.contents files.new) setup.words (Ok parts.dictionary)) }
+    ensures fault { (error : ListError) → result ≡ Err error → IsListFault (F.contents files.new)
+        setup.words (Rose (F.read_faults files.old) (F.read_faults files.new)) error }
+    ensures kept { Goes SameFiles (F.contents files.old) (F.contents files.new) }
+    ensures read_faults { F.read_faults files.old ≤ F.read_faults files.new }
+    ensures replace_faults { F.replace_faults files.old ≤ F.replace_faults files.new }
+{
+    let dictionary = read_list(alloc, files, setup.parts().words.as_str())?;
+    Ok(ServiceParts { setup, dictionary })
 }

@@ -1,4 +1,4 @@
-use Rattle.std.proofs.Common.{◌≡◌, Err, sym, subst, ◌∙◌, refl}
+use Rattle.std.proofs.Common.{◌≡◌, Err, sym, subst, ◌∙◌}
 use Rattle.std.proofs.lemmas.Result.{err_from_is_err_and}
 use Rattle.recover_mode.specs.Errors.{error_of_log}
 use Rattle.recover_mode.specs.Recovering.{IsLogError}
@@ -13,19 +13,21 @@ returns-in_err-recovered-clause-error c = λ error is.
     let basis = c.args.basis.now in
     subst (IsLogError basis.setup basis.image.items) same (IsLogError-of basis.setup basis.image.items handed c.in_err-recovered.ensures)
 
-pub write_accounts-requires : goal.write_accounts-requires
-write_accounts-requires c =
+pub recovered_texts-requires : goal.recovered_texts-requires
+recovered_texts-requires c =
     let some = c.in_ok-recovered.ensures.log in
     (c.in_ok-recovered.ensures.exact some.records some.has).ledger.made
 
 pub returns-clause-texts : goal.returns-clause-texts
-returns-clause-texts c = record {
-  recovered = c.in_ok-recovered.recovered;
-  answered = c.in_ok-recovered.ensures;
-  setup_file = c.in_ok-of.ensures ∙ c.as_bytes.ensures.value;
-  log_file = c.in_ok-of-2.ensures ∙ c.as_bytes-2.ensures.value;
-  spelled = c.in_ok-write_accounts.ensures.current;
-  lines = refl;
-  accepted = refl;
-  line = c.in_ok-recovery_line.ensures;
-}
+returns-clause-texts c =
+    let texts = c.in_ok-recovered_texts.ensures in
+    record {
+      recovered = c.in_ok-recovered.recovered;
+      answered = c.in_ok-recovered.ensures;
+      setup_file = texts.setup_file;
+      log_file = texts.log_file;
+      spelled = texts.spelled;
+      lines = texts.lines;
+      accepted = texts.accepted;
+      line = texts.line;
+    }

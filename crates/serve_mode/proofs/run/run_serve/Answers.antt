@@ -1,12 +1,12 @@
-use Rattle.std.proofs.Common.{◌≡◌, [], sym, ap, subst, ◌∙◌}
+use Rattle.std.proofs.Common.{◌≡◌, [], sym, subst}
 use Rattle.monitor_run.specs.Headline.{RunPromises}
 use Rattle.outside.specs.Told.{Gains, Rose}
 use Rattle.outside.proofs.Told.{Gains-none}
-use Rattle.policy_model.specs.Journal.{has_lost}
 use Rattle.service_model.specs.Service.{Service}
 use Rattle.serve_mode.proofs.StillLemmas.{IsServiceOf, read_by, read_is}
 use Rattle.serve_mode.specs.Commands.{source_of}
-use Rattle.serve_mode.specs.Steps.{run_end, service_by}
+use Rattle.serve_mode.specs.Headline.{ServeEnded}
+use Rattle.serve_mode.specs.Steps.{service_by}
 use Rattle.serve_mode.proofs.Promises.{not_served_why, served_ended, told_before, unready_why, unserved_ended, writes_more}
 use Rattle.serve_mode.proofs.run.run_serve.Goals as goal
 
@@ -18,23 +18,27 @@ returns-in-Ok-serve-clause-ended g c =
     let house = c.in-Ok.house in
     let old = g.F.Files.contents c.args.files.now in
     let mid = g.F.Files.contents c.make_ready.new.files in
-    let new = g.F.Files.contents c.write_back-written.new.files in
+    let new = g.F.Files.contents c.finish.new.files in
     let ran = c.in-Ok-serve.ran in
     let journal = ran.journal.items in
-    let written = c.write_back-written.result in
+    let done = c.finish.result in
+    let finished = c.finish.ensures.finished in
+    let written = finished.written in
     let service = service_by house.setup house.dictionary forms in
     let first = g.F.Files.replace_faults c.args.files.now in
-    let last = g.F.Files.replace_faults c.write_back-written.new.files in
-    let writes = writes_more source house.setup ran.core.ledger mid new first (g.F.Files.replace_faults c.make_ready.new.files) last written c.make_ready.ensures.replace_faults c.write_back-written.ensures.written in
-    let ended = c.run_end.ensures ∙ ap (λ b. run_end written b ran.accept_failed) (c.has_lost.ensures ∙ ap has_lost c.deref.ensures.value) in
-    let ReadRose = Rose (g.F.Files.read_faults c.args.files.now) (g.F.Files.read_faults c.write_back-written.new.files) in
+    let last = g.F.Files.replace_faults c.finish.new.files in
+    let writes = writes_more source house.setup ran.core.ledger mid new first (g.F.Files.replace_faults c.make_ready.new.files) last written c.make_ready.ensures.replace_faults finished.writes in
+    let ReadRose = Rose (g.F.Files.read_faults c.args.files.now) (g.F.Files.read_faults c.finish.new.files) in
     let ListenRose = Rose (g.S.Site.listen_faults c.args.site.now) (g.S.Site.listen_faults c.serve.new.site) in
     let promises = subst (λ i. RunPromises (service_by house.setup house.dictionary (g.I.Information.forms i)) ran.accept_failed journal ran.posts.items g.S.Post.Post.scene g.S.Post.Post.faults (g.K.Sink.held c.args.log) (g.K.Sink.held ran.log) (g.K.Sink.faults c.args.log) (g.K.Sink.faults ran.log)) c.in-Ok.ensures.information c.in-Ok-serve.ensures.promises in
     let telling = told_before source house.setup ran.core.ledger mid new (Rose first last) written writes in
     let same : (other : Service) → IsServiceOf source forms old new other → other ≡ service = λ other. read_is source forms old mid new house.setup house.dictionary other c.in-Ok.ensures.read c.make_ready.ensures.kept telling in
     let by = read_by source forms old mid new house.setup house.dictionary c.in-Ok.ensures.read c.in-Ok.ensures.fresh c.make_ready.ensures.kept telling in
-    served_ended source service ran.core.ledger written ran.accept_failed journal ran.posts.items g.S.Post.Post.scene g.S.Post.Post.faults old mid new (g.K.Sink.held c.args.log) (g.K.Sink.held ran.log) (g.K.Sink.faults c.args.log) (g.K.Sink.faults ran.log) ReadRose (Rose first last) ListenRose promises writes
-    forms _ (g.S.Site.listens c.args.site.now) (g.S.Site.listens c.serve.new.site) ended by same c.in-Ok-serve.ensures.some c.in-Ok-serve.ensures.ledger c.make_ready.ensures.kept c.in-Ok-serve.ensures.listens
+    let ended = served_ended source service ran.core.ledger written ran.accept_failed journal ran.posts.items g.S.Post.Post.scene g.S.Post.Post.faults old mid new (g.K.Sink.held c.args.log) (g.K.Sink.held ran.log) (g.K.Sink.faults c.args.log) (g.K.Sink.faults ran.log) ReadRose (Rose first last) ListenRose promises writes
+    forms done.end (g.S.Site.listens c.args.site.now) (g.S.Site.listens c.serve.new.site) finished.ended by same c.in-Ok-serve.ensures.some c.in-Ok-serve.ensures.ledger c.make_ready.ensures.kept c.in-Ok-serve.ensures.listens in
+    let by_journal = subst (λ j. ServeEnded source forms done.end j.items ran.posts.items g.S.Post.Post.scene g.S.Post.Post.faults old new (g.S.Site.listens c.args.site.now) (g.S.Site.listens c.serve.new.site) (g.K.Sink.held c.args.log) (g.K.Sink.held ran.log) ReadRose (Rose first last) ListenRose (Rose (g.K.Sink.faults c.args.log) (g.K.Sink.faults ran.log))) (sym c.finish.ensures.journal) ended in
+    let by_posts = subst (λ p. ServeEnded source forms done.end done.journal.items p.items g.S.Post.Post.scene g.S.Post.Post.faults old new (g.S.Site.listens c.args.site.now) (g.S.Site.listens c.serve.new.site) (g.K.Sink.held c.args.log) (g.K.Sink.held ran.log) ReadRose (Rose first last) ListenRose (Rose (g.K.Sink.faults c.args.log) (g.K.Sink.faults ran.log))) (sym c.finish.ensures.posts) by_journal in
+    subst (λ l. ServeEnded source forms done.end done.journal.items done.posts.items g.S.Post.Post.scene g.S.Post.Post.faults old new (g.S.Site.listens c.args.site.now) (g.S.Site.listens c.serve.new.site) (g.K.Sink.held c.args.log) (g.K.Sink.held l) ReadRose (Rose first last) ListenRose (Rose (g.K.Sink.faults c.args.log) (g.K.Sink.faults l))) (sym c.finish.ensures.log) by_posts
 
 -- memory was wanted, or the site could not listen
 pub returns-in-Ok-clause-ended : goal.returns-in-Ok-clause-ended

@@ -1,9 +1,10 @@
-use Rattle.std.proofs.Common.{◌≡◌, refl, subst, ap, arith, ◌∙◌}
+use Rattle.std.proofs.Common.{◌≡◌, refl, subst, sym, arith}
 use Rattle.std.proofs.lemmas.Result.{err_from_is_err_and}
 use Rattle.outside.specs.Told.{Rose}
 use Rattle.outside.proofs.Told.{Rose-within}
 use Rattle.policy_model.specs.Settings.{Settings}
 use Rattle.service_reading.specs.Errors.{IsServiceError, error_of_list, error_of_setup}
+use Rattle.service_reading.specs.Found.{IsServiceIn}
 use Rattle.service_reading.proofs.Found.{list_unread, service_read, setup_unread}
 use Rattle.service_reading.proofs.reading.read_service.Goals as goal
 
@@ -14,25 +15,28 @@ returns-in_err-setup-clause-error g c = λ error is.
     subst (IsServiceError (g.I.Information.forms c.args.information.now) (g.F.Files.contents c.read_setup_file.new.files) c.args.name.now (Rose (g.F.Files.read_faults c.args.files.now) (g.F.Files.read_faults c.read_setup_file.new.files))) same
     (setup_unread (g.I.Information.forms c.args.information.now) (g.F.Files.contents c.read_setup_file.new.files) c.args.name.now _ c.in_err-setup.field-0.0 (c.in_err-setup.ensures.error c.in_err-setup.field-0.0 refl))
 
-pub returns-in_err-dictionary-in-Ok-clause-error : goal.returns-in_err-dictionary-in-Ok-clause-error
-returns-in_err-dictionary-in-Ok-clause-error g c = λ error is.
+pub returns-in_err-with_list-in-Ok-clause-error : goal.returns-in_err-with_list-in-Ok-clause-error
+returns-in_err-with_list-in-Ok-clause-error g c = λ error is.
     let forms = g.I.Information.forms c.args.information.now in
     let contents = g.F.Files.contents in
     let count = g.F.Files.read_faults in
     let old = c.args.files.now in
     let mid = c.read_setup_file.new.files in
-    let new = c.read_list.new.files in
-    let p = err_from_is_err_and c.from_residual-in_err-dictionary-in-Ok.result c.from_residual-in_err-dictionary-in-Ok.ensures.1 in
-    let same : error_of_list c.in_err-dictionary-in-Ok.field-0.0 ≡ error = cc in
-    let named : c.as_str.result.now ≡ c.in-Ok.setup.words = c.as_str.ensures ∙ ap (λ (s : Settings). s.words) c.parts.ensures.value in
+    let new = c.with_list.new.files in
+    let p = err_from_is_err_and c.from_residual-in_err-with_list-in-Ok.result c.from_residual-in_err-with_list-in-Ok.ensures.1 in
+    let same : error_of_list c.in_err-with_list-in-Ok.field-0.0 ≡ error = cc in
     subst (IsServiceError forms (contents new) c.args.name.now (Rose (count old) (count new))) same
-    (list_unread forms (contents mid) (contents new) c.args.name.now c.as_str.result.now (Rose (count mid) (count new)) (Rose (count old) (count new)) c.in_ok-setup.setup c.in-Ok.setup c.in_err-dictionary-in-Ok.field-0.0 c.in_ok-setup.ensures.setup c.in-Ok.ensures c.in_err-dictionary-in-Ok.ensures.kept
-    named (λ rose. Rose-within (count old) (count mid) (count new) (count new) c.in_ok-setup.ensures.read_faults rose (omega arith))
-    (c.in_err-dictionary-in-Ok.ensures.fault c.in_err-dictionary-in-Ok.field-0.0 refl))
+    (list_unread forms (contents mid) (contents new) c.args.name.now c.in-Ok.setup.words (Rose (count mid) (count new)) (Rose (count old) (count new)) c.in_ok-setup.setup c.in-Ok.setup c.in_err-with_list-in-Ok.field-0.0 c.in_ok-setup.ensures.setup c.in-Ok.ensures c.in_err-with_list-in-Ok.ensures.kept
+    refl (λ rose. Rose-within (count old) (count mid) (count new) (count new) c.in_ok-setup.ensures.read_faults rose (omega arith))
+    (c.in_err-with_list-in-Ok.ensures.fault c.in_err-with_list-in-Ok.field-0.0 refl))
 
-pub returns-in_ok-dictionary-in-Ok-clause-service : goal.returns-in_ok-dictionary-in-Ok-clause-service
-returns-in_ok-dictionary-in-Ok-clause-service g c =
+pub returns-in_ok-with_list-in-Ok-clause-service : goal.returns-in_ok-with_list-in-Ok-clause-service
+returns-in_ok-with_list-in-Ok-clause-service g c =
+    let forms = g.I.Information.forms c.args.information.now in
     let contents = g.F.Files.contents in
-    let named : c.as_str.result.now ≡ c.in-Ok.setup.words = c.as_str.ensures ∙ ap (λ (s : Settings). s.words) c.parts.ensures.value in
-    service_read (g.I.Information.forms c.args.information.now) (contents c.read_setup_file.new.files) (contents c.read_list.new.files) c.args.name.now c.as_str.result.now c.in_ok-setup.setup c.in-Ok.setup c.in_ok-dictionary-in-Ok.dictionary
-    c.in_ok-setup.ensures.setup c.in-Ok.ensures c.in_ok-dictionary-in-Ok.ensures.kept named c.in_ok-dictionary-in-Ok.ensures.words
+    let new = contents c.with_list.new.files in
+    let parts = c.in_ok-with_list-in-Ok.field-0 in
+    let ensures = c.in_ok-with_list-in-Ok.ensures in
+    subst (λ (s : Settings). IsServiceIn forms new c.args.name.now s parts.dictionary) (sym ensures.setup)
+    (service_read forms (contents c.read_setup_file.new.files) new c.args.name.now c.in-Ok.setup.words c.in_ok-setup.setup c.in-Ok.setup parts.dictionary
+    c.in_ok-setup.ensures.setup c.in-Ok.ensures ensures.kept refl ensures.words)

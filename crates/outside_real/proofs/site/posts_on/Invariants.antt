@@ -1,7 +1,7 @@
 use Rattle.std.proofs.Common.{◌≡◌, vec_len}
 use Rattle.std.specs.Prelude.{All}
 use Rattle.outside_real.specs.RealPost.{IsFreshPost, IsPostAt}
-use Rattle.outside_real.proofs.site.open_posts.Given as goal
+use Rattle.outside_real.proofs.site.posts_on.Given as goal
 
 abbrev pub invariant-loop : goal.invariant-loop
 invariant-loop g l =

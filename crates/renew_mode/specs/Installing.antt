@@ -1,0 +1,19 @@
+-- Inner: what came of the writing of a renewal.
+use Rattle.std.specs.Prelude.{◌≡◌, Option, Result, Ok, Err}
+use Rattle.otp_extended.specs.declared.renewal.Renewed.{Renewed}
+use Rattle.otp_extended.specs.declared.run.Renewal.{Renewal}
+use Rattle.otp_extended.specs.Commands.{RenewParts}
+use Rattle.outside.specs.Files.{Contents}
+use Rattle.outside.specs.Link.{Link}
+use Rattle.renew_mode.specs.declared.error.RenewError.{RenewError}
+use Rattle.renew_mode.specs.declared.error.RenewError.TheVariants as errors
+use Rattle.renew_mode.specs.declared.texts.Texts.{Texts}
+use Rattle.renew_mode.specs.Renewing.{AreTexts, IsPut}
+
+-- the texts of a renewal were made and put, or what failed of that; where memory was wanted for them nothing was done
+abbrev pub IsInstalling : RenewParts → Renewal → Option Contents → Option Contents → Option Link → Option Link → Type 0 → Type 0 → Result Renewed RenewError → Type 0
+IsInstalling parts renewal old new before after ReplaceFailed EndsFailed (Ok renewed) =
+    (renewed ≡ renewal.renewed) × (texts : Texts) × AreTexts parts renewal texts × IsPut texts old new before after ReplaceFailed EndsFailed (Ok tt)
+IsInstalling parts renewal old new before after ReplaceFailed EndsFailed (Err errors.OutOfMemory) = (new ≡ old) × (after ≡ before)
+IsInstalling parts renewal old new before after ReplaceFailed EndsFailed (Err error) =
+    (texts : Texts) × AreTexts parts renewal texts × IsPut texts old new before after ReplaceFailed EndsFailed (Err error)
