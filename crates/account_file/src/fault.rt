@@ -76,7 +76,7 @@ pub struct SetupFault {
 }
 
 /// Why a setup file was not read.
-#[derive(Clone, Copy, PartialEq, Eq, Debug)]
+#[derive(Clone, Copy, PartialEq, Eq)]
 pub enum SetupError {
     Refused(SetupFault),
     OutOfMemory,
@@ -107,7 +107,7 @@ impl From<SetupFault> for SetupError {
 }
 
 /// Where a value stands: its key, and the place of its account from 1, or 0.
-#[derive(Clone, Copy, PartialEq, Eq, Debug)]
+#[derive(Clone, Copy, PartialEq, Eq)]
 pub struct Spot {
     pub key: SetupKey,
     pub account: u32,

@@ -12,7 +12,7 @@ ghost use Rattle.account_file.specs.Trees.{are_known};
 use toml::Table;
 
 /// A kind of table of a setup file.
-#[derive(Clone, Copy, PartialEq, Eq, Debug)]
+#[derive(Clone, Copy, PartialEq, Eq)]
 pub enum Level {
     /// The file's own table.
     File,

@@ -14,6 +14,3 @@ mod words;
 
 pub use fault::{SetupError, SetupFault, SetupKey, SetupRule};
 pub use reading::read_setup;
-
-#[cfg(test)]
-mod tests;

@@ -33,7 +33,7 @@ pub struct Texts<'a> {
 }
 
 /// The counts of a setup, and its hold.
-#[derive(Clone, Copy, PartialEq, Eq, Debug)]
+#[derive(Clone, Copy, PartialEq, Eq)]
 pub struct Counts {
     pub workers: u32,
     pub connections: u32,

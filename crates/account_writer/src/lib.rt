@@ -8,6 +8,3 @@ mod values;
 mod writing;
 
 pub use writing::write_accounts;
-
-#[cfg(test)]
-mod tests;

@@ -31,7 +31,7 @@ fn sequence(setup: &Setup, history: &History, account: u32) -> u64
 }
 
 /// What is kept of an account.
-#[derive(Clone, Copy, Debug)]
+#[derive(Clone, Copy)]
 pub(crate) struct Standing {
     pub(crate) enabled: bool,
     /// How many passwords its chain still has.

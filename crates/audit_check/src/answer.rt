@@ -1,7 +1,7 @@
 //! What an audit answers.
 
 /// Whether a text is a legal log.
-#[derive(Clone, Copy, PartialEq, Eq, Debug)]
+#[derive(Clone, Copy, PartialEq, Eq)]
 pub enum Audit {
     /// It is one of so many events.
     Yes { events: u32 },
@@ -10,7 +10,7 @@ pub enum Audit {
 }
 
 /// What is wrong with a line: the first that applies.
-#[derive(Clone, Copy, PartialEq, Eq, Debug)]
+#[derive(Clone, Copy, PartialEq, Eq)]
 pub enum AuditWhy {
     /// It is no line of a log.
     Text,

@@ -18,7 +18,7 @@ use request_catalogue::Name;
 use std::alloc::{AllocError, Global};
 
 /// Who took a user last and when, and who holds it.
-#[derive(Clone, Copy, Debug, PartialEq, Eq)]
+#[derive(Clone, Copy, PartialEq, Eq)]
 pub(crate) struct Hold {
     /// The session of the last taking, or 0.
     pub(crate) taker: u32,
@@ -29,7 +29,7 @@ pub(crate) struct Hold {
 
 /// What the events of a log so far say of each worker and each account of a setup. The events themselves are
 /// kept nowhere.
-#[derive(Debug, Drop)]
+#[derive(Drop)]
 pub(crate) struct History {
     /// How many events there are.
     pub(crate) count: u32,

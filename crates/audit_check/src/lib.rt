@@ -15,6 +15,3 @@ mod sessions;
 pub use answer::{Audit, AuditWhy};
 pub use auditing::audit;
 pub use laws::legal_logs_have_consequences;
-
-#[cfg(test)]
-mod tests;

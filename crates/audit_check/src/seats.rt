@@ -8,7 +8,7 @@ use policy_model::{Ask, Decision, Event};
 use request_catalogue::rules;
 
 /// What a worker's open session has come to.
-#[derive(Clone, Copy, Debug, PartialEq, Eq)]
+#[derive(Clone, Copy, PartialEq, Eq)]
 pub(crate) struct Seat {
     /// The open session, or 0: then nothing else counts.
     pub(crate) session: u32,

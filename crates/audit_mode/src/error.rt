@@ -11,7 +11,7 @@ use setup_reading::SetupFileError;
 use std::alloc::AllocError;
 
 /// Why the mode `audit` has no answer, or could not tell it.
-#[derive(Clone, Copy, PartialEq, Eq, Debug)]
+#[derive(Clone, Copy, PartialEq, Eq)]
 pub enum AuditError {
     /// A reading of the setup's file or of the log's failed.
     ReadFailed,

@@ -11,6 +11,3 @@ mod run;
 pub use command::{AuditCommand, read_audit_command};
 pub use error::AuditError;
 pub use run::{run_audit, status};
-
-#[cfg(test)]
-mod tests;

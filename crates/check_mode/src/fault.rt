@@ -7,7 +7,7 @@ use outside::Failed;
 use std::alloc::AllocError;
 
 /// Why the mode `check` found nothing, or could not tell what it found.
-#[derive(Clone, Copy, PartialEq, Eq, Debug)]
+#[derive(Clone, Copy, PartialEq, Eq)]
 pub enum CheckFault {
     /// A reading of the setup's file or of the word list's failed.
     ReadFailed,

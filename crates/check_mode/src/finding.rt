@@ -7,7 +7,7 @@ use account_file::SetupFault;
 use otp_words::DictFault;
 
 /// What the mode `check` finds of a setup.
-#[derive(Clone, Copy, PartialEq, Eq, Debug)]
+#[derive(Clone, Copy, PartialEq, Eq)]
 pub enum Finding {
     /// The setup and its word list are right; so many accounts, 0 to 1,024, and workers, 1 to 64.
     Right { accounts: usize, workers: u32 },

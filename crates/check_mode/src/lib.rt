@@ -12,6 +12,3 @@ pub use command::read_check_command;
 pub use fault::CheckFault;
 pub use finding::Finding;
 pub use run::run_check;
-
-#[cfg(test)]
-mod tests;

@@ -16,6 +16,3 @@ pub use laws::{exports_hand_to_the_verified_user, no_child_outlives_a_fault};
 pub use link::{LiveChild, PreLink, UserLink};
 pub use start::{finish_pre, finish_user, start_pre, start_user};
 pub use ticket::UserTicket;
-
-#[cfg(test)]
-mod tests;

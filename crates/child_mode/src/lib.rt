@@ -9,6 +9,3 @@ mod run;
 
 pub use command::{ChildCommand, read_child_command};
 pub use run::{ChildRun, run_child_mode};
-
-#[cfg(test)]
-mod tests;

@@ -18,7 +18,7 @@ use std::alloc::{AllocError, Global};
 const FRAME_LEN: usize = 16_384;
 
 /// What came of a mode.
-#[derive(Clone, Copy, PartialEq, Eq, Debug)]
+#[derive(Clone, Copy, PartialEq, Eq)]
 pub enum ChildRun {
     /// The child's run ended so.
     Ended(ChildEnd),

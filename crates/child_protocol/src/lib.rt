@@ -27,6 +27,3 @@ pub use child_core::ChildCore;
 pub use run::{ChildEnd, run_child};
 pub use turn::Turn;
 pub use user_child::UserChild;
-
-#[cfg(test)]
-mod tests;

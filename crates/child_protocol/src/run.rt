@@ -21,7 +21,7 @@ const PIECE_LEN: usize = 4_096;
 const RUN_MAX: usize = 4_097;
 
 /// Why a run ended.
-#[derive(Clone, Copy, PartialEq, Eq, Debug)]
+#[derive(Clone, Copy, PartialEq, Eq)]
 pub enum ChildEnd {
     /// The dialogue is over.
     Done,

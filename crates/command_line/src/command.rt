@@ -12,7 +12,7 @@ use outside::Word;
 use std::alloc::{AllocError, Global};
 
 /// The words of a command line: the mode, and the words behind it.
-#[derive(Debug, Drop)]
+#[derive(Drop)]
 pub struct CommandLine<'a> {
     /// The first word.
     pub mode: &'a str,

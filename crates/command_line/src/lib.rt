@@ -7,6 +7,3 @@
 mod command;
 
 pub use command::{CommandLine, read_command_line};
-
-#[cfg(test)]
-mod tests;

@@ -12,6 +12,3 @@ mod writing;
 pub use logged::{LineFault, Logged, LoggedAsk};
 pub use reading::read_line;
 pub use writing::line;
-
-#[cfg(test)]
-mod tests;

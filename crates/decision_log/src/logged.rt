@@ -4,7 +4,7 @@ use policy_model::{Decision, Why};
 use request_catalogue::{Label, Name, Note};
 
 /// What a line says was asked: an ask without a reply's readings.
-#[derive(Clone, Copy, PartialEq, Eq, Debug)]
+#[derive(Clone, Copy, PartialEq, Eq)]
 pub enum LoggedAsk {
     Begin,
     Banner,
@@ -25,7 +25,7 @@ pub enum LoggedAsk {
 }
 
 /// What a line says.
-#[derive(Clone, Copy, PartialEq, Eq, Debug)]
+#[derive(Clone, Copy, PartialEq, Eq)]
 pub struct Logged {
     pub number: u32,
     pub worker: u32,
@@ -35,7 +35,7 @@ pub struct Logged {
 }
 
 /// The fault of the first part that doesn't read.
-#[derive(Clone, Copy, PartialEq, Eq, Debug)]
+#[derive(Clone, Copy, PartialEq, Eq)]
 pub enum LineFault {
     /// A decimal number is missing, has a leading zero or exceeds its type.
     Number,

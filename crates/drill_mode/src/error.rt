@@ -8,7 +8,7 @@ use outside::Failed;
 use std::alloc::AllocError;
 
 /// Why the mode `drill` came to no journal, or could not tell its counts.
-#[derive(Clone, Copy, PartialEq, Eq, Debug)]
+#[derive(Clone, Copy, PartialEq, Eq)]
 pub enum DrillError {
     /// No memory was found.
     OutOfMemory,

@@ -13,6 +13,3 @@ mod run;
 pub use command::read_drill_command;
 pub use error::DrillError;
 pub use run::{run_drill, status};
-
-#[cfg(test)]
-mod tests;

@@ -14,6 +14,3 @@ pub use class::Class;
 pub use passwords::{own_algo, own_name, own_passwords, own_seed};
 pub use scripts::drill_scripts;
 pub use setup::{WORKERS, drill_setup};
-
-#[cfg(test)]
-mod tests;

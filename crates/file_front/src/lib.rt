@@ -7,6 +7,3 @@ mod list;
 
 pub use front::{FrontError, read_front};
 pub use list::{ListError, read_list};
-
-#[cfg(test)]
-mod tests;

@@ -17,7 +17,7 @@ use std::alloc::Global;
 const LIST_MAX: usize = 16_385;
 
 /// Why a word list was not read.
-#[derive(Clone, Copy, PartialEq, Eq, Debug)]
+#[derive(Clone, Copy, PartialEq, Eq)]
 pub enum ListError {
     /// A reading failed.
     Failed,

@@ -6,7 +6,7 @@ ghost use Rattle.std.specs.Prelude.{◌≡◌, ℕ, ◌-◌, ◌^◌, ◌<◌, �
 
 /// At most `N` bytes in a place of fixed size. The bytes behind the list are zero, so that equal
 /// lists are equal values.
-#[derive(Clone, Copy, Debug)]
+#[derive(Clone, Copy)]
 pub struct FixedList<const N: usize> {
     bytes: [u8; N],
     len: u16,
@@ -84,6 +84,3 @@ impl<const N: usize> Eq for FixedList<N> {
 
     ghost laws = { on_equiv list_of nat_list_eq_equiv };
 }
-
-#[cfg(test)]
-mod tests;

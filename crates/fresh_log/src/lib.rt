@@ -37,6 +37,3 @@ pub fn is_fresh<F: Files>(files: &mut F, name: &Word) -> Result<bool, Failed>
     let found = files.read(name, 0, &mut front)?;
     Ok(found.is_some_and(|n| &front[..n] == fresh_image().as_slice()))
 }
-
-#[cfg(test)]
-mod tests;

@@ -8,7 +8,7 @@ use crate::header::{HEADER_LEN, Header};
 use request_catalogue::Width;
 
 /// The body has more than 16,368 bytes, or 65,520 in wide frames, so that no frame can hold it.
-#[derive(Clone, Copy, PartialEq, Eq, Debug)]
+#[derive(Clone, Copy, PartialEq, Eq)]
 pub struct TooLong;
 
 /// Writes a frame with flags 0 to the front of `out`, and answers how many bytes it has: 16 and the

@@ -5,7 +5,7 @@ use crate::header::Header;
 use std::alloc::{AllocError, Global};
 
 /// A frame, whose body stays where the reader holds it.
-#[derive(Clone, Copy, PartialEq, Eq, Debug)]
+#[derive(Clone, Copy, PartialEq, Eq)]
 pub struct Frame<'a> {
     pub header: Header,
     /// The bytes behind the header, `header.len` less 16 of them.
@@ -13,7 +13,7 @@ pub struct Frame<'a> {
 }
 
 /// A frame with a body of its own.
-#[derive(PartialEq, Eq, Debug, Drop)]
+#[derive(PartialEq, Eq, Drop)]
 pub struct OwnedFrame {
     pub header: Header,
     /// The bytes behind the header, `header.len` less 16 of them.

@@ -11,7 +11,7 @@ pub const HEADER_LEN: usize = 16;
 const MARK: u32 = 0x8000_0000;
 
 /// A frame's header: in narrow frames `struct imsg_hdr` of imsg_init(3), in wide ones this project's own.
-#[derive(Clone, Copy, PartialEq, Eq, Debug)]
+#[derive(Clone, Copy, PartialEq, Eq)]
 pub struct Header {
     /// What the frame is about, the manual's `type`.
     pub kind: u32,

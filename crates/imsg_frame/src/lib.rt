@@ -30,6 +30,3 @@ pub use composing::{TooLong, a_narrow_frame_is_a_wide_one, compose, what_was_com
 pub use frame::{Frame, OwnedFrame};
 pub use header::{HEADER_LEN, Header};
 pub use reader::{Next, Reader};
-
-#[cfg(test)]
-mod tests;

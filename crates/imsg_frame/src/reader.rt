@@ -9,7 +9,7 @@ use std::alloc::{AllocError, Global};
 use std::marker::Model;
 
 /// What stands in front of the bytes that a reader holds.
-#[derive(Clone, Copy, PartialEq, Eq, Debug)]
+#[derive(Clone, Copy, PartialEq, Eq)]
 pub enum Next<'a> {
     /// A whole frame, which the reader holds no longer.
     Frame(Frame<'a>),

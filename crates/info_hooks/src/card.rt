@@ -8,7 +8,7 @@ use otp_hash::Algo;
 use request_catalogue::Name;
 
 /// What information may tell of a user.
-#[derive(Clone, Copy, PartialEq, Eq, Debug)]
+#[derive(Clone, Copy, PartialEq, Eq)]
 pub struct Card {
     pub name: Name,
     pub uid: u32,
@@ -18,7 +18,7 @@ pub struct Card {
 }
 
 /// A fixed text of a form, at most 32 bytes.
-#[derive(Clone, Copy, PartialEq, Eq, Debug)]
+#[derive(Clone, Copy, PartialEq, Eq)]
 pub struct Short {
     text: FixedList<32>,
 }
@@ -44,7 +44,7 @@ impl Short {
 }
 
 /// What a stored function says, at most 256 bytes.
-#[derive(Clone, Copy, PartialEq, Eq, Debug)]
+#[derive(Clone, Copy, PartialEq, Eq)]
 pub struct InfoText {
     text: FixedList<256>,
 }

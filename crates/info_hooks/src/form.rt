@@ -8,7 +8,7 @@ use crate::card::Short;
 const PIECES_MAX: usize = 8;
 
 /// A part of a form: a fixed text, or a part of the card.
-#[derive(Clone, Copy, Debug)]
+#[derive(Clone, Copy)]
 pub enum Piece {
     Fixed(Short),
     Name,
@@ -21,7 +21,7 @@ pub enum Piece {
 }
 
 /// At most eight pieces, one behind the other.
-#[derive(Clone, Copy, Debug)]
+#[derive(Clone, Copy)]
 pub struct Form {
     pieces: [Piece; 8],
     len: u8,

@@ -14,6 +14,3 @@ pub use card::{Card, InfoText, Short};
 pub use form::{Form, Piece};
 pub use hooks::{Hook, Hooks};
 pub use key::{HooksFault, Key};
-
-#[cfg(test)]
-mod tests;

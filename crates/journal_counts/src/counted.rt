@@ -7,7 +7,7 @@ ghost use Rattle.journal_counts.specs.CountsText.{kind_word};
 use policy_model::{Ask, Decision, Event, Why};
 
 /// For what kind of reason a session ended.
-#[derive(Clone, Copy, PartialEq, Eq, Debug)]
+#[derive(Clone, Copy, PartialEq, Eq)]
 pub enum EndKind {
     /// A permitted FINISH was answered.
     Finished,
@@ -62,7 +62,7 @@ impl EndKind {
 }
 
 /// What is counted of a journal.
-#[derive(Clone, Copy, PartialEq, Eq, Debug)]
+#[derive(Clone, Copy, PartialEq, Eq)]
 pub enum Counted {
     /// The sessions that were opened.
     Sessions,

@@ -7,6 +7,3 @@ mod text;
 
 pub use counted::{Counted, EndKind};
 pub use text::counts_text;
-
-#[cfg(test)]
-mod tests;

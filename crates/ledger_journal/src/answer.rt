@@ -4,7 +4,7 @@ use otp_ledger::Ledger;
 use std::alloc::AllocError;
 
 /// What a log brings back.
-#[derive(Debug, Drop)]
+#[derive(Drop)]
 pub struct Recovered {
     /// What is known of each account behind the log's last line.
     pub ledger: Ledger,
@@ -17,7 +17,7 @@ pub struct Recovered {
 }
 
 /// Why nothing is brought back.
-#[derive(Clone, Copy, PartialEq, Eq, Debug)]
+#[derive(Clone, Copy, PartialEq, Eq)]
 pub enum RecoverError {
     /// The image isn't that of a log: it doesn't begin with `OTJ1` and a further byte, or an opened
     /// record has fewer bytes than its length and the next gate.

@@ -13,6 +13,3 @@ mod spending;
 pub use answer::{RecoverError, Recovered};
 pub use login::Login;
 pub use recovery::recover;
-
-#[cfg(test)]
-mod tests;

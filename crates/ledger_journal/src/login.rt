@@ -1,7 +1,7 @@
 //! An accepted reply of a log.
 
 /// A reply that a line accepts.
-#[derive(Clone, Copy, PartialEq, Eq, Debug)]
+#[derive(Clone, Copy, PartialEq, Eq)]
 pub struct Login {
     /// The line's number.
     pub line: u32,

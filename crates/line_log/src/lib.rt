@@ -7,6 +7,3 @@ mod log;
 
 pub use line::{LINE_MAX, is_line};
 pub use log::LineLog;
-
-#[cfg(test)]
-mod tests;

@@ -4,7 +4,7 @@ use policy_model::Setup;
 use std::marker::Model;
 
 /// Bytes that a log held, seen as their list.
-#[derive(Debug, Drop)]
+#[derive(Drop)]
 pub struct Held {
     bytes: Vec<u8>,
 }
@@ -19,7 +19,7 @@ impl Model for Held {
 
 /// What is fixed of a book: its setup, and what its log told and counted when the book was made. It is for
 /// contracts alone; no value of it is made.
-#[derive(Debug, Drop)]
+#[derive(Drop)]
 pub struct Opened {
     pub setup: Setup,
     /// What the log held, where it tells that.

@@ -38,7 +38,7 @@ pub enum Command<'a> {
 }
 
 /// Why words were not read as a command.
-#[derive(Clone, Copy, PartialEq, Eq, Debug)]
+#[derive(Clone, Copy, PartialEq, Eq)]
 pub enum Unread {
     /// They are no command.
     NoCommand,

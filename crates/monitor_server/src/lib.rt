@@ -9,6 +9,3 @@ mod top;
 
 pub use report::{Detail, FileKind, Report};
 pub use top::otplogd;
-
-#[cfg(test)]
-mod tests;

@@ -14,7 +14,7 @@ use std::alloc::Global;
 pub(crate) const NO_MEMORY: u8 = 9;
 
 /// A file that the words of the command line, or the setup, name.
-#[derive(Clone, Copy, PartialEq, Eq, Debug)]
+#[derive(Clone, Copy, PartialEq, Eq)]
 pub enum FileKind {
     /// The setup.
     Setup,
@@ -25,7 +25,7 @@ pub enum FileKind {
 }
 
 /// What an exit status alone doesn't tell.
-#[derive(Clone, Copy, PartialEq, Eq, Debug)]
+#[derive(Clone, Copy, PartialEq, Eq)]
 pub enum Detail {
     /// There is no more to tell.
     Nothing,

@@ -15,7 +15,4 @@ pub use command::{RenewCommand, read_renew_command, renewed_line};
 pub use renewal::{RenewFault, Renewed, renew};
 pub use response::{Response, ResponseFault, read_response};
 pub use run::{Renewal, RenewalFault, receive_renewal};
-pub use setup::renewed;
-
-#[cfg(test)]
-mod tests;
+pub use setup::{parts_with, renewed};

@@ -9,7 +9,7 @@ use policy_model::{Account, Setup};
 use request_catalogue::Name;
 
 /// An account's new chain.
-#[derive(Clone, Copy, PartialEq, Eq, Debug)]
+#[derive(Clone, Copy, PartialEq, Eq)]
 pub struct Renewed {
     /// The number of the account, counted from 0.
     pub account: u32,

@@ -13,7 +13,7 @@ use otp_hash::{Algo, Seed};
 use otp_words::{Dictionary, candidates};
 
 /// A response of RFC 2243.
-#[derive(Clone, Copy, PartialEq, Eq, Debug)]
+#[derive(Clone, Copy, PartialEq, Eq)]
 pub enum Response {
     /// `hex:` or `word:` and a password.
     Plain {

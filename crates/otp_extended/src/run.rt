@@ -20,7 +20,7 @@ use request_catalogue::Name;
 use std::alloc::{AllocError, Global};
 
 /// What a response was taken to: the setup with the new chain, and what is new in it.
-#[derive(Debug, Drop)]
+#[derive(Drop)]
 pub struct Renewal {
     pub setup: Setup,
     pub renewed: Renewed,

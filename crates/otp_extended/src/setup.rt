@@ -68,7 +68,7 @@ fn copy_with(
 }
 
 /// A copy of the parts of a setup, with other accounts.
-pub(crate) fn parts_with(
+pub fn parts_with(
     alloc: Global,
     parts: &SetupParts,
     accounts: Accounts,

@@ -10,6 +10,3 @@ mod seed;
 pub use chain::{Algo, at, first, step};
 pub use name::algo_named;
 pub use seed::Seed;
-
-#[cfg(test)]
-mod tests;

@@ -12,7 +12,7 @@ use fixed_list::FixedList;
 const SEED_MAX: usize = 16;
 
 /// A seed: 1 to 16 lower-case ASCII letters and digits (RFC 2289, section 6.0).
-#[derive(Clone, Copy, PartialEq, Eq, Debug)]
+#[derive(Clone, Copy, PartialEq, Eq)]
 pub struct Seed {
     text: FixedList<16>,
     ghost legal: { is_seed (list_of text) ≡ true },

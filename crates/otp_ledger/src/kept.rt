@@ -8,7 +8,7 @@ ghost use Rattle.otp_ledger.specs.Kept.{AddsEntry, IsGap, IsHere, IsRising, has_
 use std::cmp::Ordering;
 
 /// A password of an account that was accepted.
-#[derive(Clone, Copy, Debug, PartialEq, Eq, PartialOrd, Ord)]
+#[derive(Clone, Copy, PartialEq, Eq, PartialOrd, Ord)]
 pub struct Kept {
     /// The account's number, counted from 0.
     pub account: u32,

@@ -17,7 +17,7 @@ use std::alloc::{AllocError, Global};
 use std::marker::Model;
 
 /// What an account's chain has come to.
-#[derive(Clone, Copy, Debug, PartialEq, Eq)]
+#[derive(Clone, Copy, PartialEq, Eq)]
 pub struct Current {
     /// How many passwords the chain still has, at most 9,999.
     pub sequence: u16,
@@ -27,7 +27,7 @@ pub struct Current {
 
 /// What the policy knows of each account: the accepted passwords, the sequence, the last taker and the
 /// holder.
-#[derive(Debug, Drop)]
+#[derive(Drop)]
 pub struct Ledger {
     setup: Setup,
     names: Vec<Named>,

@@ -13,6 +13,3 @@ mod rows;
 
 pub use kept::Kept;
 pub use ledger::{Current, Ledger};
-
-#[cfg(test)]
-mod tests;

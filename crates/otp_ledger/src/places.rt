@@ -9,7 +9,7 @@ use std::alloc::{AllocError, Global};
 /// For each account the place at which its entries are likely to begin. A search looks there first, and only
 /// where the entries around show that the account's stand nowhere else; so a wrong place costs time alone, and
 /// no contract speaks of it.
-#[derive(Debug, Drop)]
+#[derive(Drop)]
 pub(crate) struct Places {
     firsts: Vec<u32>,
 }

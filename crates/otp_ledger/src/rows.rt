@@ -7,7 +7,7 @@ use otp_hash::Algo;
 use policy_model::{Account, is_holder};
 
 /// What is kept of an account.
-#[derive(Clone, Copy, Debug, PartialEq, Eq)]
+#[derive(Clone, Copy, PartialEq, Eq)]
 pub(crate) struct AccountRow {
     pub(crate) algo: Algo,
     pub(crate) enabled: bool,

@@ -8,7 +8,7 @@ use otp_words::DictFault;
 use outside::Failed;
 
 /// Why the mode `otp` printed no password, or not the whole of it.
-#[derive(Clone, Copy, PartialEq, Eq, Debug)]
+#[derive(Clone, Copy, PartialEq, Eq)]
 pub enum OtpFault {
     /// A reading of the word list's file failed.
     ReadFailed,

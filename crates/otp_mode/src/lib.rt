@@ -13,6 +13,3 @@ pub use command::{OtpCommand, read_otp_command};
 pub use fault::OtpFault;
 pub use line::{LINE_MAX, line_in, receive_line};
 pub use run::run_otp;
-
-#[cfg(test)]
-mod tests;

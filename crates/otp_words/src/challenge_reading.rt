@@ -15,7 +15,7 @@ use crate::number::read_number;
 use otp_hash::{Algo, Seed};
 
 /// A challenge that was read from the front of a text.
-#[derive(Clone, Copy, PartialEq, Eq, Debug)]
+#[derive(Clone, Copy, PartialEq, Eq)]
 pub struct Challenge {
     pub algo: Algo,
     /// The number of the password that is asked for, 0 to 9,999.
@@ -27,7 +27,7 @@ pub struct Challenge {
 }
 
 /// A text that begins with no challenge.
-#[derive(Clone, Copy, PartialEq, Eq, Debug)]
+#[derive(Clone, Copy, PartialEq, Eq)]
 pub struct Unreadable;
 
 /// The pieces of a text behind the first word of a challenge.

@@ -27,7 +27,7 @@ pub struct DictFault {
 }
 
 /// Why a word list was not read.
-#[derive(Clone, Copy, PartialEq, Eq, Debug)]
+#[derive(Clone, Copy, PartialEq, Eq)]
 pub enum DictError {
     Refused(DictFault),
     OutOfMemory,

@@ -25,6 +25,3 @@ pub use number::read_number;
 pub use reading::candidates;
 pub use spellings::Candidates;
 pub use words::to_words;
-
-#[cfg(test)]
-mod tests;

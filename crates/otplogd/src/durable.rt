@@ -14,7 +14,7 @@ use std::rt::Files;
 pub(crate) type RunLog = RealLog<Stderr, HostRuntime>;
 
 /// Why a run has no log.
-#[derive(Clone, Copy, Debug)]
+#[derive(Clone, Copy)]
 pub(crate) enum LogError {
     /// Memory was wanted.
     OutOfMemory,

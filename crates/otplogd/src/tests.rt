@@ -111,7 +111,7 @@ fn each_status_has_its_line(rt: HostRuntime) -> Result<(), Fail> {
     for (status, detail, line) in rows {
         let complaint = Complaint { status, detail };
         let text = format!(in rt.alloc(); "{complaint}")?;
-        assert_eq!(rt; text.as_str(), line);
+        assert!(rt; text.as_str() == line);
     }
     Ok(())
 }

@@ -7,7 +7,7 @@ use request_catalogue::{Label, Name};
 pub struct Failed;
 
 /// Which child of a session a stream leads to.
-#[derive(Clone, Copy, PartialEq, Eq, Debug)]
+#[derive(Clone, Copy, PartialEq, Eq)]
 pub enum Role {
     /// The child before the login, of the session with this number.
     Pre { session: u32 },
@@ -16,7 +16,7 @@ pub enum Role {
 }
 
 /// What an accept came to.
-#[derive(Clone, Copy, PartialEq, Eq, Debug)]
+#[derive(Clone, Copy, PartialEq, Eq)]
 pub enum Accepted {
     /// A connection came.
     Came,
@@ -27,7 +27,7 @@ pub enum Accepted {
 }
 
 /// An operation that was asked of a post, with its outcome.
-#[derive(PartialEq, Debug, Drop)]
+#[derive(PartialEq, Drop)]
 pub enum Act {
     /// A connection was waited for.
     Accept {
@@ -79,7 +79,7 @@ pub enum Act {
 
 /// What passed between the monitor and a child that was given back: the bytes `taken` from the
 /// child and those `sent` to it, each in order.
-#[derive(PartialEq, Debug, Drop)]
+#[derive(PartialEq, Drop)]
 pub struct Talk {
     pub role: Role,
     pub taken: Bytes,

@@ -27,6 +27,3 @@ pub use post::Post;
 pub use sink::Sink;
 pub use site::Site;
 pub use stream::Stream;
-
-#[cfg(test)]
-mod tests;

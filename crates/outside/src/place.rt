@@ -4,7 +4,7 @@ use crate::bytes::Word;
 use std::alloc::{AllocError, Global};
 
 /// Where and how a site listens.
-#[derive(Debug, Drop)]
+#[derive(Drop)]
 pub struct Place {
     /// The path of the socket that clients connect to.
     pub socket: Word,

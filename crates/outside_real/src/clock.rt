@@ -2,7 +2,7 @@ use std::io;
 use std::time::{Clock, Instant};
 
 /// Milliseconds since a moment that is the same for all posts of one `listen`.
-#[derive(Clone, Copy, Debug)]
+#[derive(Clone, Copy)]
 pub struct PostClock {
     start: Option<Instant>,
     last: u64,

@@ -25,7 +25,4 @@ pub use post::RealPost;
 pub use sink::RealSink;
 pub use site::RealSite;
 pub use standard::fill_standard_streams;
-pub use stream::RealStream;
-
-#[cfg(test)]
-mod tests;
+pub use stream::{RealStream, close, launch};

@@ -1,7 +1,7 @@
 use std::time::Duration;
 
 /// How long others may keep a post waiting. Each is above 0.
-#[derive(Clone, Copy, Debug)]
+#[derive(Clone, Copy)]
 pub struct Limits {
     /// A client, in one reading or one writing.
     pub client: Duration,

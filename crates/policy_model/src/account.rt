@@ -8,7 +8,7 @@ use std::alloc::{AllocError, Global};
 use std::marker::Model;
 
 /// A file that a user may open, and how.
-#[derive(Clone, Copy, PartialEq, Eq, Debug)]
+#[derive(Clone, Copy, PartialEq, Eq)]
 pub struct Grant {
     pub name: Label,
     /// 1 to read, 2 to write, 3 for both.
@@ -16,7 +16,7 @@ pub struct Grant {
 }
 
 /// The grants of an account, at most 64 in a setup.
-#[derive(Debug, Drop)]
+#[derive(Drop)]
 pub struct Grants {
     items: Vec<Grant>,
 }
@@ -54,7 +54,7 @@ impl Grants {
 }
 
 /// A user that may log in.
-#[derive(Debug, Drop)]
+#[derive(Drop)]
 pub struct Account {
     pub name: Name,
     /// The user's number, 1 to 4,294,967,294 in a setup.
@@ -88,7 +88,7 @@ impl Account {
 }
 
 /// The accounts of a setup, at most 1,024.
-#[derive(Debug, Drop)]
+#[derive(Drop)]
 pub struct Accounts {
     items: Vec<Account>,
 }

@@ -15,7 +15,7 @@ use otp_hash::{Algo, Seed, first};
 use request_catalogue::Name;
 
 /// What a challenge names for a user that can't log in. Nobody can reply to it.
-#[derive(Clone, Copy, PartialEq, Eq, Debug)]
+#[derive(Clone, Copy, PartialEq, Eq)]
 pub struct Decoy {
     pub algo: Algo,
     /// 0 to 999.

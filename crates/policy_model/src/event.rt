@@ -7,7 +7,7 @@ use request_catalogue::{Kind, Label, Name, Note};
 use std::mem::size_of;
 
 /// Why a session ended.
-#[derive(Clone, Copy, PartialEq, Eq, Debug)]
+#[derive(Clone, Copy, PartialEq, Eq)]
 pub enum Why {
     /// A permitted FINISH was answered.
     Finished,
@@ -29,7 +29,7 @@ pub enum Why {
 
 /// What a session asks the policy: its opening, a request of its child, a frame that is no
 /// request, or its end.
-#[derive(Clone, Copy, PartialEq, Eq, Debug)]
+#[derive(Clone, Copy, PartialEq, Eq)]
 pub enum Ask {
     Begin,
     Banner,
@@ -86,7 +86,7 @@ pub enum Ask {
 }
 
 /// What was decided on an ask.
-#[derive(Clone, Copy, PartialEq, Eq, Debug)]
+#[derive(Clone, Copy, PartialEq, Eq)]
 pub enum Decision {
     Permit { value: u64 },
     /// `rule` is 1 to 22, the first that applies.
@@ -96,7 +96,7 @@ pub enum Decision {
 }
 
 /// One ask of one session together with its decision.
-#[derive(Clone, Copy, PartialEq, Eq, Debug)]
+#[derive(Clone, Copy, PartialEq, Eq)]
 pub struct Event {
     pub worker: u32,
     /// 0 where the worker has no session.
@@ -109,7 +109,7 @@ pub struct Event {
 const _: () = prove!(size_of::<Event>() <= 128);
 
 /// An ask of a worker.
-#[derive(Clone, Copy, PartialEq, Eq, Debug)]
+#[derive(Clone, Copy, PartialEq, Eq)]
 pub struct Step {
     pub worker: u32,
     pub ask: Ask,

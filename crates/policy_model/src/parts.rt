@@ -6,7 +6,7 @@ use otp_hash::Seed;
 use request_catalogue::Width;
 
 /// What an operator settles before a run, in any ranges.
-#[derive(Debug, Drop)]
+#[derive(Drop)]
 pub struct SetupParts {
     /// The path of the socket that clients connect to: 1 to 100 printable bytes in a setup.
     pub socket: Text,

@@ -1,7 +1,7 @@
 //! The phases of a session.
 
 /// How far a session has come.
-#[derive(Clone, Copy, PartialEq, Eq, Debug)]
+#[derive(Clone, Copy, PartialEq, Eq)]
 pub enum Phase {
     /// Before a login.
     Pre,
@@ -16,7 +16,7 @@ pub enum Phase {
 }
 
 /// What a phase says of a kind of request.
-#[derive(Clone, Copy, PartialEq, Eq, Debug)]
+#[derive(Clone, Copy, PartialEq, Eq)]
 pub struct Row {
     pub permitted: bool,
     /// Permitted once per session.

@@ -13,7 +13,7 @@ use std::alloc::{AllocError, Global};
 use std::marker::Model;
 
 /// The setup of a run: parts in their ranges, without a name or a user number twice.
-#[derive(Debug, Drop)]
+#[derive(Drop)]
 pub struct Setup {
     parts: SetupParts,
 }

@@ -7,7 +7,7 @@ use std::alloc::{AllocError, Global};
 use std::marker::Model;
 
 /// A text, which contracts see as its bytes.
-#[derive(Debug, Drop)]
+#[derive(Drop)]
 pub struct Text {
     text: String,
 }
@@ -42,7 +42,7 @@ impl Text {
 }
 
 /// A list of numbers.
-#[derive(Debug, Drop)]
+#[derive(Drop)]
 pub struct Numbers {
     items: Vec<u32>,
 }

@@ -8,7 +8,7 @@ use std::alloc::{AllocError, Global};
 use std::marker::Model;
 
 /// The room of a stream that isn't used yet.
-#[derive(Debug, Drop)]
+#[derive(Drop)]
 pub(crate) struct Blank {
     input: Vec<u8>,
     spare: Vec<u8>,

@@ -8,7 +8,7 @@ use std::alloc::{AllocError, Global};
 use std::marker::Model;
 
 /// The room of streams that aren't used yet, all alike, and the cuts that each of them goes by.
-#[derive(Debug, Drop)]
+#[derive(Drop)]
 pub(crate) struct Blanks {
     alloc: Global,
     blanks: Vec<Blank>,

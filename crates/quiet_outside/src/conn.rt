@@ -6,7 +6,6 @@ use outside::Script;
 
 /// A client's connection to a quiet post: which of the post's scripts it goes by, how much of it was
 /// received, and in how many pieces.
-#[derive(Debug)]
 pub struct QuietConn {
     pub(crate) script: usize,
     pub(crate) taken: usize,

@@ -12,7 +12,7 @@ use outside::{Bytes, Failed, Files, Word};
 use std::alloc::{AllocError, Global};
 
 /// Files with fixed room. They tell what stands in them as long as what replaces it fits the room.
-#[derive(Debug, Drop)]
+#[derive(Drop)]
 pub struct QuietFiles {
     shelf: Shelf,
     telling: bool,

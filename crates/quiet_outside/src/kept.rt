@@ -5,7 +5,7 @@ ghost use Rattle.quiet_outside.specs.Room.{kept_within};
 use std::alloc::{AllocError, Global};
 
 /// Bytes kept in room that was taken before, and told as long as they fit it.
-#[derive(Debug, Drop)]
+#[derive(Drop)]
 pub(crate) struct Kept {
     pub(crate) bytes: Vec<u8>,
     pub(crate) left: usize,

@@ -8,7 +8,7 @@ use outside::{Bytes, Word};
 use std::alloc::{AllocError, Global};
 
 /// A file, by a user's id and a name.
-#[derive(Debug, Drop)]
+#[derive(Drop)]
 pub(crate) struct KeptFile {
     pub(crate) uid: u32,
     pub(crate) name: Bytes,

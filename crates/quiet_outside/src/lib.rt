@@ -25,6 +25,3 @@ pub use post::QuietPost;
 pub use room::{Pieces, PostRoom};
 pub use sink::QuietSink;
 pub use stream::QuietStream;
-
-#[cfg(test)]
-mod tests;

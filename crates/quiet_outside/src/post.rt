@@ -17,7 +17,7 @@ use std::alloc::{AllocError, Global};
 
 /// A post with fixed room, whose clients and children go by scripts. It tells what is asked of it as
 /// long as that fits the room and each child that is given back tells.
-#[derive(Debug, Drop)]
+#[derive(Drop)]
 pub struct QuietPost {
     pub(crate) scripts: Vec<Script>,
     pub(crate) came: usize,

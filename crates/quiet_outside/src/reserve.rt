@@ -7,7 +7,7 @@ use std::alloc::{AllocError, Global};
 use std::marker::Model;
 
 /// Empty buffers of one size, which are used up one by one.
-#[derive(Debug, Drop)]
+#[derive(Drop)]
 pub(crate) struct Reserve {
     buffers: Vec<Vec<u8>>,
     size: usize,

@@ -1,12 +1,12 @@
 /// Buffers that are taken beforehand: how many, and how many bytes each has room for.
-#[derive(Clone, Copy, Debug)]
+#[derive(Clone, Copy)]
 pub struct Pieces {
     pub count: usize,
     pub size: usize,
 }
 
 /// The room of a quiet post.
-#[derive(Clone, Copy, Debug)]
+#[derive(Clone, Copy)]
 pub struct PostRoom {
     /// How many acts it tells.
     pub acts: usize,

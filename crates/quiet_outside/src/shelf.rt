@@ -13,7 +13,7 @@ use std::alloc::{AllocError, Global};
 
 /// Files, and the buffers into which more is written. Each write uses up a buffer for the name and
 /// one for what stands in the file after it.
-#[derive(Debug, Drop)]
+#[derive(Drop)]
 pub(crate) struct Shelf {
     pub(crate) files: Vec<KeptFile>,
     pub(crate) reserve: Reserve,

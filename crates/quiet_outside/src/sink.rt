@@ -8,7 +8,7 @@ use outside::{Failed, Sink};
 use std::alloc::{AllocError, Global};
 
 /// A sink with fixed room. It tells what it holds as long as that fits the room.
-#[derive(Debug, Drop)]
+#[derive(Drop)]
 pub struct QuietSink {
     kept: Kept,
 }

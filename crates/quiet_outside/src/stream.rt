@@ -13,7 +13,7 @@ use outside::{Bytes, Failed, Repeating, Role, Stream, Talk};
 use std::alloc::{AllocError, Global};
 
 /// A stream with fixed room. It tells what passes as long as the bytes sent to it fit the room.
-#[derive(Debug, Drop)]
+#[derive(Drop)]
 pub struct QuietStream {
     pub(crate) role: Role,
     pub(crate) input: Vec<u8>,

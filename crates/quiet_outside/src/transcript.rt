@@ -8,7 +8,7 @@ use outside::{Act, Bytes, Talk};
 use std::alloc::{AllocError, Global};
 
 /// What was asked of a post, told as long as it fits the room that was taken for it.
-#[derive(Debug, Drop)]
+#[derive(Drop)]
 pub(crate) struct Transcript {
     pub(crate) acts: Vec<Act>,
     pub(crate) acts_left: usize,

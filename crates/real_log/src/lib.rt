@@ -8,6 +8,3 @@ mod log;
 
 pub use disk::FileDisk;
 pub use log::RealLog;
-
-#[cfg(test)]
-mod tests;

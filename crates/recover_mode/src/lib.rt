@@ -14,6 +14,3 @@ pub use command::{RecoverCommand, read_recover_command};
 pub use error::RecoveryError;
 pub use line::Recovery;
 pub use run::{run_recover, status};
-
-#[cfg(test)]
-mod tests;

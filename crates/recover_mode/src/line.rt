@@ -7,7 +7,7 @@ ghost use Rattle.recover_mode.specs.Lines.{recovery_line};
 use std::alloc::{AllocError, Global};
 
 /// What was recovered of a log.
-#[derive(Clone, Copy, PartialEq, Eq, Debug)]
+#[derive(Clone, Copy, PartialEq, Eq)]
 pub struct Recovery {
     /// How many lines the log has, at most 1,048,576.
     pub lines: u32,

@@ -10,6 +10,3 @@ mod texts;
 
 pub use error::RenewError;
 pub use run::{run_renew, status};
-
-#[cfg(test)]
-mod tests;

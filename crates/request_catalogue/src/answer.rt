@@ -1,7 +1,7 @@
 //! Answers to requests.
 
 /// The monitor's answer to a request. A body is lent.
-#[derive(Clone, Copy, Debug, PartialEq, Eq)]
+#[derive(Clone, Copy, PartialEq, Eq)]
 pub enum Answer<'a> {
     /// Permitted and done. A reply holds at most 16,367 bytes of it, or 65,519 in wide frames.
     Done { body: &'a [u8] },
@@ -12,5 +12,5 @@ pub enum Answer<'a> {
 }
 
 /// Bytes that are no reply.
-#[derive(Clone, Copy, PartialEq, Eq, Debug)]
+#[derive(Clone, Copy, PartialEq, Eq)]
 pub struct Unreadable;

@@ -24,6 +24,3 @@ pub use request::{Bad, Request};
 pub use texts::{Label, Name, Note, are_printable, is_typed_reply};
 pub use width::Width;
 pub use writing::write_request;
-
-#[cfg(test)]
-mod tests;

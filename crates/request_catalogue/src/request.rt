@@ -6,7 +6,7 @@ use crate::kind::Kind;
 use crate::texts::{Label, Name, Note};
 
 /// What a child asks of the monitor. A long text is lent from the message's body.
-#[derive(Clone, Copy, Debug, PartialEq, Eq)]
+#[derive(Clone, Copy, PartialEq, Eq)]
 pub enum Request<'a> {
     /// The setup's banner.
     Banner,
@@ -85,7 +85,7 @@ impl Request<'_> {
 }
 
 /// Why a message is no request.
-#[derive(Clone, Copy, PartialEq, Eq, Debug)]
+#[derive(Clone, Copy, PartialEq, Eq)]
 pub struct Bad {
     /// The rule that is broken: 2 descriptor flag, 3 other flags, 4 unknown kind, 5 payload.
     pub rule: u8,

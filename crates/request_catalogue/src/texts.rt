@@ -18,7 +18,7 @@ const REPLY_MAX: usize = 256;
 
 /// A user's name: 1 to 32 bytes, the first `a` to `z` or `_`, the rest of `a` to `z`, `0` to `9`,
 /// `_` and `-`.
-#[derive(Clone, Copy, PartialEq, Eq, Debug)]
+#[derive(Clone, Copy, PartialEq, Eq)]
 pub struct Name {
     text: FixedList<32>,
     ghost legal: { is_name (list_of text) ≡ true },
@@ -26,14 +26,14 @@ pub struct Name {
 
 /// A file's label: 1 to 64 bytes, the first `a` to `z`, the rest of `a` to `z`, `0` to `9`, `.`,
 /// `_` and `-`.
-#[derive(Clone, Copy, PartialEq, Eq, Debug)]
+#[derive(Clone, Copy, PartialEq, Eq)]
 pub struct Label {
     text: FixedList<64>,
     ghost legal: { is_label (list_of text) ≡ true },
 }
 
 /// A note: 1 to 64 bytes of printable ASCII, space to `~`.
-#[derive(Clone, Copy, PartialEq, Eq, Debug)]
+#[derive(Clone, Copy, PartialEq, Eq)]
 pub struct Note {
     text: FixedList<64>,
     ghost legal: { is_note (list_of text) ≡ true },

@@ -3,7 +3,7 @@
 ghost use Rattle.std.specs.Prelude.{◌≡◌};
 
 /// How long the frames between the monitor and its children may be.
-#[derive(Clone, Copy, PartialEq, Eq, Debug)]
+#[derive(Clone, Copy, PartialEq, Eq)]
 pub enum Width {
     /// OpenBSD's frames: a length of 16 bits, at most 16,384 bytes a frame.
     Narrow,

@@ -7,7 +7,7 @@ ghost use Rattle.serve_mode.specs.Errors.{error_status, status_of, unread_status
 use service_reading::ServiceError;
 
 /// Why nobody was served, or the run ended other than well.
-#[derive(Clone, Copy, PartialEq, Eq, Debug)]
+#[derive(Clone, Copy, PartialEq, Eq)]
 pub enum ServeError {
     /// There is no setup, or no word list, to serve with.
     Unread(ServiceError),

@@ -13,6 +13,3 @@ mod serving;
 pub use command::{ServeCommand, read_serve_command};
 pub use error::{ServeError, status};
 pub use run::{Served, run_serve};
-
-#[cfg(test)]
-mod tests;

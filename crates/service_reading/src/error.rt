@@ -9,7 +9,7 @@ use otp_words::DictFault;
 use setup_reading::SetupFileError;
 
 /// Why a setup and its word list were not read.
-#[derive(Clone, Copy, PartialEq, Eq, Debug)]
+#[derive(Clone, Copy, PartialEq, Eq)]
 pub enum ServiceError {
     /// A reading failed.
     Failed,

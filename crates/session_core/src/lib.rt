@@ -12,6 +12,3 @@ mod whole;
 
 pub use replaying::replay;
 pub use whole::Core;
-
-#[cfg(test)]
-mod tests;

@@ -21,7 +21,7 @@ use std::marker::Model;
 
 /// What the policy knows between events: the accounts, the sessions that are open, and how many events
 /// were settled.
-#[derive(Debug, Drop)]
+#[derive(Drop)]
 pub struct Core {
     ledger: Ledger,
     table: Table,

@@ -13,7 +13,7 @@ use session_asking::{Replies, Texts};
 use session_turns::Turns;
 
 /// How a worker ended.
-#[derive(Clone, Copy, PartialEq, Eq, Debug)]
+#[derive(Clone, Copy, PartialEq, Eq)]
 pub enum WorkerEnd {
     /// As many sessions were run as the setup has connections for.
     AllServed,

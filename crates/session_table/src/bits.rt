@@ -9,7 +9,7 @@ use request_catalogue::Kind;
 use std::marker::Model;
 
 /// Which kinds of requests a session was permitted.
-#[derive(Debug, Drop)]
+#[derive(Drop)]
 pub struct Bits {
     /// By the kind's number of 1 to 13; the place 0 is of no kind.
     marks: [bool; 14],

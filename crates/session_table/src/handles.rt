@@ -21,7 +21,7 @@ const PLACES: usize = 8;
 const NUMBERS: [u32; 8] = [1, 2, 3, 4, 5, 6, 7, 8];
 
 /// A file that a session has open.
-#[derive(Clone, Copy, PartialEq, Eq, Debug, Default)]
+#[derive(Clone, Copy, PartialEq, Eq, Default)]
 pub struct LiveHandle {
     /// 1 to 8.
     pub handle: u32,
@@ -33,7 +33,7 @@ pub struct LiveHandle {
 
 /// The files that a session has open, in the order in which they were opened: at most eight, with
 /// different handles of 1 to 8.
-#[derive(Debug, Drop)]
+#[derive(Drop)]
 pub struct Handles {
     live: ArrayVec<LiveHandle, 8>,
 }

@@ -14,6 +14,3 @@ pub use bits::Bits;
 pub use handles::{Handles, LiveHandle, find_grant};
 pub use rows::{SessionRow, is_use};
 pub use table::Table;
-
-#[cfg(test)]
-mod tests;

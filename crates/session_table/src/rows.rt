@@ -13,7 +13,7 @@ use policy_model::{Ask, Event, Phase};
 use std::mem::size_of;
 
 /// What the policy knows of a session that is open.
-#[derive(Debug, Drop)]
+#[derive(Drop)]
 pub struct SessionRow {
     /// The session's number, from 1 on.
     pub session: u32,

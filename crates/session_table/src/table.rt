@@ -11,7 +11,7 @@ use std::alloc::{AllocError, Global};
 use std::marker::Model;
 
 /// The rows of the sessions that are open, one a worker, and how many sessions were opened.
-#[derive(Debug, Drop)]
+#[derive(Drop)]
 pub struct Table {
     rows: Vec<Option<SessionRow>>,
     begun: u32,

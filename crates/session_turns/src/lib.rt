@@ -12,6 +12,3 @@ pub use at_cell::{AtCell, SeenCell, SeenPass, ask_once, call_cell};
 pub use book_cell::{close_cell, open_cell};
 pub use laws::{new_passes_may_ask, places_are_of_all};
 pub use turns::Turns;
-
-#[cfg(test)]
-mod tests;

@@ -5,6 +5,3 @@
 mod reading;
 
 pub use reading::{SetupFileError, read_setup_file};
-
-#[cfg(test)]
-mod tests;

@@ -20,7 +20,7 @@ use std::alloc::Global;
 const SETUP_MAX: usize = 8_388_608;
 
 /// Why a setup was not read.
-#[derive(Clone, Copy, PartialEq, Eq, Debug)]
+#[derive(Clone, Copy, PartialEq, Eq)]
 pub enum SetupFileError {
     /// A reading failed.
     Failed,

@@ -1,7 +1,7 @@
 //! Why bytes are no exported state, or no import record.
 
 /// The first fault of an exported state.
-#[derive(Clone, Copy, PartialEq, Eq, Debug)]
+#[derive(Clone, Copy, PartialEq, Eq)]
 pub enum StateFault {
     /// It does not begin with `OTS1`.
     Magic,
@@ -16,7 +16,7 @@ pub enum StateFault {
 }
 
 /// The first fault of an import record.
-#[derive(Clone, Copy, PartialEq, Eq, Debug)]
+#[derive(Clone, Copy, PartialEq, Eq)]
 pub enum ImportFault {
     /// The user number, the name's length or the name does not read.
     Head,

@@ -14,7 +14,7 @@ use request_catalogue::{Name, put};
 pub const IMPORT_MAX: usize = 8_229;
 
 /// What the monitor hands to the user's child.
-#[derive(Clone, Copy, PartialEq, Eq, Debug)]
+#[derive(Clone, Copy, PartialEq, Eq)]
 pub struct Import<'a> {
     /// The user number under which the child runs.
     pub uid: u32,

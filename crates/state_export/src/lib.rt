@@ -14,6 +14,3 @@ pub use import::{IMPORT_MAX, Import, read_import, write_import};
 pub use reading::read_state;
 pub use state::{STATE_MAX, State};
 pub use writing::write_state;
-
-#[cfg(test)]
-mod tests;

@@ -4,7 +4,7 @@
 pub const STATE_MAX: usize = 4_181;
 
 /// What the child before the login leaves to the user's child.
-#[derive(Clone, Copy, PartialEq, Eq, Debug)]
+#[derive(Clone, Copy, PartialEq, Eq)]
 pub struct State<'a> {
     /// The client's terminal, at most 64 bytes.
     pub terminal: &'a [u8],

@@ -20,14 +20,14 @@ fn one_after_the_other(rt: HostRuntime) {
     let first = cell.call(&rt, &mut passes[0], 5);
     let second = cell.call(&rt, &mut passes[1], 7);
     let third = cell.call(&rt, &mut passes[0], 1);
-    assert_eq!(&rt; (first.total, second.total, third.total), (5, 12, 13));
-    assert_eq!(&rt; (passes[0].number(), passes[0].made()), (0, 2));
-    assert_eq!(&rt; (passes[1].number(), passes[1].made()), (1, 1));
+    assert!(&rt; (first.total, second.total, third.total) == (5, 12, 13));
+    assert!(&rt; (passes[0].number(), passes[0].made()) == (0, 2));
+    assert!(&rt; (passes[1].number(), passes[1].made()) == (1, 1));
     let tally = cell.close(passes);
     for (added, want) in tally.log.iter().zip([5, 12, 13]) {
-        assert_eq!(&rt; added.total, want);
+        assert!(&rt; added.total == want);
     }
-    assert_eq!(&rt; tally.log.len(), 3);
+    assert!(&rt; tally.log.len() == 3);
 }
 
 // Where an allocation fails, as by `rt try --test --fail-alloc N`, the tally comes back as it was.
@@ -35,9 +35,9 @@ fn one_after_the_other(rt: HostRuntime) {
 fn a_cell_has_its_passes_or_the_tally_comes_back(rt: HostRuntime) {
     let tally = Tally::new(rt.alloc(), 2, 3).expect(&rt, "memory");
     match TurnCell::new(rt.alloc(), tally) {
-        Ok((_cell, passes)) => assert_eq!(&rt; passes.len(), 2),
+        Ok((_cell, passes)) => assert!(&rt; passes.len() == 2),
         Err((tally, _)) => {
-            assert_eq!(&rt; (tally.passes, tally.quota, tally.log.len()), (2, 3, 0));
+            assert!(&rt; (tally.passes, tally.quota, tally.log.len()) == (2, 3, 0));
         }
     }
 }
@@ -49,14 +49,11 @@ fn two_threads_of_three_calls(rt: HostRuntime) {
     let Ok(tally) = call_all(&rt, rt.alloc(), tally, 1, 3) else {
         panic!(&rt; "memory")
     };
-    assert_eq!(&rt; tally.log.len(), 6);
+    assert!(&rt; tally.log.len() == 6);
     for (place, added) in tally.log.iter().enumerate() {
-        assert_eq!(&rt; added.total, place as u64 + 1);
+        assert!(&rt; added.total == place as u64 + 1);
     }
-    assert_eq!(&rt;
-        tally.log.iter().filter(|added| added.owner == 0).count(),
-        3
-    );
+    assert!(&rt; tally.log.iter().filter(|added| added.owner == 0).count() == 3);
 }
 
 #[test]
@@ -65,11 +62,11 @@ fn eight_threads_of_ten_thousand_calls(rt: HostRuntime) {
     let Ok(tally) = call_all(&rt, rt.alloc(), tally, 3, 10_000) else {
         panic!(&rt; "memory")
     };
-    assert_eq!(&rt; tally.log.len(), 80_000);
+    assert!(&rt; tally.log.len() == 80_000);
     let Some(last) = tally.log.last() else {
         panic!(&rt; "no call was made")
     };
-    assert_eq!(&rt; last.total, 240_000);
+    assert!(&rt; last.total == 240_000);
 }
 
 // How far the callers are: whether pass 0 holds the turn, and how many others came.
@@ -204,12 +201,9 @@ fn seven_wait_for_one(rt: HostRuntime) {
     };
     call_while_held(&rt, &cell, &signs, &mut passes, 1);
     let slow = cell.close(passes);
-    assert_eq!(&rt; signs.came.load(Ordering::SeqCst), 7);
-    assert_eq!(&rt; slow.tally.log.len(), 8);
+    assert!(&rt; signs.came.load(Ordering::SeqCst) == 7);
+    assert!(&rt; slow.tally.log.len() == 8);
     for (place, added) in slow.tally.log.iter().enumerate() {
-        assert_eq!(&rt;
-            (added.total, added.owner == 0),
-            (place as u64 + 1, place == 0)
-        );
+        assert!(&rt; (added.total, added.owner == 0) == (place as u64 + 1, place == 0));
     }
 }

@@ -129,6 +129,3 @@ fn digit_of(byte: u8) -> Option<u64>
         None
     }
 }
-
-#[cfg(test)]
-mod tests;

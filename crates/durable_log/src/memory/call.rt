@@ -8,7 +8,7 @@ use outside::{Bytes, Failed};
 use std::alloc::{AllocError, Global};
 
 /// A call, and whether it was done.
-#[derive(Debug, Drop)]
+#[derive(Drop)]
 pub(crate) enum DiskCall {
     Write { at: u64, bytes: Bytes, done: bool },
     Sync { done: bool },

@@ -4,8 +4,8 @@ use policy_model::{Accounts, Decision, Numbers, Setup, SetupParts, Step, Text, W
 use request_catalogue::Width;
 use std::test::*;
 
-/// An empty book over a setup; the sink's appends with these numbers fail after 5 bytes.
-fn book_of(alloc: Global, setup: &Setup, fails: &[u32]) -> Result<Book<MemSink>, Fail> {
+/// A sink whose appends with these numbers fail after 5 bytes.
+fn sink_of(alloc: Global, fails: &[u32]) -> Result<MemSink, AllocError> {
     let mut failing = Vec::new(alloc);
     for number in fails {
         failing.push(Failing {
@@ -14,7 +14,12 @@ fn book_of(alloc: Global, setup: &Setup, fails: &[u32]) -> Result<Book<MemSink>,
             sent: 5,
         })?;
     }
-    let log = MemSink::new(alloc, &failing)?;
+    MemSink::new(alloc, &failing)
+}
+
+/// An empty book over a setup, with such a sink.
+fn book_of(alloc: Global, setup: &Setup, fails: &[u32]) -> Result<Book<MemSink>, Fail> {
+    let log = sink_of(alloc, fails)?;
     let core = Core::new(alloc, setup, setup.events_max() as u32)?;
     match Book::new(alloc, core, log) {
         Ok(book) => Ok(book),
@@ -101,50 +106,96 @@ fn two_workers(alloc: Global) -> Result<Setup, Fail> {
     }
 }
 
+/// Calls, the appends that fail, and what is left then: the log, how many decisions are lost, the
+/// workers' sessions.
+#[derive(Clone, Copy)]
+struct Row<'a> {
+    steps: &'a [Step],
+    fails: &'a [u32],
+    text: &'a [u8],
+    lost: usize,
+    sessions: &'a [u32],
+}
+
+/// Whether a row holds over a setup.
+fn holds(alloc: Global, setup: &Setup, row: &Row<'_>) -> Result<bool, Fail> {
+    let book = book_after(alloc, setup, row.fails, row.steps)?;
+    Ok(ends_so(book, row.text, row.lost, row.sessions))
+}
+
+/// Whether it holds over the plain setup.
+fn holds_for_one(alloc: Global, row: &Row<'_>) -> Result<bool, Fail> {
+    let setup = Setup::plain(alloc)?;
+    holds(alloc, &setup, row)
+}
+
+/// Whether it holds over the setup with two workers.
+fn holds_for_two(alloc: Global, row: &Row<'_>) -> Result<bool, Fail> {
+    let setup = two_workers(alloc)?;
+    holds(alloc, &setup, row)
+}
+
 #[test]
 fn a_lost_line_loses_its_decision_and_all_later_ones(rt: HostRuntime) -> Result<(), Fail> {
-    let setup = Setup::plain(rt.alloc())?;
-    let steps = [
-        step(0, Ask::Begin),
-        step(0, write()),
-        step(0, Ask::Finish),
-        step(0, Ask::End { why: Why::LogLost }),
-    ];
-    let book = book_after(rt.alloc(), &setup, &[3], &steps)?;
-    let text = b"1 w0 s1 open permit\n2 w0 s1 write 0 0 2 permit\n3 w0 ";
-    assert!(rt; ends_so(book, text, 2, &[1]));
+    let row = Row {
+        steps: &[
+            step(0, Ask::Begin),
+            step(0, write()),
+            step(0, Ask::Finish),
+            step(0, Ask::End { why: Why::LogLost }),
+        ],
+        fails: &[3],
+        text: b"1 w0 s1 open permit\n2 w0 s1 write 0 0 2 permit\n3 w0 ",
+        lost: 2,
+        sessions: &[1],
+    };
+    assert!(rt; holds_for_one(rt.alloc(), &row)?);
     Ok(())
 }
+
+/// The log of two workers, one of whom opens its session without a line.
+const TWO: &[u8] = b"1 w1 s1 open permit
+2 w0 s2 open permit
+3 w1 s1 export 0 deny 6 5
+4 w1 s1 end violation 6 permit
+5 w1 ";
 
 /// The workers' events stand in one journal in the order of the calls, and a lost opening opens nothing.
 #[test]
 fn two_workers_have_one_journal(rt: HostRuntime) -> Result<(), Fail> {
-    let setup = two_workers(rt.alloc())?;
     let why = Why::Violation { rule: 6 };
-    let steps = [
-        step(1, Ask::Begin),
-        step(0, Ask::Begin),
-        step(1, Ask::Export { len: 0 }),
-        step(1, Ask::End { why }),
-        step(1, Ask::Begin),
-        step(0, write()),
-    ];
-    let book = book_after(rt.alloc(), &setup, &[5], &steps)?;
-    let text =
-        b"1 w1 s1 open permit\n2 w0 s2 open permit\n3 w1 s1 export 0 deny 6 5\n4 w1 s1 end violation 6 permit\n5 w1 ";
-    assert!(rt; ends_so(book, text, 2, &[2, 0]));
+    let row = Row {
+        steps: &[
+            step(1, Ask::Begin),
+            step(0, Ask::Begin),
+            step(1, Ask::Export { len: 0 }),
+            step(1, Ask::End { why }),
+            step(1, Ask::Begin),
+            step(0, write()),
+        ],
+        fails: &[5],
+        text: TWO,
+        lost: 2,
+        sessions: &[2, 0],
+    };
+    assert!(rt; holds_for_two(rt.alloc(), &row)?);
     Ok(())
+}
+
+/// Whether a book over a setup is made, or else its core and log come back as they were.
+fn is_made_or_comes_back(alloc: Global, setup: &Setup) -> Result<bool, Fail> {
+    let log = MemSink::new(alloc, &[])?;
+    let core = Core::new(alloc, setup, setup.events_max() as u32)?;
+    Ok(match Book::new(alloc, core, log) {
+        Ok(book) => (book.passes(), book.quota()) == (1, setup.events_max() as u64),
+        Err((core, log, _)) => core.session(0) == 0 && log.held().is_empty(),
+    })
 }
 
 /// Where an allocation fails, as by `rt try --test --fail-alloc N`, core and log come back.
 #[test]
 fn a_book_is_made_or_its_parts_come_back(rt: HostRuntime) -> Result<(), Fail> {
     let setup = Setup::plain(rt.alloc())?;
-    let log = MemSink::new(rt.alloc(), &[])?;
-    let core = Core::new(rt.alloc(), &setup, setup.events_max() as u32)?;
-    match Book::new(rt.alloc(), core, log) {
-        Ok(book) => assert!(rt; (book.passes(), book.quota()) == (1, setup.events_max() as u64)),
-        Err((core, log, _)) => assert!(rt; core.session(0) == 0 && log.held().is_empty()),
-    }
+    assert!(rt; is_made_or_comes_back(rt.alloc(), &setup)?);
     Ok(())
 }

@@ -5,7 +5,6 @@ use super::script::Script;
 
 /// A client's connection to a post in memory: which of the post's scripts it goes by, how much of it
 /// was received, and in how many pieces.
-#[derive(Debug)]
 pub struct MemConn {
     pub(super) script: usize,
     pub(super) taken: usize,

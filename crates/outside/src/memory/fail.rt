@@ -2,7 +2,7 @@ ghost use Rattle.std.specs.Prelude.{◌≡◌};
 ghost use Rattle.outside.specs.Failures.{failure_of};
 
 /// The kinds of calls that an object in memory can be told to fail.
-#[derive(Clone, Copy, PartialEq, Eq, Debug)]
+#[derive(Clone, Copy, PartialEq, Eq)]
 pub enum CallKind {
     /// A stream's `recv`.
     Recv,
@@ -30,7 +30,7 @@ pub enum CallKind {
 
 /// A call that is to fail: the one of this kind with this number, counted from 1. Of two entries
 /// for one call the first counts.
-#[derive(Clone, Copy, PartialEq, Eq, Debug)]
+#[derive(Clone, Copy, PartialEq, Eq)]
 pub struct Fail {
     pub call: CallKind,
     pub number: u32,

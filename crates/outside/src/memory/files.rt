@@ -14,7 +14,7 @@ use crate::files::Files;
 use std::alloc::{AllocError, Global};
 
 /// Files in memory. They tell what stands in them as long as memory is found for it.
-#[derive(Debug, Drop)]
+#[derive(Drop)]
 pub struct MemFiles {
     alloc: Global,
     pairs: Vec<(Word, Bytes)>,

@@ -5,7 +5,7 @@ ghost use Rattle.outside.specs.Told.{Gains};
 use std::alloc::Global;
 
 /// The bytes that went out, kept and told as long as memory is found for them.
-#[derive(Debug, Drop)]
+#[derive(Drop)]
 pub(super) struct Output {
     pub(super) bytes: Vec<u8>,
     pub(super) telling: bool,

@@ -18,7 +18,7 @@ use request_catalogue::Label;
 use std::alloc::{AllocError, Global};
 
 /// How many calls of each kind were made.
-#[derive(Debug, Drop)]
+#[derive(Drop)]
 pub(super) struct CallsMade {
     pub(super) accepts: u64,
     pub(super) starts: u64,
@@ -30,7 +30,7 @@ pub(super) struct CallsMade {
 
 /// A post in memory, whose clients and children go by scripts. It tells up to `room` acts, as long
 /// as memory is found for them and each child that is given back tells.
-#[derive(Debug, Drop)]
+#[derive(Drop)]
 pub struct MemPost {
     pub(super) alloc: Global,
     pub(super) scripts: Vec<Script>,

@@ -5,7 +5,7 @@ use std::alloc::{AllocError, Global};
 use std::marker::Model;
 
 /// A list that is used up item by item, but for the last one, which repeats.
-#[derive(Debug, Drop)]
+#[derive(Drop)]
 pub struct Repeating<T> {
     items: Vec<T>,
     next: usize,

@@ -6,7 +6,7 @@ use crate::act::Role;
 use crate::bytes::Bytes;
 
 /// What the other sides of one connection send.
-#[derive(Debug, Drop)]
+#[derive(Drop)]
 pub struct Script {
     /// What the client sends.
     pub client: Bytes,

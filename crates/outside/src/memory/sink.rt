@@ -10,7 +10,7 @@ use crate::sink::Sink;
 use std::alloc::{AllocError, Global};
 
 /// A sink in memory. It tells what it holds as long as memory is found for it.
-#[derive(Debug, Drop)]
+#[derive(Drop)]
 pub struct MemSink {
     output: Output,
     fails: Vec<Fail>,

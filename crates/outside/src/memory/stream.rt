@@ -15,7 +15,7 @@ use crate::stream::Stream;
 use std::alloc::{AllocError, Global};
 
 /// A stream in memory. It tells what passes as long as memory is found for the bytes sent to it.
-#[derive(Debug, Drop)]
+#[derive(Drop)]
 pub struct MemStream {
     role: Role,
     input: Vec<u8>,

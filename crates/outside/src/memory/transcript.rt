@@ -10,7 +10,7 @@ use crate::bytes::Bytes;
 use std::alloc::{AllocError, Global};
 
 /// What was asked of a post, told up to `room` acts and as long as memory is found for it.
-#[derive(Debug, Drop)]
+#[derive(Drop)]
 pub(super) struct Transcript {
     pub(super) acts: Vec<Act>,
     pub(super) talks: Vec<Talk>,

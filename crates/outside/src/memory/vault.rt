@@ -10,7 +10,7 @@ use request_catalogue::Label;
 use std::alloc::{AllocError, Global};
 
 /// A user's file in memory.
-#[derive(Debug, Drop)]
+#[derive(Drop)]
 pub(super) struct UserFile {
     pub(super) uid: u32,
     pub(super) name: Label,
@@ -26,7 +26,7 @@ pub(super) struct Spot {
 }
 
 /// The users' files in memory, told as long as memory is found for what is written.
-#[derive(Debug, Drop)]
+#[derive(Drop)]
 pub(super) struct MemVault {
     pub(super) alloc: Global,
     pub(super) files: Vec<UserFile>,

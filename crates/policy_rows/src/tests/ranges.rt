@@ -87,31 +87,32 @@ fn wanted(words: &mut SplitWhitespace<'_>) -> Result<bool, Fail> {
     Ok(word(words)? == "yes")
 }
 
+/// Whether a setup may have these parts.
+fn may_be(parts: SetupParts) -> bool {
+    Setup::of(parts).is_ok()
+}
+
 /// Whether a setup may have these counts.
 fn may_count(alloc: Global, counts: [u32; 5]) -> Result<bool, Fail> {
     let none = Vec::new(alloc);
-    let parts = parts(alloc, PLAIN_TEXTS, counts, none, Vec::new(alloc))?;
-    Ok(Setup::of(parts).is_ok())
+    Ok(may_be(parts(alloc, PLAIN_TEXTS, counts, none, Vec::new(alloc))?))
 }
 
 /// Whether a setup may have these texts.
 fn may_say(alloc: Global, texts: [&str; 5]) -> Result<bool, Fail> {
     let none = Vec::new(alloc);
-    let parts = parts(alloc, texts, PLAIN_COUNTS, none, Vec::new(alloc))?;
-    Ok(Setup::of(parts).is_ok())
+    Ok(may_be(parts(alloc, texts, PLAIN_COUNTS, none, Vec::new(alloc))?))
 }
 
 /// Whether a setup may have these numbers of information.
 fn may_inform(alloc: Global, info: Vec<u32>) -> Result<bool, Fail> {
-    let parts = parts(alloc, PLAIN_TEXTS, PLAIN_COUNTS, info, Vec::new(alloc))?;
-    Ok(Setup::of(parts).is_ok())
+    Ok(may_be(parts(alloc, PLAIN_TEXTS, PLAIN_COUNTS, info, Vec::new(alloc))?))
 }
 
 /// Whether a setup may have these accounts.
 fn may_admit(alloc: Global, accounts: Vec<Account>) -> Result<bool, Fail> {
     let none = Vec::new(alloc);
-    let parts = parts(alloc, PLAIN_TEXTS, PLAIN_COUNTS, none, accounts)?;
-    Ok(Setup::of(parts).is_ok())
+    Ok(may_be(parts(alloc, PLAIN_TEXTS, PLAIN_COUNTS, none, accounts)?))
 }
 
 #[test]
@@ -127,7 +128,7 @@ fn counts(rt: HostRuntime) -> Result<(), Fail> {
         let tries = small(&mut words)?;
         let hold = small(&mut words)?;
         let may = may_count(rt.alloc(), [workers, connections, requests, tries, hold])?;
-        assert_eq!(rt; may, wanted(&mut words)?, "{line}");
+        assert!(rt; may == wanted(&mut words)?, "{line}");
     }
     Ok(())
 }
@@ -155,7 +156,7 @@ fn texts(rt: HostRuntime) -> Result<(), Fail> {
         if place < 5 {
             texts[place] = text.as_str();
         }
-        assert_eq!(rt; may_say(alloc, texts)?, wanted(&mut words)?, "{line}");
+        assert!(rt; may_say(alloc, texts)? == wanted(&mut words)?, "{line}");
     }
     assert!(rt; !may_say(alloc, ["a", "a", "a", "a", "OTP\tlogin"])?);
     Ok(())
@@ -184,7 +185,7 @@ fn numbers(rt: HostRuntime) -> Result<(), Fail> {
         let more = small(&mut words)?;
         let last = small(&mut words)?;
         let may = may_inform(alloc, row_of_numbers(alloc, first, more, last)?)?;
-        assert_eq!(rt; may, wanted(&mut words)?, "{line}");
+        assert!(rt; may == wanted(&mut words)?, "{line}");
     }
     assert!(rt; may_inform(alloc, Vec::new(alloc))?);
     Ok(())
@@ -217,7 +218,7 @@ fn accounts(rt: HostRuntime) -> Result<(), Fail> {
         let sequence = u16::try_from(number(&mut words)?)?;
         let last = account(user, uid, sequence, Grants::of(Vec::new(alloc)))?;
         let may = may_admit(alloc, row_of_accounts(alloc, before, last)?)?;
-        assert_eq!(rt; may, wanted(&mut words)?, "{line}");
+        assert!(rt; may == wanted(&mut words)?, "{line}");
     }
     assert!(rt; may_admit(alloc, Vec::new(alloc))?);
     Ok(())
@@ -254,7 +255,7 @@ fn grants(rt: HostRuntime) -> Result<(), Fail> {
         let name = label(word(&mut words)?)?;
         let mode = tiny(&mut words)?;
         let may = may_grant(alloc, row_of_grants(alloc, before, Grant { name, mode })?)?;
-        assert_eq!(rt; may, wanted(&mut words)?, "{line}");
+        assert!(rt; may == wanted(&mut words)?, "{line}");
     }
     assert!(rt; may_grant(alloc, Vec::new(alloc))?);
     Ok(())

@@ -197,8 +197,8 @@ fn two_workers_serve_at_once(rt: HostRuntime) -> Result<(), Fault> {
     let posts = waiting_posts(alloc, &answered)?;
     let hooks = Hooks::new(Vec::new(alloc)).ok().ok_or("hooks")?;
     let came = serve(&rt, alloc, &play_of(&setup, &list, &[]), posts, &hooks)?;
-    assert_eq!(&rt; came.status, 0);
-    assert_eq!(&rt; finished(&came.journal), 2);
+    assert!(&rt; came.status == 0);
+    assert!(&rt; finished(&came.journal) == 2);
     assert!(&rt; is_at(&came.place, ["s", "l", "v"], 2));
     Ok(())
 }
@@ -216,9 +216,9 @@ fn sixty_four_workers_serve(rt: HostRuntime) -> Result<(), Fault> {
     };
     let came = come(&rt, alloc, &play_of(&setup, &list, &[session]), 64)?;
     let lines = lines_of(alloc, &came.journal)?;
-    assert_eq!(&rt; came.status, 0);
-    assert_eq!(&rt; came.journal.len(), 256);
-    assert_eq!(&rt; finished(&came.journal), 64);
+    assert!(&rt; came.status == 0);
+    assert!(&rt; came.journal.len() == 256);
+    assert!(&rt; finished(&came.journal) == 64);
     assert!(&rt; came.log.held() == lines.as_slice());
     Ok(())
 }

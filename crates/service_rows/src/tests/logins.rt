@@ -72,8 +72,8 @@ fn is_served<R: Threads + Wait + Sync>(
 fn a_whole_login(rt: HostRuntime) -> Result<(), Fault> {
     let alloc = rt.alloc();
     let Login { mut came, .. } = log_in(&rt, alloc, ONE, 4_096)?;
-    assert_eq!(&rt; came.log.held(), LOG.as_bytes());
-    assert_eq!(&rt; came.status, 0);
+    assert!(&rt; came.log.held() == LOG.as_bytes());
+    assert!(&rt; came.status == 0);
     let left = chain_in(alloc, &setup_in(alloc, &mut came.files)?)?;
     assert!(&rt; left == (0, 0xBB9E_6AE1_979D_8FF4));
     Ok(())

@@ -1,0 +1,11 @@
+//! The tests of the drill, the words of `serve` and the top call, which stand apart so that no crate waits for them.
+#![tactic(auto)]
+
+#[cfg(test)]
+mod drills;
+#[cfg(test)]
+mod plans;
+#[cfg(test)]
+mod serve_commands;
+#[cfg(test)]
+mod top_calls;

@@ -1,0 +1,468 @@
+ghost use Rattle.std.specs.Prelude.{◌<◌, ◌≤◌, All, IfOk, length};
+ghost use Rattle.outside.specs.MemPost.{faults_of, scene_of};
+ghost use Rattle.outside.specs.Scene.{IsFresh};
+
+use account_file::{SetupFault, SetupKey, SetupRule};
+use audit_check::AuditWhy;
+use info_hooks::Hooks;
+use monitor_server::{Detail, FileKind, Report, otplogd};
+use otp_words::{DictFault, DictRule};
+use outside::{
+    Accepted, Act, Bytes, MemFiles, MemPost, MemSink, MemSite, MemStream, Role, Script, Word,
+};
+use std::alloc::{AllocError, Global};
+use std::sync::Wait;
+use std::test::Fail as Fault;
+use std::thread::Threads;
+
+mod drills;
+mod offline;
+
+/// The child before the login of the first session.
+const PRE: Role = Role::Pre { session: 1 };
+
+/// WRITE of `hi` and FINISH.
+const SMALLEST: &[u8] = b"\x08\0\0\0\x1e\0\0\0\0\0\0\0\0\0\0\0\0\0\0\0\0\0\0\0\0\0\0\0hi\
+    \x0d\0\0\0\x10\0\0\0\0\0\0\0\0\0\0\0";
+
+/// The replies to both, done.
+const BOTH_DONE: &[u8] = b"\x08\x01\0\0\x11\0\0\0\0\0\0\0\x01\0\0\0\0\
+    \x0d\x01\0\0\x11\0\0\0\0\0\0\0\x01\0\0\0\0";
+
+const SMALLEST_LOG: &str = "1 w0 s1 open permit\n2 w0 s1 write 0 0 2 permit\n\
+    3 w0 s1 finish permit\n4 w0 s1 end finished permit\n";
+
+/// A post with one connection, whose child sends these bytes in pieces of these lengths.
+fn post(alloc: Global, pre: &[u8], cuts: &[usize]) -> Result<MemPost, AllocError>
+    requires some_cut { 0 < length cuts.now }
+    requires each_cut { All (λ c. 1 ≤ c) cuts.now }
+    ensures { IfOk result (IsFresh scene_of faults_of) }
+{
+    let script = Script {
+        client: Bytes::of(alloc, b"")?,
+        pre: Bytes::of(alloc, pre)?,
+        user: Bytes::of(alloc, b"")?,
+    };
+    MemPost::new(alloc, vec![in alloc; script]?, cuts, &[0], 100, &[])
+}
+
+/// No information.
+fn no_hooks(alloc: Global) -> Result<Hooks, Fault> {
+    Ok(Hooks::new(Vec::new(alloc)).ok().ok_or("hooks")?)
+}
+
+/// A run of `serve` with one such post.
+fn serve<R: Threads + Wait + Sync>(
+    rt: &R,
+    alloc: Global,
+    pre: &[u8],
+    cuts: &[usize],
+    hooks: &Hooks,
+) -> Result<Report<MemPost, MemSink>, AllocError>
+    requires some_cut { 0 < length cuts.now }
+    requires each_cut { All (λ c. 1 ≤ c) cuts.now }
+{
+    let posts = vec![in alloc; post(alloc, pre, cuts)?]?;
+    let mut site = MemSite::new(alloc, posts)?;
+    let words = [Word::of(alloc, "serve".as_bytes())?];
+    let mut files = MemFiles::new(alloc, &[], &[])?;
+    let mut ends = MemStream::new(alloc, b"", &[100], &[])?;
+    let log = MemSink::new(alloc, &[])?;
+    Ok(otplogd(
+        rt, alloc, &words, &mut files, &mut site, log, &mut ends, hooks,
+    ))
+}
+
+/// The text of the log, as bytes.
+fn log_of(report: &Report<MemPost, MemSink>) -> &[u8] {
+    report.log.held()
+}
+
+/// The bytes that the first child was sent, if one was given back.
+fn sent_to_child(report: &Report<MemPost, MemSink>) -> Option<&[u8]> {
+    report
+        .posts
+        .first()?
+        .talks()
+        .first()
+        .map(|talk| talk.sent.as_slice())
+}
+
+/// What a post does in the smallest run.
+fn smallest_acts(alloc: Global) -> Result<Vec<Act>, AllocError> {
+    Ok(vec![in alloc;
+        Act::Accept {
+            outcome: Accepted::Came
+        },
+        Act::Start {
+            role: PRE,
+            outcome: Ok(())
+        },
+        Act::ConnSend {
+            bytes: Bytes::of(alloc, b"hi")?,
+            outcome: Ok(())
+        },
+        Act::Finish { role: PRE },
+        Act::HangUp,
+    ]?)
+}
+
+/// Whether a report is that of the smallest run.
+fn is_smallest(report: &Report<MemPost, MemSink>, acts: &[Act]) -> bool {
+    report.status == 0
+        && report.journal.len() == 4
+        && log_of(report) == SMALLEST_LOG.as_bytes()
+        && sent_to_child(report) == Some(BOTH_DONE)
+        && report.posts.len() == 1
+        && report.posts[0].acts() == acts
+}
+
+/// Whether the smallest run succeeds with the child's bytes in pieces of these lengths.
+fn succeeds<R: Threads + Wait + Sync>(
+    rt: &R,
+    alloc: Global,
+    cuts: &[usize],
+    hooks: &Hooks,
+) -> Result<bool, AllocError>
+    requires some_cut { 0 < length cuts.now }
+    requires each_cut { All (λ c. 1 ≤ c) cuts.now }
+{
+    let acts = smallest_acts(alloc)?;
+    let report = serve(rt, alloc, SMALLEST, cuts, hooks)?;
+    Ok(is_smallest(&report, &acts))
+}
+
+#[test]
+fn the_smallest_run_succeeds(rt: HostRuntime) -> Result<(), Fault> {
+    let hooks = no_hooks(rt.alloc())?;
+    for cuts in [[100, 100, 100], [1, 1, 1], [15, 2, 100]] {
+        assert!(rt; succeeds(&rt, rt.alloc(), &cuts, &hooks)?);
+    }
+    Ok(())
+}
+
+/// The words of a command line.
+fn words_of(alloc: Global, line: &str) -> Result<Vec<Word>, AllocError> {
+    let mut words = Vec::new(alloc);
+    for word in line.split(' ') {
+        words.push(Word::of(alloc, word.as_bytes())?)?;
+    }
+    Ok(words)
+}
+
+/// Words that serve nobody, with what the input and one file hold, and what comes of them.
+struct Unserved {
+    line: &'static str,
+    input: &'static [u8],
+    file: (&'static str, &'static [u8]),
+    status: u8,
+    detail: Detail,
+    sent: &'static [u8],
+}
+
+const PHRASE: &[u8] = b"This is a test.\n";
+
+const MISSING: Detail = Detail::Missing {
+    file: FileKind::Words,
+};
+
+/// A setup that names itself as its word list.
+const ITS_OWN_LIST: &[u8] = b"socket = \"s\"
+launcher = \"l\"
+vault = \"v\"
+words = \"setup\"
+workers = 1
+connections = 1
+requests = 8
+tries = 1
+hold = 1
+";
+
+const UNSERVED: [Unserved; 15] = [
+    // No post is there for the one worker.
+    Unserved {
+        line: "serve",
+        input: PHRASE,
+        file: ("", b""),
+        status: 6,
+        detail: Detail::Nothing,
+        sent: b"",
+    },
+    Unserved {
+        line: "serve setup",
+        input: b"",
+        file: ("other", b""),
+        status: 4,
+        detail: Detail::Missing {
+            file: FileKind::Setup,
+        },
+        sent: b"",
+    },
+    Unserved {
+        line: "serve setup",
+        input: b"",
+        file: ("setup", b"launcher = \"l\"\n"),
+        status: 5,
+        detail: Detail::SetupBad(SetupFault {
+            key: SetupKey::Socket,
+            rule: SetupRule::Missing,
+            account: 0,
+        }),
+        sent: b"",
+    },
+    Unserved {
+        line: "serve setup",
+        input: b"",
+        file: ("setup", ITS_OWN_LIST),
+        status: 5,
+        detail: Detail::WordsBad(DictFault {
+            line: 1,
+            rule: DictRule::Length,
+        }),
+        sent: b"",
+    },
+    Unserved {
+        line: "check setup",
+        input: b"",
+        file: ("other", b""),
+        status: 4,
+        detail: Detail::Missing {
+            file: FileKind::Setup,
+        },
+        sent: b"missing setup\n",
+    },
+    Unserved {
+        line: "check setup",
+        input: b"",
+        file: ("setup", b"launcher = \"l\"\n"),
+        status: 5,
+        detail: Detail::SetupBad(SetupFault {
+            key: SetupKey::Socket,
+            rule: SetupRule::Missing,
+            account: 0,
+        }),
+        sent: b"refused setup socket missing 0\n",
+    },
+    Unserved {
+        line: "check setup",
+        input: b"",
+        file: ("setup", ITS_OWN_LIST),
+        status: 5,
+        detail: Detail::WordsBad(DictFault {
+            line: 1,
+            rule: DictRule::Length,
+        }),
+        sent: b"refused words 1 length\n",
+    },
+    Unserved {
+        line: "audit setup log",
+        input: b"",
+        file: ("setup", ITS_OWN_LIST),
+        status: 4,
+        detail: Detail::Missing {
+            file: FileKind::Log,
+        },
+        sent: b"",
+    },
+    Unserved {
+        line: "audit setup setup",
+        input: b"",
+        file: ("setup", ITS_OWN_LIST),
+        status: 14,
+        detail: Detail::AuditNo {
+            line: 1,
+            why: AuditWhy::Text,
+        },
+        sent: b"no 1 text\n",
+    },
+    Unserved {
+        line: "renew setup alice",
+        input: b"",
+        file: ("other", b""),
+        status: 4,
+        detail: Detail::Missing {
+            file: FileKind::Setup,
+        },
+        sent: b"",
+    },
+    Unserved {
+        line: "renew setup alice",
+        input: b"",
+        file: ("setup", ITS_OWN_LIST),
+        status: 5,
+        detail: Detail::WordsBad(DictFault {
+            line: 1,
+            rule: DictRule::Length,
+        }),
+        sent: b"",
+    },
+    Unserved {
+        line: "otp md5 99 TeSt",
+        input: PHRASE,
+        file: ("", b""),
+        status: 0,
+        detail: Detail::Nothing,
+        sent: b"50FE 1962 C496 5880\n",
+    },
+    Unserved {
+        line: "otp sha1 1 TeSt",
+        input: b"short\n",
+        file: ("", b""),
+        status: 12,
+        detail: Detail::Nothing,
+        sent: b"",
+    },
+    Unserved {
+        line: "otp md5 1 TeSt plain.txt",
+        input: PHRASE,
+        file: ("other.txt", b""),
+        status: 4,
+        detail: MISSING,
+        sent: b"",
+    },
+    Unserved {
+        line: "otp md5 1 TeSt plain.txt",
+        input: PHRASE,
+        file: ("plain.txt", b"QAAA\nQAAB\n"),
+        status: 5,
+        detail: Detail::WordsBad(DictFault {
+            line: 2,
+            rule: DictRule::Count,
+        }),
+        sent: b"",
+    },
+];
+
+/// The one file of a row.
+fn file_of(alloc: Global, row: &Unserved) -> Result<MemFiles, AllocError> {
+    let name = Word::of(alloc, row.file.0.as_bytes())?;
+    let pairs = vec![in alloc; (name, Bytes::of(alloc, row.file.1)?)]?;
+    MemFiles::new(alloc, pairs.as_slice(), &[])
+}
+
+/// What comes of a line's words, over these files and ends, and a site without posts.
+fn report_of<R: Threads + Wait + Sync + AllocGlobal>(
+    rt: &R,
+    line: &str,
+    files: &mut MemFiles,
+    ends: &mut MemStream,
+    hooks: &Hooks,
+) -> Result<Report<MemPost, MemSink>, AllocError> {
+    let alloc = rt.alloc();
+    let words = words_of(alloc, line)?;
+    let mut site: MemSite<MemPost> = MemSite::new(alloc, Vec::new(alloc))?;
+    let log = MemSink::new(alloc, &[])?;
+    Ok(otplogd(rt, alloc, &words, files, &mut site, log, ends, hooks))
+}
+
+/// Whether a row holds.
+fn serves_nobody<R: Threads + Wait + Sync + AllocGlobal>(
+    rt: &R,
+    alloc: Global,
+    row: &Unserved,
+    hooks: &Hooks,
+) -> Result<bool, AllocError> {
+    let mut files = file_of(alloc, row)?;
+    let mut ends = MemStream::new(alloc, row.input, &[100], &[])?;
+    let report = report_of(rt, row.line, &mut files, &mut ends, hooks)?;
+    Ok(
+        report.status == row.status
+            && report.detail == row.detail
+            && report.posts.len() == 0
+            && ends.sent() == row.sent,
+    )
+}
+
+#[test]
+fn other_words_serve_nobody(rt: HostRuntime) -> Result<(), Fault> {
+    let hooks = no_hooks(rt.alloc())?;
+    for row in &UNSERVED {
+        assert!(rt;
+            serves_nobody(&rt, rt.alloc(), row, &hooks)?,
+            "{}",
+            row.line
+        );
+    }
+    Ok(())
+}
+
+/// Lines that are no commands; the empty one is one empty word.
+const NO_COMMANDS: &str = "
+fly
+-x
+help
+--help
+serve -x
+serve a b c
+Serve
+recover a
+recover a b c
+check
+check -x
+check a b
+otp md5 -x TeSt
+otp md5 1 TeSt -x
+drills 7
+child-pre
+child-pre 01
+child-pre 262145
+child-user 1 1000
+child-user 1 0 bob
+audit
+audit a
+audit a b c
+audit -x b
+renew a
+renew a Bob
+renew a bob c";
+
+/// Whether a report says that the words are no command.
+fn is_no_command(report: &Report<MemPost, MemSink>, ends: &MemStream) -> bool {
+    report.status == 2
+        && report.detail == Detail::Nothing
+        && report.posts.len() == 0
+        && ends.sent() == b"".as_slice()
+}
+
+/// Whether the words of a line are no command.
+fn names_no_command<R: Threads + Wait + Sync + AllocGlobal>(
+    rt: &R,
+    alloc: Global,
+    line: &str,
+    hooks: &Hooks,
+) -> Result<bool, AllocError> {
+    let mut files = MemFiles::new(alloc, &[], &[])?;
+    let mut ends = MemStream::new(alloc, PHRASE, &[100], &[])?;
+    let report = report_of(rt, line, &mut files, &mut ends, hooks)?;
+    Ok(is_no_command(&report, &ends))
+}
+
+#[test]
+fn words_that_are_no_command(rt: HostRuntime) -> Result<(), Fault> {
+    let hooks = no_hooks(rt.alloc())?;
+    for line in NO_COMMANDS.split('\n') {
+        assert!(rt; names_no_command(&rt, rt.alloc(), line, &hooks)?, "{line}");
+    }
+    Ok(())
+}
+
+/// Whether no words at all are no command.
+fn nothing_is_no_command<R: Threads + Wait + Sync>(
+    rt: &R,
+    alloc: Global,
+    hooks: &Hooks,
+) -> Result<bool, AllocError> {
+    let mut files = MemFiles::new(alloc, &[], &[])?;
+    let mut ends = MemStream::new(alloc, PHRASE, &[100], &[])?;
+    let mut site: MemSite<MemPost> = MemSite::new(alloc, Vec::new(alloc))?;
+    let log = MemSink::new(alloc, &[])?;
+    let report = otplogd(rt, alloc, &[], &mut files, &mut site, log, &mut ends, hooks);
+    Ok(is_no_command(&report, &ends))
+}
+
+#[test]
+fn no_words_are_no_command(rt: HostRuntime) -> Result<(), Fault> {
+    let hooks = no_hooks(rt.alloc())?;
+    assert!(rt; nothing_is_no_command(&rt, rt.alloc(), &hooks)?);
+    Ok(())
+}
