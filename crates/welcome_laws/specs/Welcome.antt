@@ -1,0 +1,79 @@
+-- Inner: what has to hold so that a user is welcomed, and what a welcome is.
+use Rattle.std.specs.Prelude.{◌≡◌, ℕ, ◌+◌, ◌≤◌, true, Option, Some, Result}
+use Rattle.std.specs.Prelude.{List, [], ◌∷◌, ◌++◌, codes, count_by}
+use Rattle.std.specs.List.{AllByRecursion}
+use Rattle.request_catalogue.specs.declared.texts.Name.{Name}
+use Rattle.request_catalogue.specs.TextBytes.{name_bytes}
+use Rattle.otp_words.specs.Candidates.{AreCandidatesOf}
+use Rattle.outside.specs.declared.act.Act.{Act}
+use Rattle.outside.specs.declared.act.Act.TheVariants as acts
+use Rattle.outside.specs.declared.act.Failed.{Failed}
+use Rattle.outside.specs.declared.act.Role.TheVariants as launched
+use Rattle.policy_model.specs.declared.account.Account.{Account}
+use Rattle.policy_model.specs.declared.event.Event.{Event}
+use Rattle.policy_model.specs.Asks.{accepts, exports, is_permit, moment_of}
+use Rattle.service_model.specs.Parts.{Part, requests_of}
+use Rattle.service_model.specs.Places.{Step, step_acts}
+use Rattle.service_model.specs.Service.{Service}
+use Rattle.service_model.specs.Sittings.{Sitting}
+use Rattle.login_laws.specs.Login.{CanLogIn, ComesAfter, IsRight, RepliesWithinHold, asks_for}
+use Rattle.welcome_laws.specs.Client.{AreLoginLines, ClientSays, is_receiving}
+use Rattle.welcome_laws.specs.Shipped.{IsShipped}
+
+-- the session of a sitting
+abbrev pub sitting_session : Sitting → ℕ
+sitting_session sitting = sitting.opening.place.event.session
+
+-- the acts that were done for a session's first child
+abbrev pub first_acts : List Part → List Act
+first_acts [] = []
+first_acts (pre ∷ parts) = step_acts (requests_of pre)
+
+-- the shipped children serve a session whose client asks for the user and responds; the setup allows eight asks besides
+-- those that the client's bytes take; wherever the session asks for the user, the user can log in by that response, and
+-- the reply comes within the hold
+pub record ComesToLogIn (service : Service) (journal : List Event) (user : Name) (account : Account)
+    (response : List ℕ) (sitting : Sitting) : Type 0 where
+  pub lines : List ℕ
+  pub are_lines : AreLoginLines lines (name_bytes user) response
+  pub children : AllByRecursion IsShipped sitting.parts
+  pub client : ClientSays lines [] (first_acts sitting.parts)
+  pub few : count_by is_receiving (first_acts sitting.parts) + 8 ≤ service.setup.requests
+  pub ready : (before : List Event) (e : Event) → ComesAfter journal before e → e.session ≡ sitting_session sitting
+      → asks_for user e.ask ≡ true
+      → CanLogIn service.setup before (sitting_session sitting) user (moment_of e.ask) account
+  pub right : (before : List Event) (e : Event) → ComesAfter journal before e → e.session ≡ sitting_session sitting
+      → asks_for user e.ask ≡ true → (words hex : Option ℕ)
+      → AreCandidatesOf service.words response words hex → IsRight before account words hex
+  pub within : RepliesWithinHold service.setup journal (sitting_session sitting) user
+
+-- a REPLY of the session was accepted; its first child's part ended with a permitted EXPORT; the child of that user was
+-- served, and the second request of that child was permitted and sent the client `welcome NAME`
+pub record IsWelcomed (journal : List Event) (user : Name) (account : Account) (sitting : Sitting) : Type 0 where
+  pub before : List Event
+  pub reply : Event
+  pub replied : ComesAfter journal before reply
+  pub own : reply.session ≡ sitting_session sitting
+  pub accepted : accepts reply ≡ true
+  pub pre : Part
+  pub child : Part
+  pub parts : sitting.parts ≡ pre ∷ child ∷ []
+  pub export : Step
+  pub final : pre.final ≡ Some export
+  pub exported : exports export.place.event ≡ true
+  pub role : child.role ≡ launched.User (sitting_session sitting) account.uid account.name
+  pub named : account.name ≡ user
+  pub import : Step
+  pub welcome : Step
+  pub later : List Step
+  pub served : child.served ≡ import ∷ welcome ∷ later
+  pub permitted : is_permit welcome.place.event.decision ≡ true
+  pub outcome : Result (Unit {0}) Failed
+  pub told : welcome.acts ≡ acts.ConnSend (codes "welcome " ++ name_bytes user ++ codes "\n") outcome ∷ []
+
+-- each session of a worker that comes to log in is welcomed
+abbrev pub UsersGetIn : Service → List Event → List Sitting → Type 0
+UsersGetIn service journal sittings =
+    (earlier later : List Sitting) (sitting : Sitting) → sittings ≡ earlier ++ (sitting ∷ later)
+    → (user : Name) (account : Account) (response : List ℕ)
+    → ComesToLogIn service journal user account response sitting → IsWelcomed journal user account sitting

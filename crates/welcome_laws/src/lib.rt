@@ -1,0 +1,8 @@
+//! The user gets in: the law by which the shipped children tell a client `welcome NAME` that asks for a
+//! user and responds with the user's next password, whatever the cuts and the width of the frames are.
+//! Believe `specs/`.
+#![tactic(auto)]
+
+mod laws;
+
+pub use laws::users_are_welcomed;
