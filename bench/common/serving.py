@@ -11,10 +11,11 @@ def stop(why, status=1):
 
 
 def program():
-    """The path of the built program: OTPLOGD, or where the gate builds it."""
-    path = os.path.abspath(os.environ.get("OTPLOGD") or os.path.join(TOP, "crates/otplogd/out/otplogd"))
+    """The path of the program: OTPLOGD, or the proved one of this text."""
+    found = [os.path.join(TOP, "build"), "--find"]
+    path = subprocess.run(found, stdout=subprocess.PIPE, text=True).stdout.strip()
     if not os.access(path, os.X_OK):
-        stop("the program is not built; ./demo builds it", 3)
+        stop("the program is not built; ./build builds it", 3)
     return path
 
 
