@@ -1,4 +1,4 @@
-//! Whether the text of a log is one that a monitor with this setup could have written. Believe
+//! Whether each line of a log is one that the policy allows after those before it. Believe
 //! `specs/Legal.antt` and `specs/Said.antt`; the mode `audit` stands above.
 #![tactic(auto)]
 

@@ -10,7 +10,7 @@ use Rattle.check_mode.specs.declared.finding.Finding.TheVariants.{Right, SetupMi
 
 -- what is told of a setup and its word list, as the files say them
 abbrev pub told_by : Result FoundService ServiceError → Result Finding CheckFault
-told_by (Ok found) = Ok (Right (length found.entries.accounts) found.entries.counts.workers)
+told_by (Ok found) = Ok (Right (length found.entries.accounts) found.entries.counts.workers found.entries.counts.requests)
 told_by (Err errors.SetupMissing) = Ok SetupMissing
 told_by (Err (errors.SetupRefused fault)) = Ok (SetupRefused fault)
 told_by (Err errors.WordsMissing) = Ok WordsMissing
@@ -20,7 +20,7 @@ told_by (Err errors.OutOfMemory) = Err faults.OutOfMemory
 
 -- the exit status of a program that has told what it found
 abbrev pub finding_status : Finding → ℕ
-finding_status (Right accounts workers) = 0
+finding_status (Right accounts workers requests) = 0
 finding_status SetupMissing = 4
 finding_status WordsMissing = 4
 finding_status (SetupRefused fault) = 5

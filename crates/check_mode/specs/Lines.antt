@@ -16,7 +16,7 @@ list_rule_word rules.Twice = codes "twice"
 
 -- the line of what was found
 abbrev pub line_of : Finding → List ℕ
-line_of (Right accounts workers) = codes "ok accounts " ++ decimal accounts ++ codes " workers " ++ decimal workers ++ codes "\n"
+line_of (Right accounts workers requests) = codes "ok accounts " ++ decimal accounts ++ codes " workers " ++ decimal workers ++ codes "\n"
 line_of SetupMissing = codes "missing setup\n"
 line_of WordsMissing = codes "missing words\n"
 line_of (SetupRefused fault) = codes "refused setup " ++ key_word fault.key ++ codes " " ++ rule_word fault.rule ++ codes " " ++ decimal fault.account ++ codes "\n"

@@ -9,8 +9,15 @@ use otp_words::DictFault;
 /// What the mode `check` finds of a setup.
 #[derive(Clone, Copy, PartialEq, Eq)]
 pub enum Finding {
-    /// The setup and its word list are right; so many accounts, 0 to 1,024, and workers, 1 to 64.
-    Right { accounts: usize, workers: u32 },
+    /// The setup and its word list are right.
+    Right {
+        /// How many accounts it has, 0 to 1,024.
+        accounts: usize,
+        /// How many workers, 1 to 64.
+        workers: u32,
+        /// How many requests a session may make, 8 to 4,096.
+        requests: u32,
+    },
     /// There is no file of the setup's name.
     SetupMissing,
     /// The setup is refused.

@@ -16,7 +16,11 @@ pub fn line_of(alloc: Global, finding: Finding) -> Result<String, AllocError>
     ensures { IfOk result (λ line. string_bytes line ≡ line_of finding) }
 {
     match finding {
-        Finding::Right { accounts, workers } => right_line(alloc, accounts, workers),
+        Finding::Right {
+            accounts,
+            workers,
+            ..
+        } => right_line(alloc, accounts, workers),
         Finding::SetupMissing => String::from_str(alloc, "missing setup\n"),
         Finding::SetupRefused(fault) => refused_setup_line(alloc, fault),
         Finding::WordsMissing => String::from_str(alloc, "missing words\n"),

@@ -65,6 +65,7 @@ fn told_by(read: Result<ServiceParts, ServiceError>) -> Result<Finding, CheckFau
         Ok(parts) => Ok(Finding::Right {
             accounts: parts.setup.parts().accounts.as_slice().len(),
             workers: parts.setup.workers(),
+            requests: parts.setup.requests(),
         }),
         Err(ServiceError::SetupMissing) => Ok(Finding::SetupMissing),
         Err(ServiceError::SetupRefused(fault)) => Ok(Finding::SetupRefused(fault)),

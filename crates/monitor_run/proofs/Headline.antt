@@ -14,6 +14,9 @@ use Rattle.policy_model.specs.declared.event.Ask.{Ask}
 use Rattle.policy_model.specs.declared.event.Event.{Event}
 use Rattle.policy_model.specs.Asks.{is_lost, opens}
 use Rattle.policy_model.specs.Journal.{Place, has_lost}
+use Rattle.policy_model.specs.Legal.{IsLegal}
+use Rattle.policy_model.specs.Settings.{IsInRange}
+use Rattle.policy_model.specs.declared.ranges.TheConstants.{EVENTS_LIMIT}
 use Rattle.policy_model.proofs.Lists.{last_or-push}
 use Rattle.service_model.specs.Ends.{is_fault_end, is_keeper_end, is_link_end, is_lost_end}
 use Rattle.service_model.specs.Places.{step_acts, worker_places}
@@ -26,8 +29,9 @@ use Rattle.service_model.proofs.Lists.{any-none, count-any, count-cons, count-no
 use Rattle.service_model.proofs.Places.{count_of-places}
 use Rattle.service_model.proofs.Stories.{all_lost_ends, all_opened, never_stopped}
 use Rattle.session_loop.specs.Stories.{RoseBy, asks_among}
-use Rattle.monitor_run.specs.Headline.{AreFaultless, ConversationsMatch, FaultEndsAreCounted, IsAnsweredWhole, IsFaultless, NoAcceptFailed, RunsToQuota, SessionsInOrder, SomeAcceptFailed, ends_by, ends_by_accept_fault, lost_by, openings_by}
+use Rattle.monitor_run.specs.Headline.{AreFaultless, ConversationsMatch, EachScene, FaultEndsAreCounted, IsAnsweredWhole, IsFaultless, IsServedWhole, NoAcceptFailed, RunsToQuota, SessionsInOrder, SomeAcceptFailed, ends_by, ends_by_accept_fault, lost_by, openings_by}
 use Rattle.monitor_run.specs.Ran.{RunEnded, WorkerRan}
+use Rattle.welcome_laws.proofs.Welcomed.{users_get_in}
 
 -- ---- what the worker of each post did
 
@@ -215,13 +219,32 @@ no_fault_ends {P} service failed journal posts scene faults run kept faultless w
       let lost : asks_among is_lost_end (worker_places journal worker) ≤ lost_places (worker_places journal worker) = subst (λ ps. asks_among is_lost_end ps ≤ lost_places ps) (sym did.all) (all_lost_ends service did.sittings did.each) in
       omega (arith, faults_split (worker_places journal worker), link, keeper, lost, lost_all journal worker kept)
 
-pub answered_whole : {P : Type 0} (service : Service) (failed : Bool) (journal : List Event) (posts : List P) (scene : P → Option Scene) (faults : P → Faults) → RunEnded service failed journal posts scene faults → AreFaultless faults posts → has_lost journal ≡ false → IsAnsweredWhole service scene journal posts
-answered_whole service failed journal posts scene faults run none kept = record {
-  ended = none_by_worker (λ e. is_fault_end e.ask) journal (λ worker. count_of-places (λ e. is_fault_end e.ask) worker journal ∙ no_fault_ends service failed journal posts scene faults run kept none.each worker);
-  answered = λ worker post is.
-      let did = run.each worker post is in
-      let link = none_rose (asks_among is_link_end (worker_places journal worker)) (faults post).link did.2.link (none.each worker post is).no_link_fault in
-      let answered = all_answered service did.2.sittings did.2.each (sym (ap (asks_among is_link_end) did.2.all) ∙ link) in
-      IfSome-weaker (scene post) (IsStory did.2.sittings did.0) (λ s. (sittings : List Sitting) × (last : LastAccept) × AreSittingsOf service journal worker sittings × IsStory sittings last s × AllByRecursion (λ sitting. AreAnswered service [] sitting.parts) sittings)
-      (λ s story. (did.2.sittings, did.0, sittings_of service did.0 journal worker (scene post) (faults post) did.2, story, answered)) did.2.story;
-}
+pub answered_whole : {P : Type 0} (service : Service) (failed : Bool) (journal : List Event) (posts : List P)
+    (scene : P → Option Scene) (faults : P → Faults) → RunEnded service failed journal posts scene faults
+    → IsLegal service.setup journal → length journal ≤ EVENTS_LIMIT → IsInRange service.setup
+    → AreFaultless faults posts → has_lost journal ≡ false → IsAnsweredWhole service scene journal posts
+answered_whole service failed journal posts scene faults run legal few range none kept =
+    record { ended = ended; answered = answered } where
+      ended : list_any (λ e. is_fault_end e.ask) journal ≡ false
+      ended = none_by_worker (λ e. is_fault_end e.ask) journal
+          (λ worker. count_of-places (λ e. is_fault_end e.ask) worker journal
+          ∙ no_fault_ends service failed journal posts scene faults run kept none.each worker)
+
+      answered : EachScene scene posts (IsServedWhole service journal)
+      answered worker post is =
+          let did = run.each worker post is in
+          let link = none_rose (asks_among is_link_end (worker_places journal worker)) (faults post).link did.2.link
+          (none.each worker post is).no_link_fault in
+          let each = all_answered service did.2.sittings did.2.each
+          (sym (ap (asks_among is_link_end) did.2.all) ∙ link) in
+          let served = sittings_of service did.0 journal worker (scene post) (faults post) did.2 in
+          let welcomed = users_get_in service journal legal few kept range ended worker did.2.sittings served each in
+          IfSome-weaker (scene post) (IsStory did.2.sittings did.0) (IsServedWhole service journal worker)
+          (λ s story. record {
+            sittings = did.2.sittings;
+            last = did.0;
+            served = served;
+            story = story;
+            answered = each;
+            welcomed = welcomed;
+          }) did.2.story

@@ -1,5 +1,5 @@
 -- All that a run promises, from what its workers did and what its book keeps.
-use Rattle.std.proofs.Common.{◌≡◌, ℕ, ◌≤◌, Bool, true, List, length, Option, Some, sym, subst}
+use Rattle.std.proofs.Common.{◌≡◌, ℕ, ◌≤◌, Bool, true, false, List, length, Option, Some, sym, subst}
 use Rattle.monitor_book.specs.declared.opened.Opened.{Opened}
 use Rattle.monitor_book.specs.Kept.{BookParts, IsBook}
 use Rattle.monitor_book.specs.Lines.{LogMatches}
@@ -10,7 +10,7 @@ use Rattle.policy_laws.proofs.Alike.{shows_no_accounts}
 use Rattle.policy_model.specs.declared.event.Event.{Event}
 use Rattle.policy_model.specs.Journal.{has_lost}
 use Rattle.policy_model.specs.Runs.{IsRun}
-use Rattle.policy_model.specs.Settings.{Settings}
+use Rattle.policy_model.specs.Settings.{IsInRange, Settings}
 use Rattle.service_model.specs.Service.{Service}
 use Rattle.session_core.specs.Parts.{setup_of}
 use Rattle.session_core.proofs.ReplayLemmas.{consequences}
@@ -21,14 +21,16 @@ use Rattle.monitor_run.proofs.Headline.{answered_whole, conversations_match, fau
 
 -- what the book of a run keeps, by what was fixed of it
 pub record BookSays (setup : Settings) (journal : List Event) (held_old held_new : Option (List ℕ)) (log_old log_new : ℕ) : Type 0 where
+  pub in_range : IsInRange setup
   pub run : IsRun setup journal
   pub lines : LogMatches setup journal held_old held_new
   pub rose : has_lost journal ≡ true → Rose log_old log_new
+  pub kept : has_lost journal ≡ false → log_new ≡ log_old
 
 pub book_says : (setup : Settings) (book : BookParts) (held : Option (List ℕ)) (faults : ℕ) → IsBook book → Some (record { setup = setup; held = held; faults = faults }) ≡ Some (opened_of book) → BookSays setup book.journal held book.held faults book.faults
 book_says setup book held faults is told =
     let same : record { setup = setup; held = held; faults = faults } ≡ opened_of book = once _ _ told in
-    subst (λ (o : Opened). BookSays o.setup book.journal o.held book.held o.faults book.faults) (sym same) (record { run = is.history.run; lines = is.logged.lines; rose = is.logged.rose })
+    subst (λ (o : Opened). BookSays o.setup book.journal o.held book.held o.faults book.faults) (sym same) (record { in_range = is.history.in_range; run = is.history.run; lines = is.logged.lines; rose = is.logged.rose; kept = is.logged.kept })
   where
     once : (a b : Opened) → Some a ≡ Some b → a ≡ b
     once a b e = cc
@@ -51,9 +53,10 @@ run_promises service failed journal posts scene faults held_old held_new log_old
       counted = counted;
       one_each = one_each;
       lost = says.rose;
+      kept = says.kept;
       accept_failed = some_accept_failed service failed journal posts scene faults ended;
       accepted = no_accept_failed service failed journal posts scene faults ended;
-      whole = answered_whole service failed journal posts scene faults ended;
+      whole = answered_whole service failed journal posts scene faults ended says.run.legal few says.in_range;
     }
 
 -- the same under the names of what was handed out

@@ -20,6 +20,7 @@ use Rattle.service_model.specs.Ends.{is_fault_end, is_keeper_end, is_link_end}
 use Rattle.service_model.specs.Service.{Service}
 use Rattle.service_model.specs.Sittings.{AreAnswered, AreSittingsOf, Sitting}
 use Rattle.service_model.specs.Stories.{IsStory, LastAccept, is_stop}
+use Rattle.welcome_laws.specs.Welcome.{UsersGetIn}
 
 -- ---- the journal is legal
 
@@ -99,10 +100,21 @@ pub record IsFaultless {P : Type 0} (faults : P → Faults) (post : P) : Type 0 
 pub record AreFaultless {P : Type 0} (faults : P → Faults) (posts : List P) : Type 0 where
   pub each : (worker : ℕ) (post : P) → slice_get posts worker ≡ Some post → IsFaultless faults post
 
--- each session ended by what its child did, and each of its requests is answered
-pub record IsAnsweredWhole {P : Type 0} (service : Service) (scene : P → Option Scene) (journal : List Event) (posts : List P) : Type 0 where
+-- a worker's sessions: they are all its events and tell this story, each of their requests is answered, and each user
+-- who comes to log in gets in
+pub record IsServedWhole (service : Service) (journal : List Event) (worker : ℕ) (s : Scene) : Type 0 where
+  pub sittings : List Sitting
+  pub last : LastAccept
+  pub served : AreSittingsOf service journal worker sittings
+  pub story : IsStory sittings last s
+  pub answered : AllByRecursion (λ sitting. AreAnswered service [] sitting.parts) sittings
+  pub welcomed : UsersGetIn service journal sittings
+
+-- each session ended by what its child did, and each worker's sessions are served to their end
+pub record IsAnsweredWhole {P : Type 0} (service : Service) (scene : P → Option Scene) (journal : List Event)
+    (posts : List P) : Type 0 where
   pub ended : list_any (λ e. is_fault_end e.ask) journal ≡ false
-  pub answered : EachScene scene posts (λ worker s. (sittings : List Sitting) × (last : LastAccept) × AreSittingsOf service journal worker sittings × IsStory sittings last s × AllByRecursion (λ sitting. AreAnswered service [] sitting.parts) sittings)
+  pub answered : EachScene scene posts (IsServedWhole service journal)
 
 -- ---- all of it
 
@@ -119,6 +131,7 @@ pub record RunPromises {P : Type 0} (service : Service) (failed : Bool) (journal
   pub counted : FaultsAreCounted scene faults posts
   pub one_each : length posts ≡ service.setup.workers
   pub lost : has_lost journal ≡ true → Rose log_old log_new
+  pub kept : has_lost journal ≡ false → log_new ≡ log_old
   pub accept_failed : failed ≡ true → SomeAcceptFailed scene faults posts
   pub accepted : failed ≡ false → NoAcceptFailed scene posts
   pub whole : AreFaultless faults posts → has_lost journal ≡ false → IsAnsweredWhole service scene journal posts

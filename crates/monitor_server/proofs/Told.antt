@@ -120,7 +120,7 @@ password_status (Err otp_faults.EndsFailed) = refl
 password_status (Err otp_faults.PhraseRefused) = refl
 
 pub check_status : (outcome : Result Finding CheckFault) → IsModeStatus (checks.status_of outcome)
-check_status (Ok (findings.Right accounts workers)) = refl
+check_status (Ok (findings.Right accounts workers requests)) = refl
 check_status (Ok findings.SetupMissing) = refl
 check_status (Ok (findings.SetupRefused fault)) = refl
 check_status (Ok findings.WordsMissing) = refl
@@ -138,13 +138,13 @@ password_detail (Err otp_faults.OutOfMemory) plain = refl
 password_detail (Err otp_faults.EndsFailed) plain = refl
 password_detail (Err otp_faults.PhraseRefused) plain = refl
 
-pub check_detail : (outcome : Result Finding CheckFault) → IsPlainStatus (checks.status_of outcome) → checked_detail outcome ≡ Nothing
-check_detail (Ok (findings.Right accounts workers)) plain = refl
-check_detail (Ok findings.SetupMissing) plain = absurd (plain.four refl)
-check_detail (Ok (findings.SetupRefused fault)) plain = absurd (plain.five refl)
-check_detail (Ok findings.WordsMissing) plain = absurd (plain.four refl)
-check_detail (Ok (findings.WordsRefused fault)) plain = absurd (plain.five refl)
-check_detail (Err fault) plain = refl
+pub check_detail : (outcome : Result Finding CheckFault) → checks.status_of outcome ≢ 0 → IsPlainStatus (checks.status_of outcome) → checked_detail outcome ≡ Nothing
+check_detail (Ok (findings.Right accounts workers requests)) some plain = absurd (some refl)
+check_detail (Ok findings.SetupMissing) some plain = absurd (plain.four refl)
+check_detail (Ok (findings.SetupRefused fault)) some plain = absurd (plain.five refl)
+check_detail (Ok findings.WordsMissing) some plain = absurd (plain.four refl)
+check_detail (Ok (findings.WordsRefused fault)) some plain = absurd (plain.five refl)
+check_detail (Err fault) some plain = refl
 
 pub audit_plain : (outcome : Result Audit AuditError) → IsPlainStatus (audits.status_of outcome) → audit_detail outcome ≡ Nothing
 audit_plain (Ok (answers.Yes events)) plain = refl

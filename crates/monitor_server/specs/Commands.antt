@@ -15,6 +15,8 @@ use Rattle.recover_mode.specs.Commands as recoveries
 use Rattle.recover_mode.specs.Words.{RecoverParts, recover_command}
 use Rattle.serve_mode.specs.Commands.{source_of}
 use Rattle.serve_mode.specs.Words.{Source, serve_command}
+use Rattle.monitor_server.specs.declared.command.AloneCommand.{AloneCommand}
+use Rattle.monitor_server.specs.declared.command.AloneCommand.TheVariants as alone
 use Rattle.monitor_server.specs.declared.command.Command.{Command}
 use Rattle.monitor_server.specs.declared.command.Command.TheVariants as commands
 use Rattle.monitor_server.specs.declared.command.Unread.{Unread}
@@ -56,27 +58,37 @@ asks_recover words = option_and_then recover_command (words_without_hyphen words
 abbrev pub IsCommand : List (List ℕ) → Type 0
 IsCommand words = ((source : Source) × (asks_serve words ≡ Some source)) ⊎ ((parts : OtpParts) × (asks_otp words ≡ Some parts)) ⊎ ((setup : List ℕ) × (asks_check words ≡ Some setup)) ⊎ ((parts : ChildParts) × (asks_child words ≡ Some parts)) ⊎ ((parts : AuditParts) × (asks_audit words ≡ Some parts)) ⊎ ((parts : RenewParts) × (asks_renew words ≡ Some parts)) ⊎ ((number : ℕ) × (asks_drill words ≡ Some number)) ⊎ ((parts : RecoverParts) × (asks_recover words ≡ Some parts))
 
--- what a mode's word and the words behind it are read as
+-- what a mode's word and the words after it are read as that is done without threads
+abbrev pub IsMeantAlone : List (List ℕ) → Option AloneCommand → Type 0
+IsMeantAlone words (Some (alone.Password command)) = otp_command words ≡ Some (command_parts command)
+IsMeantAlone words (Some (alone.Check setup)) = check_command words ≡ Some setup.now
+IsMeantAlone words (Some (alone.Child command)) = child_command words ≡ Some (parts_of command)
+IsMeantAlone words (Some (alone.Audit command)) = audit_command words ≡ Some (audits.command_parts command)
+IsMeantAlone words (Some (alone.Renew command)) = renew_command words ≡ Some (renewals.command_parts command)
+IsMeantAlone words (Some (alone.Recover command)) = recover_command words ≡ Some (recoveries.command_parts command)
+IsMeantAlone words None = (otp_command words ≡ None) × (check_command words ≡ None) × (child_command words ≡ None)
+    × (audit_command words ≡ None) × (renew_command words ≡ None) × (recover_command words ≡ None)
+
+-- what a mode's word and the words after it are read as
 abbrev pub IsMeant : List (List ℕ) → Option Command → Type 0
 IsMeant words (Some (commands.Serve command)) = serve_command words ≡ Some (source_of command)
-IsMeant words (Some (commands.Password command)) = otp_command words ≡ Some (command_parts command)
-IsMeant words (Some (commands.Check setup)) = check_command words ≡ Some setup.now
-IsMeant words (Some (commands.Child command)) = child_command words ≡ Some (parts_of command)
-IsMeant words (Some (commands.Audit command)) = audit_command words ≡ Some (audits.command_parts command)
-IsMeant words (Some (commands.Renew command)) = renew_command words ≡ Some (renewals.command_parts command)
 IsMeant words (Some (commands.Drill number)) = drill_command words ≡ Some number
-IsMeant words (Some (commands.Recover command)) = recover_command words ≡ Some (recoveries.command_parts command)
-IsMeant words None = (serve_command words ≡ None) × (otp_command words ≡ None) × (check_command words ≡ None) × (child_command words ≡ None) × (audit_command words ≡ None) × (renew_command words ≡ None) × (drill_command words ≡ None) × (recover_command words ≡ None)
+IsMeant words (Some (commands.Alone command)) = IsMeantAlone words (Some command)
+IsMeant words None = (serve_command words ≡ None) × (drill_command words ≡ None) × IsMeantAlone words None
+
+-- what words that ask for this are
+abbrev pub AsksAlone : List (List ℕ) → AloneCommand → Type 0
+AsksAlone words (alone.Password command) = asks_otp words ≡ Some (command_parts command)
+AsksAlone words (alone.Check setup) = asks_check words ≡ Some setup.now
+AsksAlone words (alone.Child command) = asks_child words ≡ Some (parts_of command)
+AsksAlone words (alone.Audit command) = asks_audit words ≡ Some (audits.command_parts command)
+AsksAlone words (alone.Renew command) = asks_renew words ≡ Some (renewals.command_parts command)
+AsksAlone words (alone.Recover command) = asks_recover words ≡ Some (recoveries.command_parts command)
 
 -- what the words of a command line are read as; want of memory comes only where none begins with a hyphen
 abbrev pub IsReading : List (List ℕ) → Result Command Unread → Type 0
 IsReading words (Ok (commands.Serve command)) = asks_serve words ≡ Some (source_of command)
-IsReading words (Ok (commands.Password command)) = asks_otp words ≡ Some (command_parts command)
-IsReading words (Ok (commands.Check setup)) = asks_check words ≡ Some setup.now
-IsReading words (Ok (commands.Child command)) = asks_child words ≡ Some (parts_of command)
-IsReading words (Ok (commands.Audit command)) = asks_audit words ≡ Some (audits.command_parts command)
-IsReading words (Ok (commands.Renew command)) = asks_renew words ≡ Some (renewals.command_parts command)
 IsReading words (Ok (commands.Drill number)) = asks_drill words ≡ Some number
-IsReading words (Ok (commands.Recover command)) = asks_recover words ≡ Some (recoveries.command_parts command)
+IsReading words (Ok (commands.Alone command)) = AsksAlone words command
 IsReading words (Err unread.NoCommand) = IsCommand words → ⊥
 IsReading words (Err unread.OutOfMemory) = words_without_hyphen words ≢ None

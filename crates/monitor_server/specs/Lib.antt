@@ -2,3 +2,4 @@ pub mod Commands
 pub mod Headline
 pub mod Modes
 pub mod Whole
+pub mod Alone

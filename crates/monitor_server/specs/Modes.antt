@@ -1,5 +1,5 @@
 -- Believed: what each mode promises, and what it leaves as it was.
-use Rattle.std.specs.Prelude.{◌≡◌, ◌≢◌, ◌⊎◌, ℕ, List, [], Option, Some, None, Result, Ok, Err, Vec}
+use Rattle.std.specs.Prelude.{◌≡◌, ◌≢◌, ◌⊎◌, ℕ, cond, nat_lt, List, [], Option, Some, None, Result, Ok, Err, Vec}
 use Rattle.std.specs.Global.{Global}
 use Rattle.info_hooks.specs.declared.key.Key.{Key}
 use Rattle.outside.specs.declared.faults.Faults.{Faults}
@@ -19,7 +19,7 @@ use Rattle.otp_mode.specs.declared.fault.OtpFault.{OtpFault}
 use Rattle.otp_mode.specs.declared.fault.OtpFault.TheVariants as faults
 use Rattle.otp_mode.specs.Exact.{IsExact}
 use Rattle.otp_mode.specs.Faults.{status_of}
-use Rattle.otp_mode.specs.Outcome.{IsOutcome}
+use Rattle.otp_mode.specs.Outcome.{IsOutcome, OnlyReceived}
 use Rattle.otp_mode.specs.Words.{OtpParts}
 use Rattle.check_mode.specs.declared.fault.CheckFault.{CheckFault}
 use Rattle.check_mode.specs.declared.finding.Finding.{Finding}
@@ -52,8 +52,9 @@ use Rattle.recover_mode.specs.Outcome as recoveries
 use Rattle.recover_mode.specs.Returning.{BringsBack}
 use Rattle.recover_mode.specs.Words.{RecoverParts}
 use Rattle.monitor_server.specs.declared.report.Detail.{Detail}
-use Rattle.monitor_server.specs.declared.report.Detail.TheVariants.{AuditNo, LogBad, LogNotFresh, Missing, Nothing, RenewBad, SetupBad, WordsBad}
+use Rattle.monitor_server.specs.declared.report.Detail.TheVariants.{AuditNo, FewRequests, LogBad, LogNotFresh, Missing, Nothing, RenewBad, SetupBad, WordsBad}
 use Rattle.monitor_server.specs.declared.report.FileKind.TheVariants.{Log, Setup, Words}
+use Rattle.monitor_server.specs.declared.report.TheConstants.{FEW_REQUESTS}
 use Rattle.monitor_server.specs.Commands.{asks_audit, asks_check, asks_child, asks_drill, asks_otp, asks_recover, asks_renew, asks_serve}
 use Rattle.monitor_server.specs.Headline.{IsUnserved}
 
@@ -99,9 +100,9 @@ pub record PasswordRan (parts : OtpParts) (status : ℕ) (detail : Detail) (cont
 pub record PasswordMode (words : List (List ℕ)) (status : ℕ) (detail : Detail) (contents : Option Contents) (before after : Option Link) (ReadFailed EndsFailed : Type 0) : Type 0 where
   pub ran : (parts : OtpParts) → asks_otp words ≡ Some parts → (status ≡ 9) ⊎ PasswordRan parts status detail contents before after ReadFailed EndsFailed
 
--- what is missing or refused of a setup
+-- what is missing or refused of a setup, and where it is right, that its requests are few
 abbrev pub finding_detail : Finding → Detail
-finding_detail (findings.Right accounts workers) = Nothing
+finding_detail (findings.Right accounts workers requests) = cond (nat_lt requests FEW_REQUESTS) (FewRequests requests) Nothing
 finding_detail findings.SetupMissing = Missing Setup
 finding_detail (findings.SetupRefused fault) = SetupBad fault
 finding_detail findings.WordsMissing = Missing Words
@@ -171,7 +172,7 @@ pub record RenewRan (parts : RenewParts) (status : ℕ) (detail : Detail) (old n
 
 -- where the words are those of the mode `renew`, it ran, unless memory was wanted for them
 pub record RenewMode (words : List (List ℕ)) (status : ℕ) (detail : Detail) (old new : Option Contents) (before after : Option Link) (ReadFailed ReplaceFailed EndsFailed : Type 0) : Type 0 where
-  pub ran : (parts : RenewParts) → asks_renew words ≡ Some parts → (status ≡ 9) ⊎ RenewRan parts status detail old new before after ReadFailed ReplaceFailed EndsFailed
+  pub ran : (parts : RenewParts) → asks_renew words ≡ Some parts → (status ≡ 9) × Goes OnlyReceived before after ⊎ RenewRan parts status detail old new before after ReadFailed ReplaceFailed EndsFailed
 
 -- what is missing, refused or bad of a setup and a durable log
 abbrev pub recover_detail : Result Recovery RecoveryError → Detail
@@ -222,7 +223,7 @@ pub record ChangesFiles (words : List (List ℕ)) (status : ℕ) (old new : Opti
 -- `check`, `audit`, `renew`, `recover`, `drill` and the children's the ends; all but `serve` the site, the log and the posts; and all but
 -- `serve` and `drill` the journal. `serve` leaves the files where it serves by the plain setup, and `otp` where the words name no list.
 -- With 3 nothing was received or sent, with 9 only by `renew`, and with 4 and 5 only by `check`. The detail tells of 4, 5, 13, 14 and 15
--- alone
+-- alone, and of 0 by `check`
 pub record LeavesRest {F S E K P : Type 0} (words : List (List ℕ)) (status : ℕ) (detail : Detail) (files_old files_new : F) (site_old site_new : S) (ends_old ends_new : E) (log_old log_new : K) (journal : List Event) (posts : List P) : Type 0 where
   pub files : asks_serve words ≡ None → asks_otp words ≡ None → asks_check words ≡ None → asks_audit words ≡ None → asks_renew words ≡ None → asks_recover words ≡ None → files_new ≡ files_old
   pub plain_setup : asks_serve words ≡ Some Plain → files_new ≡ files_old
@@ -233,4 +234,4 @@ pub record LeavesRest {F S E K P : Type 0} (words : List (List ℕ)) (status : �
   pub unread : (parts : OtpParts) → asks_otp words ≡ Some parts → parts.list ≡ None → files_new ≡ files_old
   pub silent : (status ≡ 3) ⊎ (status ≡ 9) × (asks_renew words ≡ None) → ends_new ≡ ends_old
   pub unprinted : asks_check words ≡ None → (status ≡ 4) ⊎ (status ≡ 5) → ends_new ≡ ends_old
-  pub plain : status ≢ 4 → status ≢ 5 → status ≢ 13 → status ≢ 14 → status ≢ 15 → detail ≡ Nothing
+  pub plain : (status ≡ 0 → asks_check words ≡ None) → status ≢ 4 → status ≢ 5 → status ≢ 13 → status ≢ 14 → status ≢ 15 → detail ≡ Nothing

@@ -1,4 +1,4 @@
--- Inner: all that the top call says of a command, of which it has a clause a part.
+-- Believed: all that the top call says of a command, of which it has a clause a part.
 use Rattle.std.specs.Prelude.{ℕ, List, Option}
 use Rattle.info_hooks.specs.declared.key.Key.{Key}
 use Rattle.outside.specs.declared.faults.Faults.{Faults}

@@ -2,7 +2,7 @@
 
 ghost use Rattle.std.specs.Prelude.{◌≡◌, ◌∷◌, map};
 ghost use Rattle.monitor_server.specs.declared.command.Unread.TheVariants.{OutOfMemory};
-ghost use Rattle.monitor_server.specs.Commands.{IsMeant, IsReading};
+ghost use Rattle.monitor_server.specs.Commands.{IsMeant, IsMeantAlone, IsReading};
 
 use audit_mode::{AuditCommand, read_audit_command};
 use check_mode::read_check_command;
@@ -21,6 +21,15 @@ use std::alloc::{AllocError, Global};
 pub enum Command<'a> {
     /// To serve the connections of a setup.
     Serve(ServeCommand<'a>),
+    /// To run the drill of this number, from 1 to 64.
+    Drill(u32),
+    /// What is done without threads.
+    Alone(AloneCommand<'a>),
+}
+
+/// What words ask for that is done without threads, and so waits for none.
+#[derive(Clone, Copy)]
+pub enum AloneCommand<'a> {
     /// To print a one-time password.
     Password(OtpCommand<'a>),
     /// To check the setup in the file of this name.
@@ -31,8 +40,6 @@ pub enum Command<'a> {
     Audit(AuditCommand<'a>),
     /// To renew a user's chain of passwords.
     Renew(RenewCommand<'a>),
-    /// To run the drill of this number, from 1 to 64.
-    Drill(u32),
     /// To recover the accounts from a durable log.
     Recover(RecoverCommand<'a>),
 }
@@ -64,33 +71,43 @@ pub fn read_command<'a>(alloc: Global, words: &'a [Word]) -> Result<Command<'a>,
     command_of(line.mode, line.further.as_slice()).ok_or(Unread::NoCommand)
 }
 
-/// The command of a mode's word and the words behind it.
+/// The command of a mode's word and the words after it.
 fn command_of<'a>(mode: &str, further: &[&'a str]) -> Option<Command<'a>>
     ensures { IsMeant (mode.now ∷ map (λ word. word.now) further.now) result }
 {
     if let Some(command) = read_serve_command(mode, further) {
         return Some(Command::Serve(command));
     }
-    if let Some(command) = read_otp_command(mode, further) {
-        return Some(Command::Password(command));
-    }
-    if let Some(setup) = read_check_command(mode, further) {
-        return Some(Command::Check(setup));
-    }
-    if let Some(command) = read_child_command(mode, further) {
-        return Some(Command::Child(command));
-    }
-    if let Some(command) = read_audit_command(mode, further) {
-        return Some(Command::Audit(command));
-    }
-    if let Some(command) = read_renew_command(mode, further) {
-        return Some(Command::Renew(command));
-    }
     if let Some(number) = read_drill_command(mode, further) {
         return Some(Command::Drill(number));
     }
+    match alone_command_of(mode, further) {
+        Some(command) => Some(Command::Alone(command)),
+        None => None,
+    }
+}
+
+/// The command that is done without threads, of a mode's word and the words after it.
+fn alone_command_of<'a>(mode: &str, further: &[&'a str]) -> Option<AloneCommand<'a>>
+    ensures { IsMeantAlone (mode.now ∷ map (λ word. word.now) further.now) result }
+{
+    if let Some(command) = read_otp_command(mode, further) {
+        return Some(AloneCommand::Password(command));
+    }
+    if let Some(setup) = read_check_command(mode, further) {
+        return Some(AloneCommand::Check(setup));
+    }
+    if let Some(command) = read_child_command(mode, further) {
+        return Some(AloneCommand::Child(command));
+    }
+    if let Some(command) = read_audit_command(mode, further) {
+        return Some(AloneCommand::Audit(command));
+    }
+    if let Some(command) = read_renew_command(mode, further) {
+        return Some(AloneCommand::Renew(command));
+    }
     match read_recover_command(mode, further) {
-        Some(command) => Some(Command::Recover(command)),
+        Some(command) => Some(AloneCommand::Recover(command)),
         None => None,
     }
 }

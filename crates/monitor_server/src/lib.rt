@@ -2,10 +2,12 @@
 //! `Whole.antt`; the program stands above.
 #![tactic(auto)]
 
+mod alone;
 mod command;
 mod modes;
 mod report;
 mod top;
 
-pub use report::{Detail, FileKind, Report};
+pub use alone::run_alone;
+pub use report::{Answer, Detail, FEW_REQUESTS, FileKind, Report};
 pub use top::otplogd;

@@ -1,20 +1,20 @@
 //! The modes.
 
-ghost use Rattle.std.specs.Prelude.{◌≡◌, ◌⊎◌, ◌≤◌, [], None};
+ghost use Rattle.std.specs.Prelude.{◌≡◌, ◌⊎◌, ◌≤◌, [], None, false};
 ghost use Rattle.outside.specs.Files.{SameFiles};
 ghost use Rattle.outside.specs.Told.{Goes, Rose};
+ghost use Rattle.policy_model.specs.Journal.{has_lost};
 ghost use Rattle.otp_mode.specs.Command.{command_parts};
 ghost use Rattle.child_mode.specs.Commands.{parts_of};
 ghost use Rattle.audit_mode.specs.Commands as audits;
 ghost use Rattle.otp_extended.specs.Commands as renewals;
 ghost use Rattle.recover_mode.specs.Commands as recoveries;
 ghost use Rattle.monitor_server.specs.declared.report.Detail.TheVariants.{Nothing};
-ghost use Rattle.monitor_server.specs.Headline.{UsesNothing};
 ghost use Rattle.serve_mode.specs.Commands as serves;
 ghost use Rattle.serve_mode.specs.Words.{Plain};
 ghost use Rattle.monitor_server.specs.Modes.{AuditRan, CheckRan, ChildRan, DrillRan, PasswordRan, RecoverRan, RenewRan, ServeRan, audit_detail, fault_detail, finding_detail, recover_detail, renew_detail, serve_detail};
 
-use crate::report::{Detail, FileKind, Report, unused};
+use crate::report::{Answer, Detail, FEW_REQUESTS, FileKind, Report};
 use audit_check::Audit;
 use audit_mode::{AuditCommand, AuditError, run_audit};
 use check_mode::{Finding, run_check};
@@ -49,6 +49,7 @@ pub(crate) fn serve_setup<
 ) -> Report<S::Post, K>
     ensures serve { ServeRan (serves.source_of command.now) (I.forms information.now) result.status result.detail result.journal.items result.posts.items S.Post.scene S.Post.faults (F.contents files.old) (F.contents files.new) (S.listens site.old) (S.listens site.new) (K.held log) (K.held result.log) (Rose (F.read_faults files.old) (F.read_faults files.new)) (Rose (F.replace_faults files.old) (F.replace_faults files.new)) (Rose (S.listen_faults site.old) (S.listen_faults site.new)) (Rose (K.faults log) (K.faults result.log)) }
     ensures plain { serves.source_of command.now ≡ Plain → files.new ≡ files.old }
+    ensures logged { has_lost result.journal.items ≡ false → K.faults result.log ≡ K.faults log }
 {
     let Served {
         end,
@@ -84,23 +85,24 @@ fn serve_detail(end: Result<(), ServeError>) -> Detail
 }
 
 /// Prints a one-time password: the pass phrase is read from the ends, and a word list from its file.
-pub(crate) fn print_password<F: Files, P, K, E: Stream>(
+pub(crate) fn print_password<F: Files, E: Stream>(
     alloc: Global,
     command: &OtpCommand<'_>,
     files: &mut F,
-    log: K,
     ends: &mut E,
-) -> Report<P, K>
+) -> Answer
     ensures password { PasswordRan (command_parts command.now) result.status result.detail (F.contents files.new) (E.link ends.old) (E.link ends.new) (Rose (F.read_faults files.old) (F.read_faults files.new)) (Rose (E.faults ends.old) (E.faults ends.new)) }
-    ensures unused { UsesNothing log result.log result.journal.items result.posts.items }
     ensures no_list { (command_parts command.now).list ≡ None → files.new ≡ files.old }
     ensures silent { (result.status ≡ 3) ⊎ (result.status ≡ 9) → ends.new ≡ ends.old }
     ensures at_list { (result.status ≡ 4) ⊎ (result.status ≡ 5) → ends.new ≡ ends.old }
     ensures files { Goes SameFiles (F.contents files.old) (F.contents files.new) }
 {
     match run_otp(alloc, command, files, ends) {
-        Ok(()) => unused(alloc, 0, Detail::Nothing, log),
-        Err(fault) => unused(alloc, fault.status(), detail_of(fault), log),
+        Ok(()) => Answer::plain(0),
+        Err(fault) => Answer {
+            status: fault.status(),
+            detail: detail_of(fault),
+        },
     }
 }
 
@@ -121,30 +123,34 @@ fn detail_of(fault: OtpFault) -> Detail
 }
 
 /// Says whether a setup is right: it and its word list are read from their files.
-pub(crate) fn check_setup<F: Files, I: Information, P, K, E: Stream>(
+pub(crate) fn check_setup<F: Files, I: Information, E: Stream>(
     alloc: Global,
     setup: &str,
     information: &I,
     files: &mut F,
-    log: K,
     ends: &mut E,
-) -> Report<P, K>
+) -> Answer
     ensures check { CheckRan (I.forms information.now) setup.now result.status result.detail (F.contents files.new) (E.link ends.old) (E.link ends.new) (Rose (F.read_faults files.old) (F.read_faults files.new)) (Rose (E.faults ends.old) (E.faults ends.new)) }
-    ensures unused { UsesNothing log result.log result.journal.items result.posts.items }
     ensures silent { (result.status ≡ 3) ⊎ (result.status ≡ 9) → ends.new ≡ ends.old }
     ensures files { Goes SameFiles (F.contents files.old) (F.contents files.new) }
 {
     match run_check(alloc, setup, information, files, ends) {
-        Ok(finding) => unused(alloc, finding.status(), detail_of_finding(finding), log),
-        Err(fault) => unused(alloc, fault.status(), Detail::Nothing, log),
+        Ok(finding) => Answer {
+            status: finding.status(),
+            detail: detail_of_finding(finding),
+        },
+        Err(fault) => Answer::plain(fault.status()),
     }
 }
 
-/// What is missing or refused of a setup.
+/// What is missing, refused or to be thought of of a setup.
 fn detail_of_finding(finding: Finding) -> Detail
     ensures { result ≡ finding_detail finding }
 {
     match finding {
+        Finding::Right { requests, .. } if requests < FEW_REQUESTS => {
+            Detail::FewRequests { requests }
+        }
         Finding::Right { .. } => Detail::Nothing,
         Finding::SetupMissing => Detail::Missing {
             file: FileKind::Setup,
@@ -158,43 +164,33 @@ fn detail_of_finding(finding: Finding) -> Detail
 }
 
 /// Runs a child program, the monitor's side of whose link is the ends.
-pub(crate) fn run_child<P, K, E: Stream>(
-    alloc: Global,
-    command: &ChildCommand,
-    log: K,
-    ends: &mut E,
-) -> Report<P, K>
+pub(crate) fn run_child<E: Stream>(alloc: Global, command: &ChildCommand, ends: &mut E) -> Answer
     ensures child { ChildRan (parts_of command.now) result.status (E.link ends.old) (E.link ends.new) (Rose (E.faults ends.old) (E.faults ends.new)) }
     ensures detail { result.detail ≡ Nothing }
-    ensures unused { UsesNothing log result.log result.journal.items result.posts.items }
     ensures silent { (result.status ≡ 3) ⊎ (result.status ≡ 9) → ends.new ≡ ends.old }
     ensures no_file { (result.status ≡ 4) ⊎ (result.status ≡ 5) → ends.new ≡ ends.old }
 {
     let run = run_child_mode(alloc, command, ends);
-    unused(alloc, run.status(), Detail::Nothing, log)
+    Answer::plain(run.status())
 }
 
 /// Says whether a log is legal: it and the setup are read from their files.
-pub(crate) fn audit_log<F: Files, P, K, E: Stream>(
+pub(crate) fn audit_log<F: Files, E: Stream>(
     alloc: Global,
     command: &AuditCommand<'_>,
     files: &mut F,
-    log: K,
     ends: &mut E,
-) -> Report<P, K>
+) -> Answer
     ensures audit { AuditRan (audits.command_parts command.now) result.status result.detail (F.contents files.new) (E.link ends.old) (E.link ends.new) (Rose (F.read_faults files.old) (F.read_faults files.new)) (Rose (E.faults ends.old) (E.faults ends.new)) }
-    ensures unused { UsesNothing log result.log result.journal.items result.posts.items }
     ensures silent { (result.status ≡ 3) ⊎ (result.status ≡ 9) → ends.new ≡ ends.old }
     ensures at_file { (result.status ≡ 4) ⊎ (result.status ≡ 5) → ends.new ≡ ends.old }
     ensures files { Goes SameFiles (F.contents files.old) (F.contents files.new) }
 {
     let outcome = run_audit(alloc, command, files, ends);
-    unused(
-        alloc,
-        audit_mode::status(outcome),
-        audit_detail(outcome),
-        log,
-    )
+    Answer {
+        status: audit_mode::status(outcome),
+        detail: audit_detail(outcome),
+    }
 }
 
 /// What is missing or refused of a setup and a log.
@@ -218,24 +214,20 @@ fn audit_detail(outcome: Result<Audit, AuditError>) -> Detail
 }
 
 /// Renews a user's chain of passwords in the setup's file by a response, which is read from the ends.
-pub(crate) fn renew_account<F: Files, P, K, E: Stream>(
+pub(crate) fn renew_account<F: Files, E: Stream>(
     alloc: Global,
     command: &RenewCommand<'_>,
     files: &mut F,
-    log: K,
     ends: &mut E,
-) -> Report<P, K>
+) -> Answer
     ensures renew { RenewRan (renewals.command_parts command.now) result.status result.detail (F.contents files.old) (F.contents files.new) (E.link ends.old) (E.link ends.new) (Rose (F.read_faults files.old) (F.read_faults files.new)) (Rose (F.replace_faults files.old) (F.replace_faults files.new)) (Rose (E.faults ends.old) (E.faults ends.new)) }
-    ensures unused { UsesNothing log result.log result.journal.items result.posts.items }
     ensures at_files { (result.status ≡ 3) ⊎ (result.status ≡ 4) ⊎ (result.status ≡ 5) → ends.new ≡ ends.old }
 {
     let outcome = run_renew(alloc, command, files, ends);
-    unused(
-        alloc,
-        renew_mode::status(outcome),
-        renew_detail(outcome),
-        log,
-    )
+    Answer {
+        status: renew_mode::status(outcome),
+        detail: renew_detail(outcome),
+    }
 }
 
 /// What is missing or refused of a setup, a word list and a response.
@@ -257,25 +249,21 @@ fn renew_detail(outcome: Result<Renewed, RenewError>) -> Detail
 }
 
 /// Recovers the accounts from a durable log into the setup's file, and makes the log fresh.
-pub(crate) fn recover_accounts<F: Files, P, K, E: Stream>(
+pub(crate) fn recover_accounts<F: Files, E: Stream>(
     alloc: Global,
     command: &RecoverCommand<'_>,
     files: &mut F,
-    log: K,
     ends: &mut E,
-) -> Report<P, K>
+) -> Answer
     ensures recover { RecoverRan (recoveries.command_parts command.now) result.status result.detail (F.contents files.old) (F.contents files.new) (E.link ends.old) (E.link ends.new) (Rose (F.read_faults files.old) (F.read_faults files.new)) (Rose (F.replace_faults files.old) (F.replace_faults files.new)) (Rose (E.faults ends.old) (E.faults ends.new)) }
-    ensures unused { UsesNothing log result.log result.journal.items result.posts.items }
     ensures silent { (result.status ≡ 3) ⊎ (result.status ≡ 9) → ends.new ≡ ends.old }
     ensures at_files { (result.status ≡ 4) ⊎ (result.status ≡ 5) → ends.new ≡ ends.old }
 {
     let outcome = run_recover(alloc, command, files, ends);
-    unused(
-        alloc,
-        recover_mode::status(outcome),
-        recover_detail(outcome),
-        log,
-    )
+    Answer {
+        status: recover_mode::status(outcome),
+        detail: recover_detail(outcome),
+    }
 }
 
 /// What is missing, refused or bad of a setup and a durable log.

@@ -1,6 +1,7 @@
 //! What a run came to.
 
 ghost use Rattle.std.specs.Prelude.{◌≡◌};
+ghost use Rattle.monitor_server.specs.declared.report.Detail.TheVariants.{Nothing};
 ghost use Rattle.monitor_server.specs.Headline.{UsesNothing};
 
 use account_file::SetupFault;
@@ -9,9 +10,6 @@ use otp_extended::RenewFault;
 use otp_words::DictFault;
 use policy_model::Event;
 use std::alloc::Global;
-
-/// The status where memory was wanted.
-pub(crate) const NO_MEMORY: u8 = 9;
 
 /// A file that the words of the command line, or the setup, name.
 #[derive(Clone, Copy, PartialEq, Eq)]
@@ -24,11 +22,18 @@ pub enum FileKind {
     Log,
 }
 
+/// The least number of requests of which `check` doesn't say that they are few: a login by the shipped
+/// children takes nine, and one more for each further piece in which the client's bytes come.
+pub const FEW_REQUESTS: u32 = 16;
+
 /// What an exit status alone doesn't tell.
 #[derive(Clone, Copy, PartialEq, Eq)]
 pub enum Detail {
     /// There is no more to tell.
     Nothing,
+    /// The setup that was checked is right, with status 0, but allows fewer requests a session than a
+    /// login may take: fewer than [`FEW_REQUESTS`].
+    FewRequests { requests: u32 },
     /// A file is not there, with status 4.
     Missing { file: FileKind },
     /// The setup is refused by this fault, with status 5.
@@ -44,6 +49,27 @@ pub enum Detail {
     AuditNo { line: u32, why: AuditWhy },
     /// The response renews nothing, with status 15.
     RenewBad(RenewFault),
+}
+
+/// What came of words that served nobody.
+#[derive(Clone, Copy, PartialEq, Eq)]
+pub struct Answer {
+    /// The program's exit status, as of [`Report`].
+    pub status: u8,
+    /// Which file is missing, or what is wrong with one or with the response.
+    pub detail: Detail,
+}
+
+impl Answer {
+    /// A status alone.
+    pub(crate) fn plain(status: u8) -> Answer
+        ensures { result ≡ record { status = status; detail = Nothing } }
+    {
+        Answer {
+            status,
+            detail: Detail::Nothing,
+        }
+    }
 }
 
 /// What a run came to.
@@ -67,15 +93,15 @@ pub struct Report<P, K> {
     pub posts: Vec<P>,
 }
 
-/// A report of a mode that served nobody.
-pub(crate) fn unused<P, K>(alloc: Global, status: u8, detail: Detail, log: K) -> Report<P, K>
-    ensures status { result.status ≡ status }
-    ensures detail { result.detail ≡ detail }
+/// A report of words that served nobody.
+pub(crate) fn unused<P, K>(alloc: Global, answer: Answer, log: K) -> Report<P, K>
+    ensures status { result.status ≡ answer.status }
+    ensures detail { result.detail ≡ answer.detail }
     ensures unused { UsesNothing log result.log result.journal.items result.posts.items }
 {
     Report {
-        status,
-        detail,
+        status: answer.status,
+        detail: answer.detail,
         journal: Vec::new(alloc),
         log,
         posts: Vec::new(alloc),

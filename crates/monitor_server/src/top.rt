@@ -1,24 +1,21 @@
 //! The top call.
 
+ghost use Rattle.std.specs.Prelude.{◌≡◌, false};
 ghost use Rattle.outside.specs.Told.{Rose};
+ghost use Rattle.policy_model.specs.Journal.{has_lost};
 ghost use Rattle.monitor_server.specs.Headline.{StatusHasCause};
 ghost use Rattle.monitor_server.specs.Modes.{AuditMode, ChangesFiles, CheckMode, ChildMode, DrillMode, LeavesRest, PasswordMode, RecoverMode, RenewMode, ServeMode};
 ghost use Rattle.monitor_server.specs.Whole.{Whole};
 
-use crate::command::{Command, Unread, read_command};
-use crate::modes::{
-    audit_log, check_setup, play_drill, print_password, recover_accounts, renew_account, run_child,
-    serve_setup,
-};
-use crate::report::{Detail, NO_MEMORY, Report, unused};
+use crate::alone::answer;
+use crate::command::{Command, read_command};
+use crate::modes::{play_drill, serve_setup};
+use crate::report::{Report, unused};
 use outside::{Files, Sink, Site, Stream, Word};
 use service_reading::Information;
 use std::alloc::Global;
 use std::sync::Wait;
 use std::thread::Threads;
-
-/// The words are no command.
-const NO_COMMAND: u8 = 2;
 
 /// Does what the words ask for.
 fn run_command<
@@ -38,21 +35,19 @@ fn run_command<
     ends: &mut E,
     information: &I,
 ) -> Report<S::Post, K>
-    ensures { Whole words.now (I.forms information.now) result.status result.detail result.journal.items result.posts.items S.Post.scene S.Post.faults files.old files.new site.old site.new ends.old ends.new log result.log (F.contents files.old) (F.contents files.new) (E.link ends.old) (E.link ends.new) (S.listens site.old) (S.listens site.new) (K.held log) (K.held result.log) (Rose (F.read_faults files.old) (F.read_faults files.new)) (Rose (F.replace_faults files.old) (F.replace_faults files.new)) (Rose (S.listen_faults site.old) (S.listen_faults site.new)) (Rose (K.faults log) (K.faults result.log)) (Rose (E.faults ends.old) (E.faults ends.new)) }
+    ensures whole { Whole words.now (I.forms information.now) result.status result.detail result.journal.items result.posts.items S.Post.scene S.Post.faults files.old files.new site.old site.new ends.old ends.new log result.log (F.contents files.old) (F.contents files.new) (E.link ends.old) (E.link ends.new) (S.listens site.old) (S.listens site.new) (K.held log) (K.held result.log) (Rose (F.read_faults files.old) (F.read_faults files.new)) (Rose (F.replace_faults files.old) (F.replace_faults files.new)) (Rose (S.listen_faults site.old) (S.listen_faults site.new)) (Rose (K.faults log) (K.faults result.log)) (Rose (E.faults ends.old) (E.faults ends.new)) }
+    ensures logged { has_lost result.journal.items ≡ false → K.faults result.log ≡ K.faults log }
 {
     match read_command(alloc, words) {
         Ok(Command::Serve(command)) => {
             serve_setup(rt, alloc, &command, files, site, log, information)
         }
-        Ok(Command::Password(command)) => print_password(alloc, &command, files, log, ends),
-        Ok(Command::Check(setup)) => check_setup(alloc, setup, information, files, log, ends),
-        Ok(Command::Child(command)) => run_child(alloc, &command, log, ends),
-        Ok(Command::Audit(command)) => audit_log(alloc, &command, files, log, ends),
-        Ok(Command::Renew(command)) => renew_account(alloc, &command, files, log, ends),
         Ok(Command::Drill(number)) => play_drill(rt, alloc, number, log, ends),
-        Ok(Command::Recover(command)) => recover_accounts(alloc, &command, files, log, ends),
-        Err(Unread::NoCommand) => unused(alloc, NO_COMMAND, Detail::Nothing, log),
-        Err(Unread::OutOfMemory) => unused(alloc, NO_MEMORY, Detail::Nothing, log),
+        Ok(Command::Alone(command)) => {
+            let answer = answer(alloc, command, files, ends, information);
+            unused(alloc, answer, log)
+        }
+        Err(unread) => unused(alloc, unread.answer(), log),
     }
 }
 
@@ -70,8 +65,8 @@ fn run_command<
 ///   and in six words where a file of a word list is named;
 /// - `child-pre SESSION` and `child-user SESSION UID NAME` run the child before the login and the
 ///   user's child over `ends`, the monitor's side of which is the child's link;
-/// - `audit SETUP LOG` sends to `ends` one line that says whether the log in that file is one that a
-///   monitor with that setup could have written;
+/// - `audit SETUP LOG` sends to `ends` one line that says whether each line of the log in that file is
+///   one that the policy allows after those before it;
 /// - `renew SETUP NAME` takes the first line that `ends` gives as a response of RFC 2243, writes the
 ///   new chain of that user's passwords into the setup's file, and sends to `ends` one line that says
 ///   so. No monitor may run with that file meanwhile;
@@ -114,6 +109,8 @@ pub fn otplogd<
     ensures drill { DrillMode words.now result.status result.journal.items (E.link ends.old) (E.link ends.new) (Rose (E.faults ends.old) (E.faults ends.new)) }
     // The mode `recover` writes the setup that the log's lines lead to, and the fresh log, or says why not.
     ensures recover { RecoverMode words.now result.status result.detail (F.contents files.old) (F.contents files.new) (E.link ends.old) (E.link ends.new) (Rose (F.read_faults files.old) (F.read_faults files.new)) (Rose (F.replace_faults files.old) (F.replace_faults files.new)) (Rose (E.faults ends.old) (E.faults ends.new)) }
+    // Where no event is lost, no fault of the log is counted.
+    ensures logged { has_lost result.journal.items ≡ false → K.faults result.log ≡ K.faults log }
     // What a mode doesn't use it leaves as it was.
     ensures leaves { LeavesRest words.now result.status result.detail files.old files.new site.old site.new ends.old ends.new log result.log result.journal.items result.posts.items }
     // No mode but `serve`, `renew` and `recover` writes a file; `renew` the setup's alone, and `recover` that and the log's.

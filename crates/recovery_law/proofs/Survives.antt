@@ -1,5 +1,5 @@
 -- What a log of lines was given is the lines of the first events, so each image has such lines.
-use Rattle.std.proofs.Common.{◌≡◌, ◌⊎◌, inl, inr, ℕ, zero, suc, ◌+◌, ◌-◌, ◌/◌, ◌<◌, ◌≤◌, min, List, [], ◌∷◌, ◌++◌, length, take, find, refl, sym, ◌∙◌, ap, subst, arith, length-append, length-take, Option, Some, None, IfSome, option_map}
+use Rattle.std.proofs.Common.{◌≡◌, ◌⊎◌, inl, inr, ℕ, zero, suc, ◌+◌, ◌-◌, ◌/◌, ◌<◌, ◌≤◌, min, Bool, false, List, [], ◌∷◌, ◌++◌, length, take, find, refl, sym, ◌∙◌, ap, subst, arith, length-append, length-take, Option, Some, None, IfSome, option_map}
 use Rattle.std.specs.List.{AllByRecursion, concat}
 use Rattle.std.specs.Option.{option_to_list}
 use Rattle.std.proofs.lemmas.List.{take-take, take_all, take_at}
@@ -118,13 +118,16 @@ module _ (setup : Settings) (journal : List Event) (run : IsRunOf setup journal)
       (same_lines lines (records_of kept) (lost_line setup journal) holds.lines.0 all kept_first (last_is (find (λ e. is_lost e.decision) journal) refl) text)
 
   -- each image has the lines of the first
-  survives : (lines : List (List ℕ)) (answered : ℕ) (f n : Story) → AreFirst lines → length lines ≤ answered + 1 → LosesNothing lines answered f n → LosesNoEvent setup journal f n
-  survives lines answered f n first most loses =
+  survives : (lines : List (List ℕ)) (answered : ℕ) (stopped : Bool) (f n : Story) → AreFirst lines
+      → length lines ≤ answered + 1 → (stopped ≡ false → answered ≡ length lines) → LosesNothing lines answered f n
+      → LosesNoEvent setup journal stopped f n
+  survives lines answered stopped f n first most whole loses =
       let long : length lines ≡ length (take first.many decided) = ap length first.are ∙ records_len 0 (take first.many decided) in
       let kept_few : length kept ≤ length decided = omega (arith, length-append kept (option_to_list (lost_event setup journal))) in
       record {
         answered = answered;
         enough = omega (arith, most, long, length-take first.many decided, first.enough, kept_few);
+        all = λ going. omega (arith, whole going, long, length-take first.many decided, first.enough, kept_few);
         each = weaken (moment_of f) (HasAnswered lines answered (moment_of f)) (λ moment. HasFirst setup journal (min ((moment - moment_of f) / 4) answered)) (states_of n) step loses.each;
       }
     where
@@ -141,8 +144,9 @@ module _ (setup : Settings) (journal : List Event) (run : IsRunOf setup journal)
             back = λ result answer. back setup (take has.count decided) result (first_whole setup journal run has.count) answer;
           }
 
-pub loses_no_event : (setup : Settings) (journal : List Event) (log : LineParts) (given : List ℕ) → IsRunOf setup journal → IsLineLog log → given_of log ≡ Some given → HoldsLines setup journal [] given → Goes (LosesNoEvent setup journal) log.log.first log.log.now
+pub loses_no_event : (setup : Settings) (journal : List Event) (log : LineParts) (given : List ℕ) → IsRunOf setup journal → IsLineLog log → given_of log ≡ Some given → HoldsLines setup journal [] given → Goes (LosesNoEvent setup journal log.log.stopped) log.log.first log.log.now
 loses_no_event setup journal log given run l told holds =
     let joined : given ≡ concat l.lines = subst (λ (o : Option (List ℕ)). IfSome o (λ g. g ≡ concat l.lines)) told l.keeps.joined in
     let first : AreFirst setup journal run l.lines = lines_are setup journal run l.lines given l.keeps.each joined holds in
-    goes_map (λ f n loses. survives setup journal run l.lines l.answered f n first l.keeps.most loses) log.log.first log.log.now l.keeps.told
+    goes_map (λ f n loses. survives setup journal run l.lines l.answered log.log.stopped f n first l.keeps.most
+    (λ going. (l.keeps.all going).all going) loses) log.log.first log.log.now l.keeps.told

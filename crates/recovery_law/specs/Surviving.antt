@@ -1,5 +1,5 @@
 -- Inner: what a crash at any moment of a run leaves of its log, and what recovery makes of that.
-use Rattle.std.specs.Prelude.{ℕ, ◌≤◌, ◌+◌, ◌-◌, ◌/◌, min, List, ◌++◌, length, take, find, Option, option_map, Result}
+use Rattle.std.specs.Prelude.{◌≡◌, ℕ, ◌≤◌, ◌+◌, ◌-◌, ◌/◌, min, Bool, false, List, ◌++◌, length, take, find, Option, option_map, Result}
 use Rattle.std.specs.List.{AllByRecursion}
 use Rattle.std.specs.Option.{option_to_list}
 use Rattle.policy_model.specs.declared.event.Event.{Event}
@@ -44,8 +44,12 @@ pub record HasFirst (setup : Settings) (journal : List Event) (least : ℕ) (ima
   pub records : HasRecords image (records_of (take count (decided_in setup journal)))
   pub back : BringsBack setup (take count (decided_in setup journal))
 
--- Of a log of this story so many lines were answered `Ok`: all that were kept, or all but the last of them. From when it was made, each image that a crash at any moment might have left has the lines of the run's first events, and of those that were answered by then all: a line takes four calls.
-pub record LosesNoEvent (setup : Settings) (journal : List Event) (first now : Story) : Type 0 where
+-- Of a log of this story so many lines were answered `Ok`: all that were kept where no append failed, and else all but
+-- perhaps the last of them. From when it was made, each image that a crash at any moment might have left has the lines
+-- of the run's first events, and of those that were answered by then all: a line takes four calls.
+pub record LosesNoEvent (setup : Settings) (journal : List Event) (stopped : Bool) (first now : Story) : Type 0 where
   pub answered : ℕ
   pub enough : length (kept_events journal) ≤ answered + 1
-  pub each : AtEachMoment (moment_of first) (λ moment. HasFirst setup journal (min ((moment - moment_of first) / 4) answered)) (states_of now)
+  pub all : stopped ≡ false → length (kept_events journal) ≤ answered
+  pub each : AtEachMoment (moment_of first)
+      (λ moment. HasFirst setup journal (min ((moment - moment_of first) / 4) answered)) (states_of now)

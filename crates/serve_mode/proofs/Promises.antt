@@ -30,7 +30,7 @@ use Rattle.serve_mode.proofs.StillLemmas.{IsServiceOf, plain_service, service_of
 use Rattle.serve_mode.specs.Errors.{IsUnread, error_status, status_of, unread_status}
 use Rattle.serve_mode.specs.Headline.{AccountsMatch, AreAccountsWritten, ListensAt, NoFault, ServeEnded, ServeHasCause, ServePromises, is_run_status, is_unserved_status, setup_place}
 use Rattle.fresh_log.specs.Fresh.{IsFresh}
-use Rattle.serve_mode.specs.Services.{IsServedBy, IsUnfresh}
+use Rattle.serve_mode.specs.Services.{IsServable, IsServedBy, IsUnfresh}
 use Rattle.serve_mode.specs.Steps.{IsUnready, WritesBack, WritesNamed, run_end}
 use Rattle.serve_mode.specs.Words.{Named, Plain, Source}
 
@@ -229,6 +229,7 @@ accounts_match (Named name log) setup ledger end written lost failed journal old
 abbrev IsUnbegun : Result (Unit {0}) ServeError → Type 0
 IsUnbegun (Err (errors.Unread error)) = Unit {0}
 IsUnbegun (Err errors.LogNotFresh) = Unit {0}
+IsUnbegun (Err errors.ListenFailed) = Unit {0}
 IsUnbegun _ = ⊥
 
 served_begins : (source : Source) (setup : Settings) (ledger : LedgerParts) (old new : Option Contents) (ReplaceRose : Type 0) (written : Result (Unit {0}) ServeError) (lost failed : Bool) → WritesBack source setup ledger old new ReplaceRose written → IsUnbegun (run_end written lost failed) → ⊥
@@ -247,6 +248,19 @@ served_begins source setup ledger old new ReplaceRose written lost failed w is =
   at (inl done) = whole lost failed (subst (λ w. IsUnbegun (run_end w lost failed)) done is)
   at (inr (inl oom)) = subst (λ w. IsUnbegun (run_end w lost failed)) oom is
   at (inr (inr not)) = unwritten lost failed (subst (λ w. IsUnbegun (run_end w lost failed)) not is)
+
+-- the plain setup's accounts are written nowhere, so no memory is wanted for them
+plain_printed : (source : Source) (setup : Settings) (ledger : LedgerParts) (old new : Option Contents)
+    (ReplaceRose : Type 0) (written : Result (Unit {0}) ServeError) (lost failed : Bool)
+    → WritesBack source setup ledger old new ReplaceRose written
+    → run_end written lost failed ≡ Err errors.OutOfMemory → source ≢ Plain
+plain_printed source setup ledger old new ReplaceRose written lost failed w is plain =
+    let did = subst (λ s. WritesBack s setup ledger old new ReplaceRose written) plain w in
+    at lost failed (subst (λ r. run_end r lost failed ≡ Err errors.OutOfMemory) did.0 is) where
+      at : (lost failed : Bool) → run_end (Ok tt) lost failed ≡ Err errors.OutOfMemory → ⊥
+      at true failed is = absurd cc
+      at false true is = absurd cc
+      at false false is = absurd cc
 
 -- ---- where somebody was served
 
@@ -285,6 +299,7 @@ module _ {P : Type 0} (source : Source) (service : Service) (ledger : LedgerPart
   served_promises listens_old listens_new some stands kept listens = record {
     legal = ran.legal;
     sessions = ran.sessions;
+    one_each = λ _. ran.one_each;
     listens = listened posts ran.one_each;
     conversations = ran.conversations;
     log = ran.log;
@@ -293,7 +308,7 @@ module _ {P : Type 0} (source : Source) (service : Service) (ledger : LedgerPart
     quota = ran.quota;
     fault_ends = ran.fault_ends;
     counted = ran.counted;
-    success = λ e. let z = tells.zero e in record { kept = z.0; accepted = ran.accepted z.1; quota = ran.quota; one_each = ran.one_each };
+    success = λ e. let z = tells.zero e in record { kept = z.0; accepted = ran.accepted z.1; quota = ran.quota };
     accounts = accounts_match source service.setup ledger (run_end written (has_lost journal) failed) written (has_lost journal) failed journal old mid new ReplaceRose tells stands kept writes (written_end source service.setup ledger mid new ReplaceRose written writes);
     complete = record {
       succeeds = λ none. tells.well (none_lost none) (none_failed none) (λ e. none.replace (replace_rose source service.setup ledger mid new ReplaceRose written writes e));
@@ -313,6 +328,8 @@ module _ {P : Type 0} (source : Source) (service : Service) (ledger : LedgerPart
         causes = served_causes some;
         unread = λ error e. absurd (served_begins source service.setup ledger mid new ReplaceRose written (has_lost journal) failed writes (subst IsUnbegun (sym e) tt));
         unfresh = λ e. absurd (served_begins source service.setup ledger mid new ReplaceRose written (has_lost journal) failed writes (subst IsUnbegun (sym e) tt));
+        ready = λ e. absurd (served_begins source service.setup ledger mid new ReplaceRose written (has_lost journal) failed writes (subst IsUnbegun (sym e) tt));
+        printed = λ e _. plain_printed source service.setup ledger mid new ReplaceRose written (has_lost journal) failed writes e;
         served = inr (service, by, promises);
         promises = λ other told asked. subst (λ s. ServePromises source s (status_of (run_end written (has_lost journal) failed)) journal posts scene faults old new listens_old listens_new held_old held_new ReadRose ReplaceRose ListenRose (Rose log_old log_new)) (sym (same other (service_of source forms old new other told asked))) promises;
         unlogged = λ none. absurd (unserved none);
@@ -342,6 +359,7 @@ module _ {P : Type 0} (source : Source) (service : Service) (status : ℕ) (jour
   unserved_promises old new listens_old listens_new held_old held_new ReadRose ReplaceRose ListenRose LogRose not_run kept listens log nine = record {
     legal = legal;
     sessions = record { in_order = λ worker. ([], record { places = ap (λ j. worker_places j worker) events; each = tt; alone = tt }) };
+    one_each = λ some. absurd (some none);
     listens = subst (λ ps. ListensAt service.setup ps listens_old listens_new) (sym none) listens;
     conversations = record { held = λ worker post is. no_post posts worker post none is };
     log = subst (λ j. LogMatches service.setup j held_old held_new) (sym events) (log_unchanged service.setup held_old held_new log);
@@ -401,6 +419,7 @@ pub record TellsWhy (source : Source) (forms : List Key) (old new : Option Conte
   pub nine : (service : Service) → IsServiceOf source forms old new service → ¬ ReadRose → ¬ ListenRose → error_status error ≡ 9
   pub unread : (other : ServiceError) → error ≡ errors.Unread other → IsUnread source forms new ReadRose other
   pub unfresh : error ≡ errors.LogNotFresh → IsUnfresh source forms new
+  pub ready : error ≡ errors.ListenFailed → IsServable source forms new
 
 pub unserved_ended : {P : Type 0} (source : Source) (forms : List Key) (error : ServeError) (end : Result (Unit {0}) ServeError) (journal : List Event) (posts : List P) (scene : P → Option Scene) (faults : P → Faults) (old new : Option Contents) (listens_old listens_new : Option (List SitePlace)) (held_old held_new : Option (List ℕ)) (ReadRose ReplaceRose ListenRose LogRose : Type 0)
     → end ≡ Err error → TellsWhy source forms old new error ReadRose ListenRose → journal ≡ [] → posts ≡ [] → Goes SameFiles old new → Gains listens_old [] listens_new → Gains held_old [] held_new
@@ -410,6 +429,8 @@ unserved_ended source forms error end journal posts scene faults old new listens
       causes = unserved_causes source (plain_service forms) (error_status error) journal posts scene faults events none ReadRose ListenRose LogRose ReplaceRose why.tells.not_run why.tells.three why.tells.six;
       unread = λ other e. why.unread other (let f : ◌≡◌ {A = Result (Unit {0}) ServeError} (Err error) (Err (errors.Unread other)) = e in cc);
       unfresh = λ e. why.unfresh (let f : ◌≡◌ {A = Result (Unit {0}) ServeError} (Err error) (Err errors.LogNotFresh) = e in cc);
+      ready = λ e. why.ready (let f : ◌≡◌ {A = Result (Unit {0}) ServeError} (Err error) (Err errors.ListenFailed) = e in cc);
+      printed = λ _ some. absurd (some none);
       served = inl none;
       promises = λ service told asked. unserved_promises source service (error_status error) journal posts scene faults events none old new listens_old listens_new held_old held_new ReadRose ReplaceRose ListenRose LogRose why.tells.not_run kept listens log (λ fault. why.nine service (service_of source forms old new service told asked) fault.read fault.listen);
       unlogged = λ _. log;
@@ -477,6 +498,7 @@ memory_why source forms old new ReadRose ListenRose = record {
   nine = λ service is read listen. refl;
   unread = λ other same. absurd cc;
   unfresh = λ same. absurd cc;
+  ready = λ same. absurd cc;
 }
 
 -- a service that the files spell has a fresh log, so a log that isn't fresh is of none
@@ -498,12 +520,14 @@ unready_why source forms old new ReadRose ListenRose (errors.Unread error) why k
   nine = λ service is read listen. unread_nine source forms old new ReadRose service error why kept is read;
   unread = λ other same. subst (IsUnread source forms new ReadRose) (let e : error ≡ other = cc in e) why;
   unfresh = λ same. absurd cc;
+  ready = λ same. absurd cc;
 }
 unready_why source forms old new ReadRose ListenRose errors.LogNotFresh why kept = record {
   tells = record { not_run = refl; three = λ e. absurd (omega (arith, e)); six = λ e. absurd (omega (arith, e)) };
   nine = λ service is read listen. absurd (unfresh_none source forms old new service why kept is);
   unread = λ other same. absurd cc;
   unfresh = λ _. why;
+  ready = λ same. absurd cc;
 }
 unready_why source forms old new ReadRose ListenRose errors.OutOfMemory why kept = memory_why source forms old new ReadRose ListenRose
 unready_why source forms old new ReadRose ListenRose errors.ListenFailed why kept = absurd why
@@ -512,13 +536,14 @@ unready_why source forms old new ReadRose ListenRose errors.AcceptFailed why kep
 unready_why source forms old new ReadRose ListenRose errors.ReplaceFailed why kept = absurd why
 
 -- a run that could not begin: memory was wanted, or the site could not listen
-pub not_served_why : (source : Source) (forms : List Key) (old new : Option Contents) (ReadRose ListenRose : Type 0) (error : ServeError) → (error ≡ errors.OutOfMemory) ⊎ ((error ≡ errors.ListenFailed) × ListenRose) → TellsWhy source forms old new error ReadRose ListenRose
-not_served_why source forms old new ReadRose ListenRose error (inl oom) = subst (λ e. TellsWhy source forms old new e ReadRose ListenRose) (sym oom) (memory_why source forms old new ReadRose ListenRose)
-not_served_why source forms old new ReadRose ListenRose error (inr (failed, rose)) = subst (λ e. TellsWhy source forms old new e ReadRose ListenRose) (sym failed) (record {
+pub not_served_why : (source : Source) (forms : List Key) (old new : Option Contents) (ReadRose ListenRose : Type 0) (error : ServeError) → IsServable source forms new → (error ≡ errors.OutOfMemory) ⊎ ((error ≡ errors.ListenFailed) × ListenRose) → TellsWhy source forms old new error ReadRose ListenRose
+not_served_why source forms old new ReadRose ListenRose error ready (inl oom) = subst (λ e. TellsWhy source forms old new e ReadRose ListenRose) (sym oom) (memory_why source forms old new ReadRose ListenRose)
+not_served_why source forms old new ReadRose ListenRose error ready (inr (failed, rose)) = subst (λ e. TellsWhy source forms old new e ReadRose ListenRose) (sym failed) (record {
   tells = record { not_run = refl; three = λ e. absurd (omega (arith, e)); six = λ _. rose };
   nine = λ service is read none. absurd (none rose);
   unread = λ other same. absurd cc;
   unfresh = λ same. absurd cc;
+  ready = λ _. ready;
 })
 
 -- a fault of replacing that was counted behind a moment was counted behind an earlier one

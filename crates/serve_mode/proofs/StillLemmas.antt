@@ -19,7 +19,7 @@ use Rattle.fresh_log.specs.Fresh.{IsFresh}
 use Rattle.service_reading.specs.declared.error.ServiceError.TheVariants as unread
 use Rattle.serve_mode.specs.declared.error.ServeError.{ServeError}
 use Rattle.serve_mode.specs.declared.error.ServeError.TheVariants as errors
-use Rattle.serve_mode.specs.Services.{HasFreshLog, IsServedBy, IsUnfresh, plain_entries, tell_throughout}
+use Rattle.serve_mode.specs.Services.{HasFreshLog, IsServable, IsServedBy, IsUnfresh, plain_entries, tell_throughout}
 use Rattle.serve_mode.specs.Steps.{IsLogRefused, IsReadFrom, IsUnready, log_of, service_by}
 use Rattle.serve_mode.specs.Words.{Named, Plain, Source}
 
@@ -102,6 +102,14 @@ read_still Plain forms mid new setup words read kept = read
 read_still (Named name log) forms mid None setup words read kept = tt
 read_still (Named name log) forms None (Some later) setup words read kept = absurd kept
 read_still (Named name log) forms (Some files) (Some later) setup words read kept = service_still forms files later name kept ∙ read
+
+-- what was read, beside a fresh log, is all that a run is by
+pub ready_by : (source : Source) (forms : List Key) (contents : Option Contents) (setup : Settings)
+    (words : List (List ℕ)) → IsReadFrom source forms contents setup words
+    → IfSome contents (HasFreshLog (log_of source)) → IsServable source forms contents
+ready_by Plain forms contents setup words read fresh = tt
+ready_by (Named name log) forms None setup words read fresh = tt
+ready_by (Named name log) forms (Some files) setup words read fresh = (ap is_ok read, fresh)
 
 -- behind what was read a log that is refused leaves nothing to begin with
 pub unready_log : (source : Source) (forms : List Key) (mid new : Option Contents) (setup : Settings) (words : List (List ℕ)) (first meanwhile last : ℕ) (error : ServeError) → IsReadFrom source forms mid setup words → Goes SameFiles mid new → first ≤ meanwhile → IsLogRefused (log_of source) new (Rose meanwhile last) error → IsUnready source forms new (Rose first last) error

@@ -20,9 +20,9 @@ use Rattle.policy_model.specs.Settings.{Settings}
 use Rattle.service_model.specs.Service.{Service}
 use Rattle.service_reading.specs.declared.error.ServiceError.{ServiceError}
 use Rattle.serve_mode.specs.declared.error.ServeError.{ServeError}
-use Rattle.serve_mode.specs.declared.error.ServeError.TheVariants.{LogNotFresh, Unread}
+use Rattle.serve_mode.specs.declared.error.ServeError.TheVariants.{ListenFailed, LogNotFresh, OutOfMemory, Unread}
 use Rattle.serve_mode.specs.Errors.{IsUnread, status_of}
-use Rattle.serve_mode.specs.Services.{IsServedBy, IsUnfresh, tell_throughout}
+use Rattle.serve_mode.specs.Services.{IsServable, IsServedBy, IsUnfresh, tell_throughout}
 use Rattle.serve_mode.specs.Words.{Named, Plain, Source}
 
 -- ---- where it listens
@@ -79,11 +79,11 @@ pub record ServeHasCause {P : Type 0} (status : ℕ) (journal : List Event) (pos
   pub replace_fault : status ≡ 8 → ReplaceRose
 
 -- success: nothing was lost, no accept failed, and each worker that nothing stopped served all its connections
-pub record SucceedsWhole {P : Type 0} (setup : Settings) (journal : List Event) (posts : List P) (scene : P → Option Scene) : Type 0 where
+pub record SucceedsWhole {P : Type 0} (setup : Settings) (journal : List Event) (posts : List P)
+    (scene : P → Option Scene) : Type 0 where
   pub kept : has_lost journal ≡ false
   pub accepted : NoAcceptFailed scene posts
   pub quota : RunsToQuota setup scene journal posts
-  pub one_each : length posts ≡ setup.workers
 
 -- ---- completeness
 
@@ -106,6 +106,7 @@ pub record IsComplete {P : Type 0} (service : Service) (status : ℕ) (journal :
 pub record ServePromises {P : Type 0} (source : Source) (service : Service) (status : ℕ) (journal : List Event) (posts : List P) (scene : P → Option Scene) (faults : P → Faults) (old new : Option Contents) (listens_old listens_new : Option (List SitePlace)) (held_old held_new : Option (List ℕ)) (ReadRose ReplaceRose ListenRose LogRose : Type 0) : Type 0 where
   pub legal : JournalIsLegal service.setup journal
   pub sessions : SessionsInOrder service journal
+  pub one_each : posts ≢ [] → length posts ≡ service.setup.workers
   pub listens : ListensAt service.setup posts listens_old listens_new
   pub conversations : ConversationsMatch service scene journal posts
   pub log : LogMatches service.setup journal held_old held_new
@@ -118,11 +119,16 @@ pub record ServePromises {P : Type 0} (source : Source) (service : Service) (sta
   pub accounts : AccountsMatch source service.setup status journal old new ReplaceRose
   pub complete : IsComplete service status journal posts scene (NoFault ReadRose ReplaceRose ListenRose LogRose faults posts)
 
--- what the mode came to: it ended for a cause; where somebody was served, the promises hold of the service that was served by, which is the one that the files spell, where they told and tell still, and they hold of no other; and where nobody was served, neither the log nor a file changed, and the site didn't listen
+-- what the mode came to: it ended for a cause; the site was asked to listen only where there was all that a run is by,
+-- and by the plain setup a run finds memory to its end; where somebody was served, the promises hold of the service that
+-- was served by, which is the one that the files spell, where they told and tell still, and they hold of no other; and
+-- where nobody was served, neither the log nor a file changed, and the site didn't listen
 pub record ServeEnded {P : Type 0} (source : Source) (forms : List Key) (end : Result (Unit {0}) ServeError) (journal : List Event) (posts : List P) (scene : P → Option Scene) (faults : P → Faults) (old new : Option Contents) (listens_old listens_new : Option (List SitePlace)) (held_old held_new : Option (List ℕ)) (ReadRose ReplaceRose ListenRose LogRose : Type 0) : Type 0 where
   pub causes : ServeHasCause (status_of end) journal posts scene faults ReadRose ListenRose LogRose ReplaceRose
   pub unread : (error : ServiceError) → end ≡ Err (Unread error) → IsUnread source forms new ReadRose error
   pub unfresh : end ≡ Err LogNotFresh → IsUnfresh source forms new
+  pub ready : end ≡ Err ListenFailed → IsServable source forms new
+  pub printed : end ≡ Err OutOfMemory → posts ≢ [] → source ≢ Plain
   pub served : (posts ≡ []) ⊎ ((service : Service) × IsServedBy source forms old new service × ServePromises source service (status_of end) journal posts scene faults old new listens_old listens_new held_old held_new ReadRose ReplaceRose ListenRose LogRose)
   pub promises : (service : Service) → tell_throughout source old new ≡ true → IsServedBy source forms old new service → ServePromises source service (status_of end) journal posts scene faults old new listens_old listens_new held_old held_new ReadRose ReplaceRose ListenRose LogRose
   pub unlogged : posts ≡ [] → Gains held_old [] held_new

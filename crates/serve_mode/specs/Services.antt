@@ -46,3 +46,9 @@ tell_throughout (Named name log) old new = is_some old && is_some new
 abbrev pub IsUnfresh : Source → List Key → Option Contents → Type 0
 IsUnfresh (Named name (Some log)) forms contents = IfSome contents (λ files. (is_ok (service_in forms files name) ≡ true) × (IsFresh (files log) → ⊥))
 IsUnfresh _ forms contents = ⊥
+
+-- there is all that a run is by: the files, where they tell, spell a service, and the log that is named has no record
+abbrev pub IsServable : Source → List Key → Option Contents → Type 0
+IsServable Plain forms contents = Unit {0}
+IsServable (Named name log) forms contents =
+    IfSome contents (λ files. (is_ok (service_in forms files name) ≡ true) × HasFreshLog log files)

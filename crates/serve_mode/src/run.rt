@@ -1,8 +1,9 @@
 //! The mode.
 
-ghost use Rattle.std.specs.Prelude.{◌≡◌, [], Err};
+ghost use Rattle.std.specs.Prelude.{◌≡◌, [], Err, false};
 ghost use Rattle.monitor_run.specs.Prepared.{LogStays};
 ghost use Rattle.outside.specs.Told.{Rose};
+ghost use Rattle.policy_model.specs.Journal.{has_lost};
 ghost use Rattle.serve_mode.specs.Commands.{source_of};
 ghost use Rattle.serve_mode.specs.Finished.{IsFinished};
 ghost use Rattle.serve_mode.specs.Headline.{ServeEnded};
@@ -118,6 +119,7 @@ pub fn run_serve<F: Files, S: Site, K: Sink, I: Information + Sync, R: Threads +
         (F.contents files.old) (F.contents files.new) (S.listens site.old) (S.listens site.new) (K.held log) (K.held result.log)
         (Rose (F.read_faults files.old) (F.read_faults files.new)) (Rose (F.replace_faults files.old) (F.replace_faults files.new)) (Rose (S.listen_faults site.old) (S.listen_faults site.new)) (Rose (K.faults log) (K.faults result.log)) }
     ensures log { result.posts.items ≡ [] → LogStays (K.held log) (K.held result.log) (K.faults log) (K.faults result.log) }
+    ensures logged { has_lost result.journal.items ≡ false → K.faults result.log ≡ K.faults log }
     ensures plain { source_of command.now ≡ Plain → files.new ≡ files.old }
 {
     match make_ready(alloc, command, files, information) {

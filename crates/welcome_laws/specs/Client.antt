@@ -1,4 +1,4 @@
--- Inner: a client that sends `user NAME` and a response.
+-- Believed: a client that sends `user NAME` and a response.
 use Rattle.std.specs.Prelude.{◌≡◌, ◌⊎◌, ℕ, ◌≤◌, Bool, true, false, Some, Ok, Err}
 use Rattle.std.specs.Prelude.{List, [], ◌∷◌, ◌++◌, length}
 use Rattle.outside.specs.declared.act.Act.{Act}

@@ -1,4 +1,4 @@
--- Inner: a child of a session that is the shipped one.
+-- Believed: a child of a session that is the shipped one.
 use Rattle.std.specs.Prelude.{◌≡◌, ◌≢◌, ℕ, List, [], ◌++◌, Some}
 use Rattle.request_catalogue.specs.TextBytes.{name_bytes}
 use Rattle.outside.specs.Link.{Link}

@@ -1,4 +1,4 @@
--- Inner: what has to hold so that a user is welcomed, and what a welcome is.
+-- Believed: what has to hold so that a user is welcomed, and what a welcome is.
 use Rattle.std.specs.Prelude.{◌≡◌, ℕ, ◌+◌, ◌≤◌, true, Option, Some, Result}
 use Rattle.std.specs.Prelude.{List, [], ◌∷◌, ◌++◌, codes, count_by}
 use Rattle.std.specs.List.{AllByRecursion}

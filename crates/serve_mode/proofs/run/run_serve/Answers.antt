@@ -3,7 +3,7 @@ use Rattle.monitor_run.specs.Headline.{RunPromises}
 use Rattle.outside.specs.Told.{Gains, Rose}
 use Rattle.outside.proofs.Told.{Gains-none}
 use Rattle.service_model.specs.Service.{Service}
-use Rattle.serve_mode.proofs.StillLemmas.{IsServiceOf, read_by, read_is}
+use Rattle.serve_mode.proofs.StillLemmas.{IsServiceOf, read_by, read_is, ready_by}
 use Rattle.serve_mode.specs.Commands.{source_of}
 use Rattle.serve_mode.specs.Headline.{ServeEnded}
 use Rattle.serve_mode.specs.Steps.{service_by}
@@ -54,8 +54,10 @@ returns-in-Ok-clause-ended g c =
     let unserved = c.unserved.ensures in
     let none = c.in-Err-serve.ensures.error in
     let error = c.in-Err-serve.error in
+    let house = c.in-Ok.house in
+    let ready = ready_by source forms mid house.setup house.dictionary c.in-Ok.ensures.read c.in-Ok.ensures.fresh in
     unserved_ended source forms error c.unserved.result.end c.unserved.result.journal.items c.unserved.result.posts.items g.S.Post.Post.scene g.S.Post.Post.faults old mid (g.S.Site.listens c.args.site.now) (g.S.Site.listens c.serve.new.site) (g.K.Sink.held c.args.log) (g.K.Sink.held c.unserved.result.log) ReadRose ReplaceRose ListenRose LogRose
-    unserved.end (not_served_why source forms old mid ReadRose ListenRose error none.why) unserved.journal unserved.posts c.make_ready.ensures.kept none.listens (subst (λ l. Gains (g.K.Sink.held c.args.log) [] (g.K.Sink.held l)) (sym unserved.log) none.log.held)
+    unserved.end (not_served_why source forms old mid ReadRose ListenRose error ready none.why) unserved.journal unserved.posts c.make_ready.ensures.kept none.listens (subst (λ l. Gains (g.K.Sink.held c.args.log) [] (g.K.Sink.held l)) (sym unserved.log) none.log.held)
 
 -- nothing was read to serve with
 pub returns-clause-ended : goal.returns-clause-ended
