@@ -1,0 +1,6 @@
+pub mod LoginLines
+pub mod Asked
+pub mod Readiness
+pub mod Acts
+pub mod Posts
+pub mod Meets

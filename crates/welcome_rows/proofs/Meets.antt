@@ -1,0 +1,195 @@
+-- A session whose run meets all that is decided comes to log in, and so is welcomed.
+use Rattle.std.proofs.Common.{◌≡◌, ℕ, ◌+◌, Bool, true, false, ◌||◌, cond, List, [], ◌∷◌, ◌++◌, length, map}
+use Rattle.std.proofs.Common.{filter}
+use Rattle.std.proofs.Common.{Option, Some, None, refl, sym, ap, subst, ◌∙◌, arith, count_by}
+use Rattle.std.specs.Prelude.{◌==◌, IfOk, IfSome, IsSome, Result, Ok, Err, slice_get}
+use Rattle.std.specs.List.{AllByRecursion, flat_map, list_any}
+use Rattle.std.proofs.lemmas.Bool.{or_parts}
+use Rattle.std.proofs.lemmas.List.{append-nil}
+use Rattle.request_catalogue.specs.declared.texts.Name.{Name}
+use Rattle.outside.specs.declared.act.Act.{Act}
+use Rattle.outside.specs.declared.act.Talk.{Talk}
+use Rattle.outside.specs.declared.memory.post.MemPost.{MemPost}
+use Rattle.outside.specs.MemPost.{scene_of}
+use Rattle.outside.specs.Scene.{Scene, bytes_at, came_count, is_coming}
+use Rattle.policy_model.specs.declared.event.Event.{Event}
+use Rattle.policy_model.specs.Asks.{moment_of}
+use Rattle.policy_model.specs.Journal.{Place, places_after}
+use Rattle.policy_model.specs.Settings.{IsInRange}
+use Rattle.service_model.specs.Ends.{is_fault_end, is_keeper_end, is_link_end, is_lost_end}
+use Rattle.service_model.specs.Parts.{Part}
+use Rattle.service_model.specs.Places.{step_acts}
+use Rattle.service_model.specs.Service.{Service}
+use Rattle.service_model.specs.Sittings.{AreAnswered, AreSittingsOf, IsSitting, Sitting, all_steps}
+use Rattle.service_model.specs.Stories.{AcceptFailed, IsStory, LastAccept, NoneLeft, Unasked, last_acts, story_acts}
+use Rattle.service_model.specs.Stories.{talk_of}
+use Rattle.service_model.proofs.Answered.{all_answered}
+use Rattle.service_model.proofs.Lists.{count-append, count-cons}
+use Rattle.service_model.proofs.Stories.{all_came}
+use Rattle.monitor_run.specs.Headline.{JournalIsLegal}
+use Rattle.welcome_laws.specs.Client.{ClientSays, is_receiving}
+use Rattle.welcome_laws.specs.Shipped.{IsSaidWhole, IsShipped, role_session, shipped_role}
+use Rattle.welcome_laws.specs.Welcome.{ComesToLogIn, sitting_session}
+use Rattle.welcome_laws.proofs.Welcomed.{users_get_in}
+use Rattle.welcome_rows.specs.declared.serving.Visit.{Visit}
+use Rattle.welcome_rows.specs.Met.{IsMetInActs, IsMetInJournal, IsShippedTalk}
+use Rattle.welcome_rows.specs.Shown.{GetsIn, HasServed, planned}
+use Rattle.welcome_rows.proofs.Acts.{client_of_first, few_of_first}
+use Rattle.welcome_rows.proofs.Readiness.{can_log_in, is_right}
+
+-- ---- one connection, one session
+
+none_last : (last : LastAccept) → came_count (last_acts last) ≡ 0
+none_last Unasked = refl
+none_last NoneLeft = refl
+none_last AcceptFailed = refl
+
+one_of : (sittings : List Sitting) → length sittings ≡ 1 → (sitting : Sitting) × (sittings ≡ sitting ∷ [])
+one_of [] h = absurd cc
+one_of (sitting ∷ []) h = (sitting, refl)
+one_of (sitting ∷ other ∷ sittings) h = absurd (omega (arith, h))
+
+one_session : (service : Service) (sittings : List Sitting) (last : LastAccept)
+    → AllByRecursion (IsSitting service) sittings → came_count (story_acts sittings last) ≡ 1
+    → (sitting : Sitting) × (sittings ≡ sitting ∷ [])
+one_session service sittings last each one =
+    let split = count-append is_coming (step_acts (flat_map all_steps sittings)) (last_acts last) in
+    let all = all_came service sittings each in
+    one_of sittings (omega (arith, one, split, all, none_last last))
+
+-- ---- the children are the shipped ones
+
+all_shipped : (entry : List ℕ × List ℕ) (parts : List Part) → AllByRecursion (IsShippedTalk entry) (map talk_of parts)
+    → AllByRecursion (λ (part : Part). part.taken ++ part.unread ≡ bytes_at part.role (entry ∷ []) 1) parts
+    → AllByRecursion IsShipped parts
+all_shipped entry [] says has = tt
+all_shipped entry (part ∷ parts) says has = (
+  record {
+    said = subst (IsSaidWhole (shipped_role part.role) (role_session part.role) part.sent) (sym has.0) says.0;
+  },
+  all_shipped entry parts says.1 has.1,
+)
+
+-- ---- no link failed
+
+none_failed : (worker : ℕ) (before events : List Event) → list_any (λ e. is_fault_end e.ask) events ≡ false
+    → count_by (λ p. is_link_end p.event.ask) (filter (λ p. p.event.worker == worker) (places_after before events)) ≡ 0
+none_failed worker before [] sound = refl
+none_failed worker before (e ∷ events) sound =
+    by_worker (none_failed worker (before ++ e ∷ []) events both.1) (e.worker == worker) where
+      both : (is_fault_end e.ask ≡ false) × (list_any (λ e. is_fault_end e.ask) events ≡ false)
+      both = or_parts (is_fault_end e.ask) (list_any (λ e. is_fault_end e.ask) events) sound
+
+      unfailed : is_link_end e.ask ≡ false
+      unfailed =
+          (or_parts (is_link_end e.ask) (is_keeper_end e.ask)
+          (or_parts (is_link_end e.ask || is_keeper_end e.ask) (is_lost_end e.ask) both.0).0).0
+
+      by_worker : count_by (λ p. is_link_end p.event.ask) (filter (λ p. p.event.worker == worker) (places_after
+          (before ++ e ∷ []) events)) ≡ 0
+          → (own : Bool) → count_by (λ p. is_link_end p.event.ask)
+          (cond own (record { before = before; event = e } ∷ filter (λ p. p.event.worker == worker) (places_after
+          (before ++ e ∷ []) events))
+          (filter (λ p. p.event.worker == worker) (places_after (before ++ e ∷ []) events))) ≡ 0
+      by_worker later false = later
+      by_worker later true =
+          count-cons (λ (p : Place). is_link_end p.event.ask) (record { before = before; event = e })
+          (filter (λ p. p.event.worker == worker) (places_after (before ++ e ∷ []) events))
+          ∙ ap (λ b. cond b 1 0 + count_by (λ p. is_link_end p.event.ask) (filter (λ p. p.event.worker == worker)
+          (places_after (before ++ e ∷ []) events))) unfailed
+          ∙ omega (arith, later)
+
+all_whole : (service : Service) (journal : List Event) (worker : ℕ) (sittings : List Sitting)
+    → AreSittingsOf service journal worker sittings → list_any (λ e. is_fault_end e.ask) journal ≡ false
+    → AllByRecursion (λ s. AreAnswered service [] s.parts) sittings
+all_whole service journal worker sittings are sound =
+    all_answered service sittings are.each
+    (ap (count_by (λ p. is_link_end p.event.ask)) (sym are.places) ∙ none_failed worker [] journal sound)
+
+-- ---- all of it
+
+module _ (service : Service) (journal : List Event) (worker : ℕ) (user : Name) (response : List ℕ) (entry : List ℕ
+    × List ℕ)
+    (in_range : IsInRange service.setup) (legal : JournalIsLegal service.setup journal)
+    (journal_met : IsMetInJournal service.setup journal user response) where
+  meets : (scene : Scene) → IsMetInActs service.setup.requests user response entry scene.acts scene.talks
+      → scene.plan ≡ entry ∷ [] → (last : LastAccept) (sitting : Sitting)
+      → AreSittingsOf service journal worker (sitting ∷ []) → IsStory (sitting ∷ []) last scene
+      → GetsIn service journal worker user response
+  meets scene acts_met plan last sitting are story = record {
+    account = journal_met.ready.account;
+    sitting = sitting;
+    alone = are;
+    answered = whole;
+    comes = comes;
+    welcomed = users_get_in service journal legal.legal legal.few journal_met.kept in_range journal_met.unfaulted worker
+        (sitting ∷ []) are whole [] [] sitting refl user journal_met.ready.account response comes;
+  } where
+    whole : AllByRecursion (λ s. AreAnswered service [] s.parts) (sitting ∷ [])
+    whole = all_whole service journal worker (sitting ∷ []) are journal_met.unfaulted
+
+    talks : scene.talks ≡ map talk_of sitting.parts
+    talks = story.talks ∙ ap (map talk_of) (append-nil sitting.parts)
+
+    comes : ComesToLogIn service journal user journal_met.ready.account response sitting
+    comes = record {
+      lines = acts_met.lines;
+      are_lines = acts_met.are_lines;
+      children = all_shipped entry sitting.parts (subst (AllByRecursion (IsShippedTalk entry)) talks acts_met.shipped)
+          (subst (λ (plan : List (List ℕ × List ℕ)). AllByRecursion (λ (part : Part). part.taken ++ part.unread ≡
+          bytes_at part.role plan 1) sitting.parts)
+          plan story.planned.0);
+      client = client_of_first service.setup acts_met.lines sitting last are.each.0.begins
+          (subst (ClientSays acts_met.lines []) story.acts acts_met.client);
+      few = omega (arith, acts_met.few, few_of_first sitting last, ap (count_by is_receiving) story.acts);
+      ready = λ before e comes own asking. can_log_in service.setup user response before journal_met.ready
+          (journal_met.first before e comes asking) (sitting_session sitting) (moment_of e.ask);
+      right = λ before e comes own asking words hex spelled. is_right service.setup user response before
+          journal_met.ready
+          (journal_met.first before e comes asking) service.words words hex spelled;
+      within = journal_met.within (sitting_session sitting);
+    }
+
+  gets_in_by : (scene : Scene) → IsMetInActs service.setup.requests user response entry scene.acts scene.talks
+      → scene.plan ≡ entry ∷ [] → (sittings : List Sitting) (last : LastAccept)
+      → AreSittingsOf service journal worker sittings → IsStory sittings last scene
+      → GetsIn service journal worker user response
+  gets_in_by scene acts_met plan sittings last are story =
+      let one = one_session service sittings last are.each (ap came_count (sym story.acts) ∙ acts_met.one) in
+      meets scene acts_met plan last one.0 (subst (AreSittingsOf service journal worker) one.1 are)
+      (subst (λ (ss : List Sitting). IsStory ss last scene) one.1 story)
+
+-- a visit whose post tells, and meets all that is decided
+pub shown : (service : Service) (visits : List Visit) (journal : List Event) (posts : List MemPost)
+    → HasServed service visits journal posts → (worker : ℕ) (visit : Visit) (post : MemPost)
+    → slice_get visits worker ≡ Some visit → slice_get posts worker ≡ Some post
+    → IsMetInJournal service.setup journal visit.user visit.response → (acts : List Act) (talks : List Talk)
+    → IsMetInActs service.setup.requests visit.user visit.response (planned visit.script) acts talks
+    → IsSome (scene_of post) → IfSome (scene_of post) (λ s. acts ≡ s.acts)
+    → IfSome (scene_of post) (λ s. talks ≡ s.talks)
+    → GetsIn service journal worker visit.user visit.response
+shown service visits journal posts served worker visit post visits_at posts_at journal_met acts talks acts_met some
+    told spoke =
+    by_scene (scene_of post) some told spoke (served.conversations.held worker post posts_at)
+    (served.plans worker visit post visits_at posts_at) where
+      by_scene : (scene : Option Scene) → IsSome scene → IfSome scene (λ s. acts ≡ s.acts)
+          → IfSome scene (λ s. talks ≡ s.talks)
+          → IfSome scene (λ s. (sittings : List Sitting) × (last : LastAccept)
+          × AreSittingsOf service journal worker sittings × IsStory sittings last s)
+          → IfSome scene (λ s. s.plan ≡ planned visit.script ∷ []) → GetsIn service journal worker visit.user
+          visit.response
+      by_scene None some told spoke held plan = absurd cc
+      by_scene (Some scene) some told spoke held plan =
+          gets_in_by service journal worker visit.user visit.response (planned visit.script) served.in_range
+          served.legal journal_met scene
+          (subst (λ (ts : List Talk). IsMetInActs service.setup.requests visit.user visit.response (planned
+          visit.script) scene.acts ts) spoke
+          (subst (λ (done : List Act). IsMetInActs service.setup.requests visit.user visit.response (planned
+          visit.script) done talks) told acts_met))
+          plan held.0 held.1 held.2 held.3
+
+-- what a success says of what its value tells
+pub carried : {E P Q : Type 0} (r : Result Bool E) → (P → Q) → IfOk r (λ yes. yes ≡ true → P)
+    → IfOk r (λ yes. yes ≡ true → Q)
+carried (Ok shows) f h = λ is. f (h is)
+carried (Err error) f h = h

@@ -1,0 +1,66 @@
+-- A user whose account is ready, before anybody asks for the user.
+use Rattle.std.proofs.Common.{◌≡◌, ℕ, ◌-◌, Bool, true, false, not, ◌||◌, cond, eqb, List, [], ◌∷◌, length}
+use Rattle.std.proofs.Common.{Option, Some, arith, drop, get_or, refl, sym, ap, subst, ◌∙◌, ◌+◌, ◌<◌}
+use Rattle.std.specs.List.{find, list_any}
+use Rattle.std.specs.Option.{option_to_list}
+use Rattle.std.proofs.lemmas.Bool.{and_from}
+use Rattle.std.proofs.lemmas.List.{drop_more}
+use Rattle.std.proofs.lemmas.List.Folds.{list_any-append}
+use Rattle.request_catalogue.specs.declared.texts.Name.{Name}
+use Rattle.otp_words.specs.Candidates.{AreCandidatesOf}
+use Rattle.policy_model.specs.declared.account.Account.{Account}
+use Rattle.policy_model.specs.declared.event.Event.{Event}
+use Rattle.policy_model.specs.Logins.{current_sequence, is_live, replies_of}
+use Rattle.policy_model.specs.Settings.{Settings}
+use Rattle.policy_model.specs.Verdict.{is_next_password}
+use Rattle.session_laws.proofs.Permits.{found_name}
+use Rattle.login_laws.specs.Login.{CanLogIn, IsRight, asks_for}
+use Rattle.welcome_rows.specs.Met.{CanBeReady}
+use Rattle.welcome_rows.proofs.Asked.{unheld, unreplied_for}
+
+-- the account at which a search through a list stops
+pub found_in : (test : Account → Bool) (xs ys : List Account) (i : ℕ) (x : Account) → ys ≡ xs
+    → find test xs ≡ find test (drop i xs) → i < length ys → x ≡ get_or ys i x → test x ≡ true → find test xs ≡ Some x
+found_in test xs ys i x same so_far within is passes =
+    let lt : i < length xs = subst (λ (zs : List Account). i < length zs) same within in
+    so_far ∙ ap (find test) (drop_more xs i x lt)
+    ∙ ap (λ y. find test (y ∷ drop (i + 1) xs)) (sym (is ∙ ap (λ (zs : List Account). get_or zs i x) same))
+    ∙ ap (λ b. cond b (Some x) (find test (drop (i + 1) xs))) passes
+
+module _ (setup : Settings) (user : Name) (response : List ℕ) (before : List Event)
+    (ready : CanBeReady setup user response) (none : list_any (λ e. asks_for user e.ask) before ≡ false) where
+  account : Account
+  account = ready.account
+
+  unreplied : replies_of before ready.account.name ≡ []
+  unreplied = subst (λ (name : Name). replies_of before name ≡ []) (sym (found_name setup user ready.account
+      ready.found)) (unreplied_for user before none)
+
+  none_gone : ready.account.sequence - 0 ≡ ready.account.sequence
+  none_gone = omega arith
+
+  live : is_live before ready.account ≡ true
+  live =
+      and_from ready.account.enabled (not (eqb (current_sequence before ready.account) 0)) ready.ready.enabled
+      (ap (λ (replies : List ℕ). not (eqb (ready.account.sequence - length replies) 0)) unreplied
+      ∙ ap (λ n. not (eqb n 0)) none_gone ∙ ap not ready.ready.left)
+
+  pub can_log_in : (session now : ℕ) → CanLogIn setup before session user now ready.account
+  can_log_in session now = record { found = ready.found; live = live; free = rw (unheld user before none) }
+
+  next : is_next_password before ready.account ready.ready.password ≡ true
+  next = rw unreplied (and_from _ _ ready.ready.next (ap (λ b. not (b || false)) ready.ready.fresh))
+
+  pub is_right : (dictionary : List (List ℕ)) (words hex : Option ℕ) → AreCandidatesOf dictionary response words hex
+      → IsRight before ready.account words hex
+  is_right dictionary words hex spelled = record {
+    next = list_any-append (is_next_password before ready.account) (option_to_list words) (option_to_list hex)
+        ∙ ap (λ (o : Option ℕ). list_any (is_next_password before ready.account) (option_to_list words) || list_any
+        (is_next_password before ready.account) (option_to_list o)) (spelled.hexadecimal ∙ ready.ready.spelled)
+        ∙ last (list_any (is_next_password before ready.account) (option_to_list words)) (is_next_password before
+        ready.account ready.ready.password) next;
+  } where
+    last : (a b : Bool) → b ≡ true → (a || (b || false)) ≡ true
+    last true b h = refl
+    last false true h = refl
+    last false false h = h

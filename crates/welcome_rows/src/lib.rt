@@ -1,0 +1,27 @@
+//! That a user can get in, by example: a login in memory, and for each premise of the law
+//! `users_are_welcomed` a function that decides it by the journal and by what the posts tell. Believe
+//! `specs/Shown.antt`. The logins themselves are tests, which stand apart so that no crate waits for them.
+#![tactic(auto)]
+
+mod client;
+mod house;
+mod journal;
+mod lines;
+mod login;
+mod serving;
+mod shipped;
+mod showing;
+mod user;
+
+pub use client::{are_few, client_says, comings};
+pub use house::House;
+pub use journal::{asks_once, is_whole};
+pub use lines::login_lines;
+pub use login::{log_in, visit_of};
+pub use serving::{Served, Visit, serve};
+pub use shipped::are_shipped;
+pub use showing::{gets_in, is_met_in_acts, is_met_in_journal};
+pub use user::can_log_in;
+
+#[cfg(test)]
+mod tests;

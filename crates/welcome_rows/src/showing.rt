@@ -1,0 +1,90 @@
+//! That a session comes to log in, and so is welcomed.
+
+ghost use Rattle.std.specs.Prelude.{◌≡◌, true, IfOk, IfSome, slice_get};
+ghost use Rattle.welcome_rows.specs.Met.{IsMetInActs, IsMetInJournal};
+ghost use Rattle.welcome_rows.specs.Shown.{GetsIn, HasServed, planned, service_by};
+
+use crate::client::{are_few, client_says, comings};
+use crate::house::House;
+use crate::journal::{asks_once, is_whole};
+use crate::lines::login_lines;
+use crate::serving::{Served, Visit};
+use crate::shipped::are_shipped;
+use crate::user::can_log_in;
+use outside::{Act, Talk};
+use policy_model::Event;
+use request_catalogue::is_typed_reply;
+use std::alloc::{AllocError, Global};
+
+/// Whether a journal meets the premises of a visit's login.
+pub fn is_met_in_journal(house: &House, journal: &[Event], visit: &Visit) -> bool
+    ensures { result ≡ true
+        → IsMetInJournal house.now.setup journal.now visit.now.user visit.now.response }
+{
+    if !is_whole(journal) || !asks_once(&visit.user, journal) {
+        return false;
+    }
+    can_log_in(
+        &house.setup,
+        &house.dictionary,
+        &visit.user,
+        visit.response.as_slice(),
+    )
+}
+
+/// Whether the acts and the talks of a post meet the premises of a visit's login, by a setup with so many
+/// requests.
+///
+/// # Errors
+///
+/// There isn't the memory.
+pub fn is_met_in_acts(
+    alloc: Global,
+    requests: u32,
+    visit: &Visit,
+    acts: &[Act],
+    talks: &[Talk],
+) -> Result<bool, AllocError>
+    ensures { IfOk result (λ yes. yes ≡ true → IsMetInActs requests visit.now.user visit.now.response
+        (planned visit.now.script) acts.now talks.now) }
+{
+    let response = visit.response.as_slice();
+    let lines = login_lines(alloc, &visit.user, response)?;
+    if !is_typed_reply(response) || comings(acts) != 1 || !are_few(requests, acts) {
+        return Ok(false);
+    }
+    Ok(client_says(alloc, &lines, acts)? && are_shipped(alloc, &visit.script, talks)?)
+}
+
+/// Whether the session of this worker meets all premises of the law that its user gets in.
+///
+/// # Errors
+///
+/// There isn't the memory.
+pub fn gets_in(
+    alloc: Global,
+    house: &House,
+    visits: &[Visit],
+    served: &Served,
+    worker: usize,
+) -> Result<bool, AllocError>
+    requires { HasServed (service_by house.now.setup house.now.dictionary) visits.now served.now.journal.items
+        served.now.posts.items }
+    ensures { IfOk result (λ yes. yes ≡ true → IfSome (slice_get visits.now worker) (λ visit.
+        GetsIn (service_by house.now.setup house.now.dictionary) served.now.journal.items worker visit.user
+        visit.response)) }
+{
+    let (Some(visit), Some(post)) = (visits.get(worker), served.posts.get(worker)) else {
+        return Ok(false);
+    };
+    if !post.tells() || !is_met_in_journal(house, &served.journal, visit) {
+        return Ok(false);
+    }
+    is_met_in_acts(
+        alloc,
+        house.setup.requests(),
+        visit,
+        post.acts(),
+        post.talks(),
+    )
+}

@@ -1,0 +1,4 @@
+//! Logins in memory that meet all premises, and runs that don't.
+
+mod logins;
+mod others;

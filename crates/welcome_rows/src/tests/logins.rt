@@ -1,0 +1,133 @@
+//! Logins that meet all premises.
+
+ghost use Rattle.std.specs.Prelude.{◌≤◌};
+
+use crate::house::House;
+use crate::login::{log_in, visit_of};
+use crate::serving::Visit;
+use crate::showing::gets_in;
+use account_file::read_setup;
+use otp_words::Dictionary;
+use request_catalogue::Name;
+use service_play::{ONE, setup_with};
+use std::alloc::Global;
+use std::sync::Wait;
+use std::test::Fail as Fault;
+use std::thread::Threads;
+
+/// The account of a second user, whose chain is at 1 (RFC 2289, `AbCdEfGhIjK`, MD5).
+const ALICE: &str = "
+    [[account]]
+    name = \"alice\"
+    uid = 1002
+    algorithm = \"md5\"
+    seed = \"alpha1\"
+    sequence = 1
+    password = \"7cd34c1040add14b\"
+";
+
+/// What a run serves by, of a setup that begins with these lines and has bob and alice.
+pub(super) fn house_of(alloc: Global, lines: &str) -> Result<House, Fault> {
+    let mut bytes = setup_with(alloc, lines)?;
+    bytes.extend_from_slice(ALICE.as_bytes())?;
+    Ok(House {
+        setup: read_setup(alloc, &bytes).ok().ok_or("a setup")?,
+        dictionary: Dictionary::plain(alloc)?,
+    })
+}
+
+/// Bob, whose client says these lines.
+pub(super) fn bob(alloc: Global, client: &[u8]) -> Result<Visit, Fault> {
+    let user = Name::of(b"bob").ok_or("a name")?;
+    Ok(visit_of(alloc, user, 1_001, b"bb9e 6ae1 979d 8ff4", client)?)
+}
+
+/// What bob's client says.
+const BOB: &[u8] = b"user bob
+resp bb9e 6ae1 979d 8ff4
+quit
+";
+
+/// Alice, who logs in.
+fn alice(alloc: Global) -> Result<Visit, Fault> {
+    let user = Name::of(b"alice").ok_or("a name")?;
+    let client = b"user alice
+resp 8706 6dd9 644b f206
+quit
+";
+    Ok(visit_of(alloc, user, 1_002, b"8706 6dd9 644b f206", client)?)
+}
+
+/// Whether all of these visits get in.
+fn all_get_in<R: Threads + Wait + Sync>(
+    rt: &R,
+    alloc: Global,
+    house: &House,
+    visits: &mut [Visit],
+    piece: usize,
+) -> Result<bool, Fault>
+    requires { 1 ≤ piece }
+{
+    let served = log_in(rt, alloc, house, visits, piece)?;
+    for worker in 0..visits.len() {
+        if !gets_in(alloc, house, visits, &served, worker)? {
+            return Ok(false);
+        }
+    }
+    Ok(true)
+}
+
+/// Whether bob gets in by a setup that begins with these lines.
+pub(super) fn bob_gets_in<R: Threads + Wait + Sync>(
+    rt: &R,
+    alloc: Global,
+    lines: &str,
+    piece: usize,
+) -> Result<bool, Fault>
+    requires { 1 ≤ piece }
+{
+    let house = house_of(alloc, lines)?;
+    let mut visits = vec![in alloc; bob(alloc, BOB)?]?;
+    all_get_in(rt, alloc, &house, &mut visits, piece)
+}
+
+/// Whether bob and alice get in beside one another.
+fn both_get_in<R: Threads + Wait + Sync>(rt: &R, alloc: Global) -> Result<bool, Fault> {
+    let house = house_of(alloc, "workers = 2\nrequests = 64")?;
+    let mut visits = vec![in alloc; bob(alloc, BOB)?, alice(alloc)?]?;
+    all_get_in(rt, alloc, &house, &mut visits, 4_096)
+}
+
+const WIDE: &str = "workers = 1
+    frames = \"wide\"
+    requests = 64";
+
+#[test]
+fn bob_can_get_in(rt: HostRuntime) -> Result<(), Fault> {
+    assert!(&rt; bob_gets_in(&rt, rt.alloc(), ONE, 4_096)?);
+    Ok(())
+}
+
+#[test]
+fn bob_can_get_in_by_wide_frames(rt: HostRuntime) -> Result<(), Fault> {
+    assert!(&rt; bob_gets_in(&rt, rt.alloc(), WIDE, 4_096)?);
+    Ok(())
+}
+
+#[test]
+fn bob_can_get_in_byte_by_byte(rt: HostRuntime) -> Result<(), Fault> {
+    assert!(&rt; bob_gets_in(&rt, rt.alloc(), ONE, 1)?);
+    Ok(())
+}
+
+#[test]
+fn bob_can_get_in_byte_by_byte_by_wide_frames(rt: HostRuntime) -> Result<(), Fault> {
+    assert!(&rt; bob_gets_in(&rt, rt.alloc(), WIDE, 1)?);
+    Ok(())
+}
+
+#[test]
+fn two_users_can_get_in_at_once(rt: HostRuntime) -> Result<(), Fault> {
+    assert!(&rt; both_get_in(&rt, rt.alloc())?);
+    Ok(())
+}
