@@ -59,6 +59,11 @@ def read(path):
         return file.read()
 
 
+def read_log(path):
+    """The lines of a log, without those by which the program says how its run went."""
+    return b"".join(line for line in read(path).splitlines(keepends=True) if not line.startswith(b"otplogd: "))
+
+
 def kept(*paths):
     """Copies files of a run that went wrong to a folder that stays, and names it."""
     folder = tempfile.mkdtemp(prefix="otplogd-")

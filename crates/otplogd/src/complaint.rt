@@ -1,27 +1,37 @@
-//! What the program says where it served nobody.
+//! What the program says where it doesn't end with 0, and what is to be thought of.
 
 use account_file::SetupFault;
 use audit_check::AuditWhy;
 use monitor_server::{Detail, FileKind};
 use otp_extended::RenewFault;
 use otp_words::{DictFault, DictRule};
-use std::fmt;
+use std::{fmt, io};
 
-/// Why the program ends with a status, in one line for the one who called it: from the report alone,
-/// and without memory.
+/// Why the program ends with a status, or what is to be thought of, in one line for the one who called
+/// it: from the report alone, and without memory.
 #[derive(Clone, Copy)]
 pub struct Complaint {
-    /// The exit status, not 0.
+    /// The exit status.
     pub status: u8,
     /// Which file is missing, or what is wrong with it or with the response.
     pub detail: Detail,
+    /// What the system said where the socket could not be listened at, or a file not be replaced.
+    pub error: Option<io::Error>,
 }
 
 impl fmt::Display for Complaint {
     fn fmt<W: fmt::Write>(&self, f: &mut fmt::Formatter<W>) -> fmt::Result {
         f.write_str("otplogd: ")?;
         match self.detail {
-            Detail::Nothing => f.write_str(status_text(self.status)),
+            Detail::Nothing => match self.error {
+                Some(error) => write!(f, "{}: {error}", status_text(self.status)),
+                None => f.write_str(status_text(self.status)),
+            },
+            Detail::FewRequests { requests } => write!(
+                f,
+                "the setup is right, but its {requests} requests are few: a login takes 9, and one more for \
+                each further piece of the client's lines"
+            ),
             Detail::Missing { file } => write!(f, "{} is not there", file_text(file)),
             Detail::SetupBad(SetupFault { key, rule, account }) => write!(
                 f,
@@ -72,8 +82,10 @@ fn status_text(status: u8) -> &'static str {
         4 => "a file is not there",
         5 => "a file is refused",
         6 => "the socket could not be listened at",
+        7 => "a line could not be written to the log, or another file has the log's place",
         8 => "the setup or the durable log could not be replaced",
         9 => "memory was wanted",
+        10 => "a worker could not wait for a connection",
         11 => "standard input could not be read, or standard output not be written",
         12 => {
             "the input is refused: a pass phrase is 10 to 63 bytes of printable ASCII, \

@@ -3,15 +3,15 @@
 use durable_log::Disk;
 use line_log::LineLog;
 use outside::Word;
-use outside_real::RealSink;
+use outside_real::{LogStderr, RealSink, open_alone};
 use real_log::{FileDisk, RealLog};
 use std::alloc::{AllocError, Global};
-use std::fs::{File, TryLockError};
-use std::io::Stderr;
+use std::fs::{File, OpenOptions};
+use std::io::ErrorKind;
 use std::rt::Files;
 
 /// The log of a run that writes lines to standard error.
-pub(crate) type RunLog = RealLog<Stderr, HostRuntime>;
+pub(crate) type RunLog = RealLog<LogStderr, HostRuntime>;
 
 /// Why a run has no log.
 #[derive(Clone, Copy)]
@@ -38,15 +38,17 @@ impl From<AllocError> for LogError {
     }
 }
 
-/// The file of this name, locked until it is dropped. None where it can't be opened: what is wrong with it
-/// the mode says that reads it.
+/// The file of this name, locked until it is dropped. None where it can't be opened or locked: what is
+/// wrong with it the mode says that reads it.
 fn lock<R: Files<File = File>>(rt: &R, name: &Word) -> Result<Option<File>, LogError> {
-    let Ok(file) = File::open(rt, name.as_str()) else {
-        return Ok(None);
-    };
-    match file.try_lock() {
-        Err(TryLockError::WouldBlock) => Err(LogError::Taken),
-        Ok(()) | Err(TryLockError::Error(_)) => Ok(Some(file)),
+    let mut options = OpenOptions::new();
+    options.read(true);
+    match open_alone(rt, name.as_str(), &options) {
+        Ok(file) => Ok(Some(file)),
+        Err(error) => match error.kind() {
+            ErrorKind::WouldBlock | ErrorKind::ResourceBusy => Err(LogError::Taken),
+            _ => Ok(None),
+        },
     }
 }
 
@@ -60,12 +62,21 @@ fn disk_of(rt: HostRuntime, alloc: Global, name: &Word) -> Result<FileDisk<HostR
     Ok(disk)
 }
 
-/// The log of a run, which is the durable one of this name and then standard error.
+/// Standard error, which keeps nobody waiting where the system can tell that it would.
+pub(crate) fn prompt_stderr(rt: HostRuntime, alloc: Global) -> LogStderr {
+    match LogStderr::prompt(&rt, alloc, rt.stderr()) {
+        Ok(stderr) => stderr,
+        Err(_) => LogStderr::waiting(rt.stderr()),
+    }
+}
+
+/// The log of a run, which is the durable one of this name and then standard error, of which a line that
+/// can't be written at once is dropped.
 fn log_on_disk(rt: HostRuntime, alloc: Global, name: &Word) -> Result<RunLog, LogError> {
     let disk = disk_of(rt, alloc, name)?;
     Ok(RealLog::Durable {
         log: LineLog::new(disk),
-        echo: RealSink::new(rt.stderr()),
+        echo: RealSink::new(prompt_stderr(rt, alloc)),
     })
 }
 
@@ -80,7 +91,7 @@ pub(crate) fn logs_of(
     alloc: Global,
     words: &[Word],
 ) -> Result<(RunLog, Option<File>), LogError> {
-    let plain = RealLog::Stream(RealSink::new(rt.stderr()));
+    let plain = RealLog::Stream(RealSink::new(LogStderr::waiting(rt.stderr())));
     match words {
         [mode, _, name] if mode.as_str() == "serve" => Ok((log_on_disk(rt, alloc, name)?, None)),
         [mode, _, name] if mode.as_str() == "recover" => Ok((plain, lock(&rt, name)?)),

@@ -1,9 +1,11 @@
 use crate::complaint::Complaint;
+use crate::ending::RunFaults;
 use account_file::{SetupFault, SetupKey, SetupRule};
 use audit_check::AuditWhy;
 use monitor_server::{Detail, FileKind};
 use otp_extended::RenewFault;
 use otp_words::{DictFault, DictRule};
+use std::io;
 use std::test::Fail;
 
 #[test]
@@ -18,6 +20,12 @@ fn each_status_has_its_line(rt: HostRuntime) -> Result<(), Fail> {
         rule: DictRule::Count,
     };
     let rows = [
+        (
+            0,
+            Detail::FewRequests { requests: 8 },
+            "otplogd: the setup is right, but its 8 requests are few: a login takes 9, and one more for \
+            each further piece of the client's lines",
+        ),
         (
             2,
             Detail::Nothing,
@@ -63,11 +71,21 @@ fn each_status_has_its_line(rt: HostRuntime) -> Result<(), Fail> {
             "otplogd: the socket could not be listened at",
         ),
         (
+            7,
+            Detail::Nothing,
+            "otplogd: a line could not be written to the log, or another file has the log's place",
+        ),
+        (
             8,
             Detail::Nothing,
             "otplogd: the setup or the durable log could not be replaced",
         ),
         (9, Detail::Nothing, "otplogd: memory was wanted"),
+        (
+            10,
+            Detail::Nothing,
+            "otplogd: a worker could not wait for a connection",
+        ),
         (
             11,
             Detail::Nothing,
@@ -109,9 +127,43 @@ fn each_status_has_its_line(rt: HostRuntime) -> Result<(), Fail> {
         ),
     ];
     for (status, detail, line) in rows {
-        let complaint = Complaint { status, detail };
+        let complaint = Complaint {
+            status,
+            detail,
+            error: None,
+        };
         let text = format!(in rt.alloc(); "{complaint}")?;
         assert!(rt; text.as_str() == line);
     }
+    Ok(())
+}
+
+#[test]
+fn what_the_system_said_is_told_too(rt: HostRuntime) -> Result<(), Fail> {
+    let complaint = Complaint {
+        status: 6,
+        detail: Detail::Nothing,
+        error: Some(io::Error::other("the vault is not there")),
+    };
+    let text = format!(in rt.alloc(); "{complaint}")?;
+    let wanted = "otplogd: the socket could not be listened at: the vault is not there";
+    assert!(rt; text.as_str() == wanted);
+    Ok(())
+}
+
+#[test]
+fn faults_have_one_line(rt: HostRuntime) -> Result<(), Fail> {
+    let faults = RunFaults {
+        accept: 0,
+        start: 1,
+        link: 2,
+        connection: 3,
+        vault: 4,
+        dropped: 5,
+    };
+    let text = format!(in rt.alloc(); "{faults}")?;
+    let wanted =
+        "otplogd: faults: accept 0, start 1, link 2, connection 3, vault 4, dropped lines 5";
+    assert!(rt; text.as_str() == wanted);
     Ok(())
 }

@@ -4,27 +4,28 @@ ghost use Rattle.outside.specs.Faults.{count_after};
 
 use crate::again::read_again;
 use crate::counted::counted;
+use crate::named::Identity;
+use crate::replacing::replace_file;
+use crate::seen::{Found, SeenFiles};
 use outside::{Failed, Files, Word};
 use std::alloc::Global;
-use std::fs::{File, OpenFile, OpenOptions};
-use std::io::{ErrorKind, Read, Seek, SeekFrom, Write};
-use std::os::unix::fs::OpenOptionsExt;
-use std::path::Path;
+use std::fs::File;
+use std::io;
+use std::io::{ErrorKind, Read, Seek, SeekFrom};
 use std::rt::Files as FileSystem;
-use std::{fs, io};
-
-/// The permissions of a file that is being written: its owner alone may read and write it.
-const OWNER_ALONE: u32 = 0o600;
 
 /// The machine's files. A name is a path.
 ///
-/// A file is read as one: a reading from its front opens it, and those of the pieces behind are of
-/// the same open file, also where another file is given its name in between.
+/// A file is read as one: a reading from its front opens it, and those of the pieces after it are of
+/// the same open file, also where another file is given its name in between. A file that was read is
+/// replaced only as long as it is the one that was read.
 #[derive(Drop)]
 pub struct RealFiles<R> {
     rt: R,
     alloc: Global,
     reading: Option<Reading>,
+    seen: SeenFiles,
+    replace_error: Option<io::Error>,
     read_faults: u64,
     replace_faults: u64,
 }
@@ -41,9 +42,16 @@ impl<R> RealFiles<R> {
             rt,
             alloc,
             reading: None,
+            seen: SeenFiles::new(alloc),
+            replace_error: None,
             read_faults: 0,
             replace_faults: 0,
         }
+    }
+
+    /// Why the last replacing failed, if it did.
+    pub fn replace_error(&self) -> Option<io::Error> {
+        self.replace_error
     }
 }
 
@@ -67,9 +75,10 @@ impl<R: FileSystem<File = File> + Drop> Files for RealFiles<R> {
         counted(&mut self.read_faults, outcome)
     }
 
-    /// Writes a new file beside the old one, flushes it to the disk, and gives it the old one's
-    /// name. So whoever reads the file sees what it held or the new bytes, and after a crash it
-    /// holds one of these.
+    /// Writes a new file beside the old one, with its permissions, owner and group, flushes it to the
+    /// disk, and gives it the old one's name. So whoever reads the file sees what it held or the new
+    /// bytes, and after a crash it holds one of these. A symbolic link is followed to its end. It is a
+    /// fault where the file isn't the one any more that was last read.
     fn replace(&mut self, name: &Word, bytes: &[u8]) -> Result<(), Failed>
         ensures counts { replace_faults_of self.new
             ≡ count_after result (replace_faults_of self.old) }
@@ -77,7 +86,7 @@ impl<R: FileSystem<File = File> + Drop> Files for RealFiles<R> {
         ensures others { read_faults_of self.new ≡ read_faults_of self.old }
     {
         self.reading = None;
-        let outcome = replace_file(&self.rt, self.alloc, name.as_str(), bytes);
+        let outcome = self.replace_known(name.as_str(), bytes);
         counted(&mut self.replace_faults, outcome)
     }
 }
@@ -92,7 +101,20 @@ impl<R: FileSystem<File = File>> RealFiles<R> {
         ensures replace_faults { replace_faults_of self.new ≡ replace_faults_of self.old }
     {
         let begun = self.reading.take();
-        let Some(mut reading) = reading_at(&self.rt, self.alloc, begun, path, offset)? else {
+        let opened = reading_at(&self.rt, self.alloc, begun, path, offset)?;
+        if offset == 0 {
+            self.seen.note(self.alloc, path, found_by(&opened))?;
+        }
+        self.read_on(opened, buf)
+    }
+
+    /// Reads on in a file, which is kept unless it has ended. `None`: there is no such file.
+    fn read_on(&mut self, opened: Option<Reading>, buf: &mut [u8]) -> io::Result<Option<usize>>
+        ensures bound { IfOk result (λ found. IfSome found (λ n. n ≤ length buf.old)) }
+        ensures read_faults { read_faults_of self.new ≡ read_faults_of self.old }
+        ensures replace_faults { replace_faults_of self.new ≡ replace_faults_of self.old }
+    {
+        let Some(mut reading) = opened else {
             return Ok(None);
         };
         let count = reading.fill(buf)?;
@@ -101,6 +123,27 @@ impl<R: FileSystem<File = File>> RealFiles<R> {
         }
         Ok(Some(count))
     }
+
+    /// Replaces a file, and keeps why that failed.
+    fn replace_known(&mut self, path: &str, bytes: &[u8]) -> io::Result<()>
+        ensures read_faults { read_faults_of self.new ≡ read_faults_of self.old }
+        ensures replace_faults { replace_faults_of self.new ≡ replace_faults_of self.old }
+    {
+        let outcome = replace_file(&self.rt, self.alloc, path, self.seen.of(path), bytes);
+        self.replace_error = outcome.err();
+        if outcome.is_ok() {
+            self.seen.forget(path);
+        }
+        outcome
+    }
+}
+
+/// How a file was found that was opened or wasn't there.
+fn found_by(opened: &Option<Reading>) -> Found {
+    match opened {
+        Some(reading) => Found::File(reading.identity),
+        None => Found::Missing,
+    }
 }
 
 /// A file that is being read.
@@ -108,6 +151,7 @@ impl<R: FileSystem<File = File>> RealFiles<R> {
 struct Reading {
     path: String,
     file: File,
+    identity: Identity,
     /// How far it was read.
     position: u64,
 }
@@ -163,14 +207,20 @@ fn open<R: FileSystem<File = File>>(
     path: &str,
 ) -> io::Result<Option<Reading>> {
     match File::open(rt, path) {
-        Ok(file) => Ok(Some(Reading {
-            path: String::from_str(alloc, path)?,
-            file,
-            position: 0,
-        })),
+        Ok(file) => Ok(Some(at_front(alloc, path, file)?)),
         Err(error) if error.kind() == ErrorKind::NotFound => Ok(None),
         Err(error) => Err(error),
     }
+}
+
+/// A file of this path, of which nothing was read.
+fn at_front(alloc: Global, path: &str, file: File) -> io::Result<Reading> {
+    Ok(Reading {
+        path: String::from_str(alloc, path)?,
+        identity: Identity::of(&file.metadata()?),
+        file,
+        position: 0,
+    })
 }
 
 /// Reads until the buffer is full or the reader ends, and gives how many bytes were read.
@@ -188,46 +238,4 @@ pub fn fill<R: Read>(reader: &mut R, buf: &mut [u8]) -> io::Result<usize>
         }
     }
     Ok(filled)
-}
-
-/// Puts a file with these bytes in the place of the one at the path.
-fn replace_file<R: FileSystem>(rt: &R, alloc: Global, path: &str, bytes: &[u8]) -> io::Result<()> {
-    let new = format!(in alloc; "{path}.new")?;
-    let new = new.as_str();
-    // One that a run left there that was cut off.
-    let _ = fs::remove_file(rt, new);
-    let moved = write_and_move(rt, new, path, bytes);
-    if moved.is_err() {
-        let _ = fs::remove_file(rt, new);
-        return moved;
-    }
-    flush_folder(rt, path)
-}
-
-/// Makes a file with these bytes and gives it the name of the one at the path.
-fn write_and_move<R: FileSystem>(rt: &R, new: &str, path: &str, bytes: &[u8]) -> io::Result<()> {
-    write_file(rt, new, path, bytes)?;
-    fs::rename(rt, new, path)
-}
-
-/// Makes a file, with the permissions of the one at the path `like` if that is there, and flushes
-/// it to the disk.
-fn write_file<R: FileSystem>(rt: &R, path: &str, like: &str, bytes: &[u8]) -> io::Result<()> {
-    let mut options = OpenOptions::new();
-    options.write(true).create_new(true).mode(OWNER_ALONE);
-    let mut file = options.open(rt, path)?;
-    file.write_all(bytes)?;
-    if let Ok(old) = fs::metadata(rt, like) {
-        file.set_permissions(old.permissions())?;
-    }
-    file.sync_all()
-}
-
-/// Flushes the folder of a path to the disk, so that a name that was given there stays.
-fn flush_folder<R: FileSystem>(rt: &R, path: &str) -> io::Result<()> {
-    let folder = match Path::new(path).parent() {
-        Some(folder) if !folder.as_str().is_empty() => folder.as_str(),
-        _ => ".",
-    };
-    File::open(rt, folder)?.sync_all()
 }

@@ -2,10 +2,10 @@ ghost use Rattle.std.specs.Prelude.{◌≡◌, ◌<◌, ◌≤◌, IfOk, IsSome,
 ghost use Rattle.outside.specs.Faults.{AcceptCounts, ConnCounts, CountNothing, FinishCounts, NoneFell, StartCounts, VaultCounts};
 ghost use Rattle.outside_real.specs.RealStream.{faults_of as stream_faults, role_of};
 
-use crate::again::read_again;
 use crate::clock::PostClock;
 use crate::counted::counted;
 use crate::limits::Limits;
+use crate::patience::{Patience, read_within, write_within};
 use crate::seat::Seat;
 use crate::socket;
 use crate::stream::{RealStream, close, launch};
@@ -15,12 +15,11 @@ use request_catalogue::Label;
 use std::alloc::Global;
 use std::fs::File;
 use std::io;
-use std::io::Write;
 use std::net::Net;
 use std::os::unix::net::UnixStream;
 use std::process::{Processes, SystemProcess};
 use std::rt::Files;
-use std::time::Clock;
+use std::time::{Clock, Duration};
 
 /// The clients of one listening Unix socket, the child programs that serve them, and the users'
 /// files.
@@ -32,11 +31,15 @@ pub struct RealPost<R> {
     place: Place,
     limits: Limits,
     clock: PostClock,
+    /// When the session that is served was accepted, a moment of the clock in milliseconds.
+    begun: u64,
+    /// Until when its client and its children may keep the post waiting.
+    until: u64,
     faults: Faults,
 }
 
 impl<R> RealPost<R> {
-    ghost use Rattle.outside_real.specs.RealPost.{IsFreshPost, IsPostAt};
+    ghost use Rattle.outside_real.specs.RealPost.{IsFreshPost, IsPostAt, faults_of};
 
     /// A post of this place, whose launcher starts its children and whose vault has its users' files.
     pub(crate) fn new(
@@ -57,18 +60,34 @@ impl<R> RealPost<R> {
             place,
             limits,
             clock,
+            begun: 0,
+            until: u64::MAX,
             faults: Faults::none(),
         }
     }
+
+    /// How many faults it had, by kind.
+    pub fn faults(&self) -> Faults
+        ensures { result ≡ faults_of self.now }
+    {
+        self.faults
+    }
+
+    /// How long somebody may keep the post waiting: this long each time, and not beyond the session's
+    /// end.
+    fn patience(&self, each: Duration) -> Patience {
+        Patience::until(self.clock, each, self.until)
+    }
 }
 
-impl<R: Processes<Started = SystemProcess> + Files<File = File> + Net + Clock + Drop + Send> Post
-    for RealPost<R> {
+impl<
+    R: Processes<Started = SystemProcess> + Files<File = File> + Net + Clock + Clone + Drop + Send,
+> Post for RealPost<R> {
     ghost use Rattle.outside_real.specs.RealPost.{faults_of, place_of};
 
     type Conn = UnixStream;
 
-    type Child = RealStream;
+    type Child = RealStream<R>;
 
     ghost scene = { λ _. None };
 
@@ -83,26 +102,33 @@ impl<R: Processes<Started = SystemProcess> + Files<File = File> + Net + Clock + 
         ensures kept { NoneFell (faults_of self.old) (faults_of self.new) }
         ensures at { place_of self.new ≡ place_of self.old }
     {
-        let conn = counted(&mut self.faults.accept, accept(&self.seat, &self.limits))?;
+        let conn = counted(&mut self.faults.accept, self.seat.accept())?;
+        self.begun = self.clock.now(&self.rt);
+        self.until = moment_after(self.begun, self.limits.login);
         Ok(Some(conn))
     }
 
-    /// Starts a child by the launcher, with the words of its role.
-    fn start(&mut self, role: &Role) -> Result<RealStream, Failed>
+    /// Starts a child by the launcher, with the words of its role. With a user's child the time for the
+    /// whole of a session begins to count, in place of the time for a login.
+    fn start(&mut self, role: &Role) -> Result<RealStream<R>, Failed>
         ensures role { IfOk result (λ child. role_of child ≡ role.now) }
         ensures faultless { IfOk result (λ child. stream_faults child ≡ 0) }
         ensures counts { StartCounts result (faults_of self.old) (faults_of self.new) }
         ensures kept { NoneFell (faults_of self.old) (faults_of self.new) }
         ensures at { place_of self.new ≡ place_of self.old }
     {
+        if is_users(role) {
+            self.until = moment_after(self.begun, self.limits.session);
+        }
+        let patience = self.patience(self.limits.child);
         let launcher = self.place.launcher.as_str();
-        let started = launch(&self.rt, self.alloc, launcher, *role, self.limits.child);
+        let started = launch(&self.rt, self.alloc, launcher, *role, patience);
         counted(&mut self.faults.keeper, started)
     }
 
     /// Closes the child's socket and waits for its end. That it isn't gone in time, and is killed, is
     /// a fault of its link too.
-    fn finish(&mut self, child: RealStream)
+    fn finish(&mut self, child: RealStream<R>)
         ensures counts { FinishCounts (stream_faults child) (faults_of self.old)
             (faults_of self.new) }
         ensures kept { NoneFell (faults_of self.old) (faults_of self.new) }
@@ -129,7 +155,9 @@ impl<R: Processes<Started = SystemProcess> + Files<File = File> + Net + Clock + 
         ensures kept { NoneFell (faults_of self.old) (faults_of self.new) }
         ensures at { place_of self.new ≡ place_of self.old }
     {
-        counted(&mut self.faults.conn, read_again(conn, buf))
+        let mut patience = self.patience(self.limits.client);
+        let outcome = read_within(&self.rt, conn, &mut patience, buf);
+        counted(&mut self.faults.conn, outcome)
     }
 
     /// Sends all bytes to the client.
@@ -138,7 +166,9 @@ impl<R: Processes<Started = SystemProcess> + Files<File = File> + Net + Clock + 
         ensures kept { NoneFell (faults_of self.old) (faults_of self.new) }
         ensures at { place_of self.new ≡ place_of self.old }
     {
-        counted(&mut self.faults.conn, conn.write_all(bytes))
+        let mut patience = self.patience(self.limits.client);
+        let outcome = write_within(&self.rt, conn, &mut patience, bytes);
+        counted(&mut self.faults.conn, outcome)
     }
 
     /// Reads the file `uid/name` of the vault. What isn't a regular file is a fault.
@@ -202,9 +232,15 @@ impl<R: Files<File = File>> RealPost<R> {
     }
 }
 
-/// Waits for the next connection, and limits how long its client may keep the post waiting.
-fn accept(seat: &Seat, limits: &Limits) -> io::Result<UnixStream> {
-    let conn = seat.accept()?;
-    socket::limit(&conn, limits.client)?;
-    Ok(conn)
+/// Whether the child of this role is a user's.
+fn is_users(role: &Role) -> bool {
+    match role {
+        Role::Pre { session: _ } => false,
+        Role::User { .. } => true,
+    }
+}
+
+/// The moment that is this long after another, in milliseconds.
+fn moment_after(moment: u64, time: Duration) -> u64 {
+    moment.saturating_add(u64::try_from(time.as_millis()).unwrap_or(u64::MAX))
 }

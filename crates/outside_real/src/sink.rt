@@ -22,6 +22,13 @@ impl<W> RealSink<W> {
     {
         RealSink { writer, faults: 0 }
     }
+
+    /// How many appends failed.
+    pub fn fault_count(&self) -> u64
+        ensures { result ≡ faults_of self.now }
+    {
+        self.faults
+    }
 }
 
 impl<W: Write + Drop + Send> Sink for RealSink<W> {

@@ -5,6 +5,7 @@ ghost use Rattle.outside_real.specs.RealPost.{IsFreshPost, IsPostAt};
 use crate::clock::PostClock;
 use crate::counted::counted;
 use crate::limits::Limits;
+use crate::look::look_at;
 use crate::post::RealPost;
 use crate::seat::Seat;
 use outside::{Failed, Place, Site};
@@ -22,6 +23,8 @@ pub struct RealSite<R> {
     rt: R,
     alloc: Global,
     limits: Limits,
+    looks: bool,
+    listen_error: Option<io::Error>,
     listen_faults: u64,
 }
 
@@ -43,8 +46,29 @@ impl<R> RealSite<R> {
             rt,
             alloc,
             limits,
+            looks: false,
+            listen_error: None,
             listen_faults: 0,
         }
+    }
+
+    /// The same site, which listens only where the place's vault is there and its launcher can be run.
+    pub fn that_looks(self) -> RealSite<R>
+        ensures faults { listen_faults_of result ≡ listen_faults_of self }
+    {
+        RealSite {
+            rt: self.rt,
+            alloc: self.alloc,
+            limits: self.limits,
+            looks: true,
+            listen_error: self.listen_error,
+            listen_faults: self.listen_faults,
+        }
+    }
+
+    /// Why it could not listen the last time, if it could not.
+    pub fn listen_error(&self) -> Option<io::Error> {
+        self.listen_error
     }
 }
 
@@ -68,7 +92,16 @@ impl<
             ≡ count_after result (listen_faults_of self.old) }
     {
         let opened = open_posts(self, place);
+        self.listen_error = error_of(&opened);
         counted(&mut self.listen_faults, opened)
+    }
+}
+
+/// The error of an outcome, if it is one.
+fn error_of<T>(outcome: &io::Result<T>) -> Option<io::Error> {
+    match outcome {
+        Ok(_) => None,
+        Err(error) => Some(*error),
     }
 }
 
@@ -81,6 +114,9 @@ fn open_posts<R: Files<File = File> + Net + Clock + Clone + Drop>(
     ensures fresh { IfOk result (λ posts. All IsFreshPost posts.items) }
     ensures from { IfOk result (λ posts. All (IsPostAt place.now) posts.items) }
 {
+    if site.looks {
+        look_at(&site.rt, place)?;
+    }
     let seat = Seat::take(&site.rt, site.alloc, place.socket.as_str())?;
     posts_on(site, &seat, place)
 }

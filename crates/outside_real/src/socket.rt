@@ -2,19 +2,12 @@ use crate::again::read_again;
 use std::io;
 use std::net::Shutdown;
 use std::os::unix::net::UnixStream;
-use std::time::Duration;
 
 /// How many pieces are read away of what nobody wanted, 64 KB in all.
 const UNWANTED_PIECES: usize = 16;
 
 /// How many bytes one such piece has at most.
 const PIECE: usize = 4_096;
-
-/// Lets no reading and no writing of a socket take longer than this.
-pub fn limit(socket: &UnixStream, time: Duration) -> io::Result<()> {
-    socket.set_read_timeout(Some(time))?;
-    socket.set_write_timeout(Some(time))
-}
 
 /// Closes a socket so that its peer sees the end of input and no reset: what the peer had sent and
 /// nobody wanted is read away, up to 64 KB.

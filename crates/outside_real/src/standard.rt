@@ -14,10 +14,13 @@ const ERROR: RawFd = 2;
 
 /// Opens `/dev/null` in place of each standard stream that is closed, so that no file and no socket
 /// that is opened later has its number. It is opened the wrong way round, for reading where the
-/// stream is to be written: each call on such a stream is still a fault. To be called before
-/// anything else is opened.
+/// stream is to be written: each call on such a stream is still a fault. Where none is closed, nothing
+/// is opened to be written. To be called before anything else is opened.
 pub fn fill_standard_streams<R: Files<File = File>>(rt: &R) -> io::Result<()> {
     // The system gives the least number that is free.
+    if File::open(rt, NULL)?.as_raw_fd() > ERROR {
+        return Ok(());
+    }
     keep_within(OpenOptions::new().write(true).open(rt, NULL)?, INPUT);
     // Standard output, and then standard error.
     for _ in 0..2 {

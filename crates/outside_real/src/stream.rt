@@ -3,12 +3,12 @@ ghost use Rattle.std.specs.Process.{command_args, command_program};
 ghost use Rattle.outside.specs.Faults.{count_after};
 ghost use Rattle.outside.specs.Launching.{launch_words};
 
-use crate::again::read_again;
 use crate::counted::counted;
+use crate::patience::{Patience, read_within, write_within};
 use crate::socket;
 use outside::{Failed, Role, Stream};
 use std::alloc::Global;
-use std::io::{ErrorKind, Write};
+use std::io::ErrorKind;
 use std::net::Net;
 use std::os::fd::OwnedFd;
 use std::os::unix::net::UnixStream;
@@ -30,14 +30,16 @@ const LONGEST_NAP: u64 = 1_000;
 
 /// A child program, over a socket that is both its standard input and its standard output.
 #[derive(Drop)]
-pub struct RealStream {
+pub struct RealStream<R> {
+    rt: R,
     program: Child<SystemProcess>,
     socket: UnixStream,
+    patience: Patience,
     role: Role,
     faults: u64,
 }
 
-impl Stream for RealStream {
+impl<R: Clock + Drop + Send> Stream for RealStream<R> {
     ghost use Rattle.outside_real.specs.RealStream.{faults_of, role_of};
 
     ghost link = { λ _. None };
@@ -52,7 +54,8 @@ impl Stream for RealStream {
         ensures kept { faults_of self.old ≤ faults_of self.new }
         ensures role { role_of self.new ≡ role_of self.old }
     {
-        counted(&mut self.faults, receive(&mut self.socket, buf))
+        let outcome = receive(&self.rt, &mut self.socket, &mut self.patience, buf);
+        counted(&mut self.faults, outcome)
     }
 
     fn send(&mut self, bytes: &[u8]) -> Result<(), Failed>
@@ -60,16 +63,22 @@ impl Stream for RealStream {
         ensures kept { faults_of self.old ≤ faults_of self.new }
         ensures role { role_of self.new ≡ role_of self.old }
     {
-        counted(&mut self.faults, self.socket.write_all(bytes))
+        let outcome = write_within(&self.rt, &mut self.socket, &mut self.patience, bytes);
+        counted(&mut self.faults, outcome)
     }
 }
 
 /// Reads what a child sent. One that ended without reading all that it was sent resets the socket,
-/// behind all that it had sent itself: that is the end of input too.
-fn receive(socket: &mut UnixStream, buf: &mut [u8]) -> io::Result<usize>
+/// after all that it had sent itself: that is the end of input too.
+fn receive<C: Clock>(
+    clock: &C,
+    socket: &mut UnixStream,
+    patience: &mut Patience,
+    buf: &mut [u8],
+) -> io::Result<usize>
     ensures { IfOk result (λ n. n ≤ length buf.new) }
 {
-    match read_again(socket, buf) {
+    match read_within(clock, socket, patience, buf) {
         Err(error) if error.kind() == ErrorKind::ConnectionReset => Ok(0),
         outcome => outcome,
     }
@@ -121,26 +130,37 @@ fn give_user(command: &mut Command, session: &str, uid: &str, user: &[u8]) -> io
     Ok(())
 }
 
-/// Starts a child of this role by the launcher, which may keep a reading or a writing waiting for
-/// this long.
-pub fn launch<R: Processes<Started = SystemProcess> + Net>(
+/// Starts a child of this role by the launcher, which may keep its post waiting for this long.
+pub fn launch<R: Processes<Started = SystemProcess> + Net + Clone + Drop>(
     rt: &R,
     alloc: Global,
     launcher: &str,
     role: Role,
-    limit: Duration,
-) -> io::Result<RealStream>
+    patience: Patience,
+) -> io::Result<RealStream<R>>
     ensures role { IfOk result (λ child. child.role ≡ role) }
     ensures faultless { IfOk result (λ child. child.faults ≡ 0) }
 {
-    let (ours, theirs) = UnixStream::pair(rt)?;
-    socket::limit(&ours, limit)?;
+    let (program, socket) = start_pair(rt, alloc, launcher, &role)?;
     Ok(RealStream {
-        program: start(rt, alloc, launcher, &role, theirs)?,
-        socket: ours,
+        rt: rt.clone()?,
+        program,
+        socket,
+        patience,
         role,
         faults: 0,
     })
+}
+
+/// Starts the program of a child, and gives the socket that leads to it.
+fn start_pair<R: Processes<Started = SystemProcess> + Net>(
+    rt: &R,
+    alloc: Global,
+    launcher: &str,
+    role: &Role,
+) -> io::Result<(Child<SystemProcess>, UnixStream)> {
+    let (ours, theirs) = UnixStream::pair(rt)?;
+    Ok((start(rt, alloc, launcher, role, theirs)?, ours))
 }
 
 /// Starts the program of a child, whose standard input and output are both this socket.
@@ -159,12 +179,14 @@ fn start<R: Processes<Started = SystemProcess>>(
 
 /// Closes the child's socket and waits for its end. One that isn't gone in time is killed. The
 /// answer is the child's faults from its start to its end, with one more where it was killed.
-pub fn close<R: Clock>(rt: &R, child: RealStream, limit: Duration) -> u64
+pub fn close<R: Clock + Drop>(rt: &R, child: RealStream<R>, limit: Duration) -> u64
     ensures { child.faults ≤ result }
 {
     let RealStream {
+        rt: _,
         mut program,
         socket,
+        patience: _,
         role: _,
         faults,
     } = child;

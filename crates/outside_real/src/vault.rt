@@ -15,6 +15,9 @@ const FILE_MODE: u32 = 0o600;
 /// The permissions of a user's folder: its owner alone may enter it.
 const FOLDER_MODE: u32 = 0o700;
 
+/// How many bytes a user's file has at most: 16 MB.
+const MOST_BYTES: u64 = 16_777_216;
+
 /// A user's file: `vault/uid/name`.
 #[derive(Drop)]
 pub struct UserFile {
@@ -65,14 +68,17 @@ impl UserFile {
         fill(&mut file, buf)
     }
 
-    /// Writes bytes from an offset on. A file and a folder that are missing are made; the system
-    /// fills a gap with zeros.
+    /// Writes bytes from an offset on, if they end within the file's limit. A file and a folder that are
+    /// missing are made; the system fills a gap with zeros.
     pub fn write<R: Files<File = File>>(
         &self,
         rt: &R,
         offset: u64,
         bytes: &[u8],
     ) -> io::Result<()> {
+        if offset.saturating_add(bytes.len() as u64) > MOST_BYTES {
+            return Err(io::Error::from(ErrorKind::FileTooLarge));
+        }
         make_folder(rt, self.folder.as_str())?;
         let mut file = open_or_make(rt, self.path.as_str())?;
         file.seek(SeekFrom::Start(offset))?;

@@ -6,6 +6,7 @@ ghost use Rattle.outside.specs.Faults.{count_after};
 use durable_log::Disk;
 use outside::{Failed, Word};
 use outside_real::counted::counted;
+use outside_real::{leads_to, open_alone};
 use std::fs::{File, OpenOptions};
 use std::io;
 use std::io::ErrorKind;
@@ -15,8 +16,9 @@ use std::rt::Files;
 /// A file of the machine. Its name is a path.
 ///
 /// The first call opens it. It has to be there: no file is made. From then on it is locked until the
-/// disk is dropped, so another disk at the same file fails. Behind a call that failed all calls fail,
-/// since what a system keeps of what it failed to flush isn't known.
+/// disk is dropped, so another disk at the same file fails. After a call that failed all calls fail,
+/// since what a system keeps of what it failed to flush isn't known. A flush fails too where the name
+/// leads to another file by then, or to none.
 #[derive(Drop)]
 pub struct FileDisk<R> {
     rt: R,
@@ -63,7 +65,7 @@ impl<R: Files<File = File> + Drop + Send> Disk for FileDisk<R> {
     }
 
     /// Flushes what was written. It fails where a call failed before, where the file can't be opened
-    /// and locked, or where the system can't flush it.
+    /// and locked, where the system can't flush it, or where the file is at its place no more.
     fn sync(&mut self) -> Result<(), Failed>
         ensures counts { faults_of self.new ≡ count_after result (faults_of self.old) }
 
@@ -90,7 +92,7 @@ impl<R: Files<File = File>> FileDisk<R> {
         self.failed = true;
         match self.file.take() {
             Some(file) => Ok(file),
-            None => open_alone(&self.rt, self.path.as_str()),
+            None => open_to_write(&self.rt, self.path.as_str()),
         }
     }
 
@@ -113,7 +115,7 @@ impl<R: Files<File = File>> FileDisk<R> {
         ensures stays { has_failed self.old ≡ true → IsErr result }
     {
         let file = self.take_file()?;
-        let outcome = file.sync_data();
+        let outcome = flush_at(&self.rt, self.path.as_str(), &file);
         self.put_back(file, outcome.is_ok());
         outcome
     }
@@ -128,11 +130,19 @@ impl<R: Files<File = File>> FileDisk<R> {
     }
 }
 
-/// Opens a file that is there, to write it, and locks it.
-fn open_alone<R: Files<File = File>>(rt: &R, path: &str) -> io::Result<File> {
+/// Opens the file at a path, which has to be there, to write it, and locks it.
+fn open_to_write<R: Files<File = File>>(rt: &R, path: &str) -> io::Result<File> {
     let mut options = OpenOptions::new();
     options.write(true);
-    let file = options.open(rt, path)?;
-    file.try_lock()?;
-    Ok(file)
+    open_alone(rt, path, &options)
+}
+
+/// Flushes a file to the disk, and sees that the path still leads to it: lines of a file that was
+/// removed, or exchanged for another, would be lost.
+fn flush_at<R: Files<File = File>>(rt: &R, path: &str, file: &File) -> io::Result<()> {
+    file.sync_data()?;
+    match leads_to(rt, path, file)? {
+        true => Ok(()),
+        false => Err(io::Error::from(ErrorKind::NotFound)),
+    }
 }

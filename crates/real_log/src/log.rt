@@ -25,6 +25,24 @@ pub enum RealLog<W, R: Files<File = File> + Drop + Send> {
     },
 }
 
+impl<W, R: Files<File = File> + Drop + Send> RealLog<W, R> {
+    /// Whether it is a file.
+    pub fn is_durable(&self) -> bool {
+        match self {
+            RealLog::Stream(_) => false,
+            RealLog::Durable { .. } => true,
+        }
+    }
+
+    /// How many lines are safe in the file, and could not be written to the stream beside it.
+    pub fn dropped(&self) -> u64 {
+        match self {
+            RealLog::Stream(_) => 0,
+            RealLog::Durable { log: _, echo } => echo.fault_count(),
+        }
+    }
+}
+
 impl<W: Write + Drop + Send, R: Files<File = File> + Drop + Send> Sink for RealLog<W, R> {
     ghost use Rattle.real_log.specs.RealLog.{HasMissed, HasTaken, faults_of};
 

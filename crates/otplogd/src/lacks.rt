@@ -1,0 +1,67 @@
+//! What a right setup lacks on this machine.
+
+use outside::Word;
+use outside_real::{RealFiles, has_folder, is_folder, is_launcher};
+use setup_reading::read_setup_file;
+use std::alloc::Global;
+use std::fs;
+
+/// Says on standard error, where the words are those of `check` and the setup is right, which of its
+/// vault, its launcher and its socket's folder isn't there.
+pub(crate) fn say_lacks(
+    rt: HostRuntime,
+    alloc: Global,
+    files: &mut RealFiles<HostRuntime>,
+    words: &[Word],
+    status: u8,
+) {
+    match words {
+        [mode, name] if status == 0 && mode.as_str() == "check" => {
+            say_lacks_of(rt, alloc, files, name);
+        }
+        _ => {}
+    }
+}
+
+/// Says what the setup of this name lacks, if it is a file: a pipe can't be read a second time.
+fn say_lacks_of(rt: HostRuntime, alloc: Global, files: &mut RealFiles<HostRuntime>, name: &Word) {
+    if !is_file(rt, name) {
+        return;
+    }
+    let Ok(setup) = read_setup_file(alloc, files, name.as_str()) else {
+        return;
+    };
+    let is_there = is_folder(&rt, setup.vault());
+    say_unless(
+        rt,
+        is_there,
+        "otplogd: the vault is no folder that is there",
+    );
+    let can_run = is_launcher(&rt, setup.launcher());
+    say_unless(
+        rt,
+        can_run,
+        "otplogd: the launcher is no program that can be run",
+    );
+    let has_place = has_folder(&rt, setup.socket());
+    say_unless(
+        rt,
+        has_place,
+        "otplogd: the folder of the socket is not there",
+    );
+}
+
+/// Whether a file stands at a path.
+fn is_file(rt: HostRuntime, name: &Word) -> bool {
+    match fs::metadata(&rt, name.as_str()) {
+        Ok(found) => found.is_file(),
+        Err(_) => false,
+    }
+}
+
+/// Says something on standard error, unless all is right.
+fn say_unless(rt: HostRuntime, is_right: bool, what: &str) {
+    if !is_right {
+        let _ = rt.eprintln(what);
+    }
+}
