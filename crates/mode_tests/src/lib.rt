@@ -1,4 +1,4 @@
-//! The tests of the modes besides `otp`, `serve` and `drill`, which stand apart so that no crate waits for them.
+//! The tests of the modes `check` and `audit`, of the children's modes and of the counts, which stand apart so that no crate waits for them.
 #![tactic(auto)]
 
 #[cfg(test)]
@@ -9,7 +9,3 @@ mod checks;
 mod child_commands;
 #[cfg(test)]
 mod counts;
-#[cfg(test)]
-mod recoveries;
-#[cfg(test)]
-mod renewed_files;

@@ -1,9 +1,5 @@
-//! The tests of the outside, which stand apart so that no crate waits for them.
+//! The tests of the machine's outside, which stand apart so that no crate waits for them.
 #![tactic(auto)]
 
-#[cfg(test)]
-mod memory;
-#[cfg(test)]
-mod quiet;
 #[cfg(test)]
 mod real;

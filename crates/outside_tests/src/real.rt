@@ -1,9 +1,11 @@
 ghost use Rattle.std.specs.Prelude.{◌≡◌, ◌<◌, ◌≤◌, IfOk, IfSome, length};
 
 use outside::{Failed, Files, Place, Post, Role, Sink, Site, Stream, Word};
-use outside_real::{Limits, RealEnds, RealFiles, RealSink, RealSite, close, launch};
+use outside_real::{
+    Limits, Patience, PostClock, RealEnds, RealFiles, RealSink, RealSite, close, launch,
+};
 use request_catalogue::{Label, Name};
-use std::alloc::Global;
+use std::alloc::{AllocError, Global};
 use std::fs::OpenOptions;
 use std::io::{Read, Write};
 use std::net::{Net, Shutdown};
@@ -16,6 +18,28 @@ use std::{env, fs, io, process};
 
 const PRE: Role = Role::Pre { session: 1 };
 
+/// A path of its own in the system's temporary folder.
+fn temporary_path<R: Env + AllocGlobal>(rt: &R, process: Process, name: &str) -> io::Result<Word> {
+    let folder = env::temp_dir(rt)?;
+    let (folder, id) = (folder.as_str(), process::id(process));
+    let path = format!(in rt.alloc(); "{folder}/outside_real-{id}-{name}")?;
+    Ok(Word::of(rt.alloc(), path.as_str().as_bytes())?)
+}
+
+/// A place with this socket and launcher.
+fn place_at(alloc: Global, socket: Word, launcher: &str) -> Result<Place, AllocError>
+    ensures { IfOk result (λ place. place.workers ≡ 2) }
+{
+    let launcher = Word::of(alloc, launcher.as_bytes())?;
+    let vault = Word::of(alloc, b"vault")?;
+    Ok(Place {
+        socket,
+        launcher,
+        vault,
+        workers: 2,
+    })
+}
+
 /// A place with a socket of its own in the system's temporary folder.
 fn temporary_place<R: Env + AllocGlobal>(
     rt: &R,
@@ -25,17 +49,8 @@ fn temporary_place<R: Env + AllocGlobal>(
 ) -> io::Result<Place>
     ensures { IfOk result (λ place. place.workers ≡ 2) }
 {
-    let alloc = rt.alloc();
-    let folder = env::temp_dir(rt)?;
-    let folder = folder.as_str();
-    let id = process::id(process);
-    let socket = format!(in alloc; "{folder}/outside_real-{id}-{name}")?;
-    Ok(Place {
-        socket: Word::of(alloc, socket.as_str().as_bytes())?,
-        launcher: Word::of(alloc, launcher.as_bytes())?,
-        vault: Word::of(alloc, b"vault")?,
-        workers: 2,
-    })
+    let socket = temporary_path(rt, process, name)?;
+    Ok(place_at(rt.alloc(), socket, launcher)?)
 }
 
 /// Removes the place's socket and the lock beside it.
@@ -64,63 +79,128 @@ fn greet<P: Post>(post: &mut P) -> Result<(), Failed> {
     sent
 }
 
+/// Whether these bytes, and no more, come to the end.
+fn comes<T: Read>(alloc: Global, from: &mut T, want: &[u8]) -> io::Result<bool> {
+    let mut got = Vec::new(alloc);
+    from.read_to_end(&mut got)?;
+    Ok(got.as_slice() == want)
+}
+
+/// Whether a post greets a client that sent it what nobody wanted.
+fn greets<P: Post, N: Net>(
+    net: &N,
+    alloc: Global,
+    post: &mut P,
+    path: &str,
+) -> Result<bool, Fault> {
+    let mut client = UnixStream::connect(net, path)?;
+    client.write_all(b"what nobody wanted")?;
+    greet(post)?;
+    Ok(comes(alloc, &mut client, b"hi")?)
+}
+
+/// Whether the last post of a place greets a client.
+fn is_greeted<S: Site, N: Net>(
+    net: &N,
+    alloc: Global,
+    site: &mut S,
+    place: &Place,
+) -> Result<bool, Fault>
+    requires { place.now.workers ≡ 2 }
+{
+    let mut post = last_post(site, place)?;
+    greets(net, alloc, &mut post, place.socket.as_str())
+}
+
+/// Whether a client is greeted at a new site of a place.
+fn is_greeted_at(rt: HostRuntime, place: &Place) -> Result<bool, Fault>
+    requires { place.now.workers ≡ 2 }
+{
+    is_greeted(&rt, rt.alloc(), &mut RealSite::new(rt, rt.alloc()), place)
+}
+
+/// Whether a client is greeted at two sites of one place, one after the other.
+fn is_greeted_twice(rt: HostRuntime) -> Result<bool, Fault> {
+    let place = temporary_place(&rt, rt.process(), "greets", "echo")?;
+    let is_greeted = is_greeted_at(rt, &place)? && is_greeted_at(rt, &place)?;
+    clear(&rt, &place)?;
+    Ok(is_greeted)
+}
+
 #[test]
 fn a_client_is_greeted_and_the_socket_replaced(rt: HostRuntime) -> Result<(), Fault> {
-    let place = temporary_place(&rt, rt.process(), "greets", "echo")?;
-    let path = place.socket.as_str();
-    for _ in 0..2 {
-        let mut site = RealSite::new(rt, rt.alloc());
-        let mut post = last_post(&mut site, &place)?;
-        let mut client = UnixStream::connect(&rt, path)?;
-        client.write_all(b"what nobody wanted")?;
-        greet(&mut post)?;
-        let mut got = Vec::new(rt.alloc());
-        client.read_to_end(&mut got)?;
-        assert!(rt; got.as_slice() == b"hi".as_slice());
-    }
-    clear(&rt, &place)?;
+    assert!(rt; is_greeted_twice(rt)?);
     Ok(())
 }
 
-/// Whether each post of a place greets a client, through the bound.
+/// Whether a post sends a greeting to a client.
+fn sends_greeting<P: Post, N: Net>(net: &N, post: &mut P, path: &str) -> Result<bool, Fault> {
+    let mut client = UnixStream::connect(net, path)?;
+    greet(post)?;
+    let mut got = [0; 2];
+    client.read_exact(&mut got)?;
+    Ok(got == *b"hi")
+}
+
+/// Whether each of these posts sends a greeting to a client.
+fn send_greetings<P: Post, N: Net>(net: &N, posts: &mut [P], path: &str) -> Result<bool, Fault> {
+    for post in posts.iter_mut() {
+        if !sends_greeting(net, post, path)? {
+            return Ok(false);
+        }
+    }
+    Ok(true)
+}
+
+/// Whether a place has 64 posts, each of which greets a client, through the bound.
 fn greets_all<S: Site, N: Net>(net: &N, site: &mut S, place: &Place) -> Result<bool, Fault>
     requires { place.now.workers ≡ 64 }
 {
     let mut posts = site.listen(place)?;
-    let mut are_greeted = posts.len() == 64;
-    for post in posts.iter_mut() {
-        let mut client = UnixStream::connect(net, place.socket.as_str())?;
-        greet(post)?;
-        let mut got = [0; 2];
-        client.read_exact(&mut got)?;
-        are_greeted &= got == *b"hi";
-    }
+    let has_all = posts.len() == 64;
+    Ok(has_all && send_greetings(net, posts.as_mut_slice(), place.socket.as_str())?)
+}
+
+/// Whether the 64 posts of a new site's place greet a client each.
+fn are_greeted(rt: HostRuntime) -> Result<bool, Fault> {
+    let mut place = temporary_place(&rt, rt.process(), "shares", "echo")?;
+    place.workers = 64;
+    let are_greeted = greets_all(&rt, &mut RealSite::new(rt, rt.alloc()), &place)?;
+    clear(&rt, &place)?;
     Ok(are_greeted)
 }
 
 #[test]
 fn sixty_four_posts_accept_from_one_socket(rt: HostRuntime) -> Result<(), Fault> {
-    let mut place = temporary_place(&rt, rt.process(), "shares", "echo")?;
-    place.workers = 64;
-    let mut site = RealSite::new(rt, rt.alloc());
-    assert!(rt; greets_all(&rt, &mut site, &place)?);
-    clear(&rt, &place)?;
+    assert!(rt; are_greeted(rt)?);
     Ok(())
 }
 
-/// Whether a sending to a client, a sending to a child and a receiving from it fail, through the
-/// bound.
-fn kept_waiting<P: Post>(post: &mut P, bytes: &[u8]) -> Result<[bool; 3], Failed> {
+/// Whether a sending to the next client fails, through the bound.
+fn waits_for_client<P: Post>(post: &mut P, bytes: &[u8]) -> Result<bool, Failed> {
     let Some(mut conn) = post.accept()? else {
         return Err(Failed);
     };
-    let client_failed = post.conn_send(&mut conn, bytes).is_err();
+    let sent = post.conn_send(&mut conn, bytes);
     post.hang_up(conn);
+    Ok(sent.is_err())
+}
+
+/// Whether a sending to a child and a receiving from it fail, through the bound.
+fn waits_for_child<P: Post>(post: &mut P, bytes: &[u8]) -> Result<bool, Failed> {
     let mut child = post.start(&PRE)?;
-    let sending_failed = child.send(bytes).is_err();
-    let receiving_failed = child.recv(&mut [0; 8]).is_err();
+    let sent = child.send(bytes);
+    let received = child.recv(&mut [0; 8]);
     post.finish(child);
-    Ok([client_failed, sending_failed, receiving_failed])
+    Ok(sent.is_err() && received.is_err())
+}
+
+/// Writes a program that stays for 50 seconds.
+fn write_program<R: FileSystem>(rt: &R, path: &str) -> io::Result<()> {
+    let mut options = OpenOptions::new();
+    options.write(true).create(true).mode(0o700);
+    let mut file = options.open(rt, path)?;
+    file.write_all(b"#!/bin/sh\nexec sleep 50\n")
 }
 
 /// A program that stays for 50 seconds, in the system's temporary folder.
@@ -129,44 +209,210 @@ fn staying_program<R: FileSystem + Env + AllocGlobal>(
     process: Process,
     name: &str,
 ) -> io::Result<Word> {
-    let program = temporary_place(rt, process, name, "echo")?.socket;
-    let mut options = OpenOptions::new();
-    options.write(true).create(true).mode(0o700);
-    let mut file = options.open(rt, program.as_str())?;
-    file.write_all(b"#!/bin/sh\nexec sleep 50\n")?;
+    let program = temporary_path(rt, process, name)?;
+    write_program(rt, program.as_str())?;
     Ok(program)
+}
+
+/// Whether a post waits in vain for a client that receives nothing, and for its child.
+fn waits<P: Post, N: Net>(net: &N, post: &mut P, path: &str, bytes: &[u8]) -> Result<bool, Fault> {
+    let client = UnixStream::connect(net, path)?;
+    let waited_for_client = waits_for_client(post, bytes)?;
+    let waited_for_child = waits_for_child(post, bytes)?;
+    drop(client);
+    Ok(waited_for_client && waited_for_child)
+}
+
+/// Whether the last post of a place waits in vain, which sends more than a socket holds.
+fn keeps_waiting<S: Site, N: Net>(
+    net: &N,
+    alloc: Global,
+    site: &mut S,
+    place: &Place,
+) -> Result<bool, Fault>
+    requires { place.now.workers ≡ 2 }
+{
+    let bytes = vec![in alloc; 0u8; 1_000_000]?;
+    let mut post = last_post(site, place)?;
+    waits(net, &mut post, place.socket.as_str(), bytes.as_slice())
+}
+
+/// Limits of 20 milliseconds.
+fn short_limits() -> Limits {
+    let short = Duration::from_millis(20);
+    Limits {
+        client: short,
+        child: short,
+        end: short,
+        ..Limits::usual()
+    }
+}
+
+/// Whether a new site's post at a place with this launcher waits in vain.
+fn is_kept_waiting(rt: HostRuntime, launcher: &str) -> Result<bool, Fault> {
+    let place = temporary_place(&rt, rt.process(), "waits", launcher)?;
+    let mut site = RealSite::with_limits(rt, rt.alloc(), short_limits());
+    let is_kept = keeps_waiting(&rt, rt.alloc(), &mut site, &place)?;
+    clear(&rt, &place)?;
+    Ok(is_kept)
 }
 
 #[test]
 fn who_keeps_a_post_waiting_is_a_fault(rt: HostRuntime) -> Result<(), Fault> {
     let program = staying_program(&rt, rt.process(), "stays")?;
-    let place = temporary_place(&rt, rt.process(), "waits", program.as_str())?;
-    let short = Duration::from_millis(20);
-    let limits = Limits {
-        client: short,
-        child: short,
-        end: short,
-    };
-    let mut site = RealSite::with_limits(rt, rt.alloc(), limits);
-    let mut post = last_post(&mut site, &place)?;
-    let client = UnixStream::connect(&rt, place.socket.as_str())?;
-    let bytes = vec![in rt.alloc(); 0u8; 1_000_000]?;
-    assert!(rt; kept_waiting(&mut post, bytes.as_slice()) == Ok([true; 3]));
-    drop(client);
-    clear(&rt, &place)?;
+    assert!(rt; is_kept_waiting(rt, program.as_str())?);
     fs::remove_file(&rt, program.as_str())?;
     Ok(())
+}
+
+/// Whether a client that has sent a byte is heard no more once the time for the login is up, nor its
+/// child, through the bound.
+fn is_up<P: Post>(post: &mut P) -> Result<bool, Failed> {
+    let Some(mut conn) = post.accept()? else {
+        return Err(Failed);
+    };
+    let first = post.conn_recv(&mut conn, &mut [0; 1]).is_ok();
+    let Ok(mut child) = post.start(&PRE) else {
+        post.hang_up(conn);
+        return Err(Failed);
+    };
+    let client = post.conn_recv(&mut conn, &mut [0; 1]).is_err();
+    let sending = post.conn_send(&mut conn, b"x").is_err();
+    let receiving = child.recv(&mut [0; 1]).is_err();
+    post.finish(child);
+    post.hang_up(conn);
+    Ok(first && client && sending && receiving)
+}
+
+/// Whether a user's child is heard that sends something after the time for the login is up, and the
+/// client too, through the bound.
+fn goes_on<P: Post>(post: &mut P, role: &Role) -> Result<bool, Failed> {
+    let Some(mut conn) = post.accept()? else {
+        return Err(Failed);
+    };
+    let Ok(mut child) = post.start(role) else {
+        post.hang_up(conn);
+        return Err(Failed);
+    };
+    let mut buf = [0; 64];
+    let heard = child.recv(&mut buf).is_ok();
+    let late = child.recv(&mut buf).is_ok();
+    let client = post.conn_recv(&mut conn, &mut buf) == Ok(1);
+    post.finish(child);
+    post.hang_up(conn);
+    Ok(heard && late && client)
+}
+
+/// Limits of which the one for a login is short.
+fn short_login() -> Limits {
+    Limits {
+        login: Duration::from_millis(300),
+        ..Limits::usual()
+    }
+}
+
+/// A client that has connected at a path and sent a byte.
+fn client_at<N: Net>(net: &N, path: &str) -> io::Result<UnixStream> {
+    let mut client = UnixStream::connect(net, path)?;
+    client.write_all(b"a")?;
+    Ok(client)
+}
+
+/// Whether the last post of a place hears a client no more once the time for its login is up.
+fn ends_login<S: Site, N: Net>(net: &N, site: &mut S, place: &Place) -> Result<bool, Fault>
+    requires { place.now.workers ≡ 2 }
+{
+    let mut post = last_post(site, place)?;
+    let client = client_at(net, place.socket.as_str())?;
+    let is_up = is_up(&mut post) == Ok(true);
+    drop(client);
+    Ok(is_up)
+}
+
+/// Whether a new site's post at a place with this launcher ends a login in time.
+fn is_login_ended(rt: HostRuntime, launcher: &str) -> Result<bool, Fault> {
+    let place = temporary_place(&rt, rt.process(), "login", launcher)?;
+    let mut site = RealSite::with_limits(rt, rt.alloc(), short_login());
+    let is_ended = ends_login(&rt, &mut site, &place)?;
+    clear(&rt, &place)?;
+    Ok(is_ended)
+}
+
+#[test]
+fn a_login_has_its_time(rt: HostRuntime) -> Result<(), Fault> {
+    let program = staying_program(&rt, rt.process(), "is-slow")?;
+    assert!(rt; is_login_ended(rt, program.as_str())?);
+    fs::remove_file(&rt, program.as_str())?;
+    Ok(())
+}
+
+/// Writes a program that writes a line at once and one after half a second.
+fn write_late_program<R: FileSystem>(rt: &R, path: &str) -> io::Result<()> {
+    let mut options = OpenOptions::new();
+    options.write(true).create(true).mode(0o700);
+    let mut file = options.open(rt, path)?;
+    file.write_all(b"#!/bin/sh\necho first\nsleep 0.5\necho second\n")
+}
+
+/// Whether the last post of a place hears its user's child after the time for a login is up.
+fn hears_on<S: Site, N: Net>(
+    net: &N,
+    site: &mut S,
+    place: &Place,
+    role: &Role,
+) -> Result<bool, Fault>
+    requires { place.now.workers ≡ 2 }
+{
+    let mut post = last_post(site, place)?;
+    let client = client_at(net, place.socket.as_str())?;
+    let hears = goes_on(&mut post, role) == Ok(true);
+    drop(client);
+    Ok(hears)
+}
+
+/// Whether a new site's post at a place with this launcher hears its user's child on.
+fn is_heard_on(rt: HostRuntime, launcher: &str) -> Result<bool, Fault> {
+    let user = Name::of(b"bob").ok_or("a name")?;
+    let role = Role::User {
+        session: 7,
+        uid: 1001,
+        user,
+    };
+    let place = temporary_place(&rt, rt.process(), "logged_in", launcher)?;
+    let mut site = RealSite::with_limits(rt, rt.alloc(), short_login());
+    let is_heard = hears_on(&rt, &mut site, &place, &role)?;
+    clear(&rt, &place)?;
+    Ok(is_heard)
+}
+
+#[test]
+fn a_user_who_is_logged_in_has_more(rt: HostRuntime) -> Result<(), Fault> {
+    let program = temporary_path(&rt, rt.process(), "is-late")?;
+    write_late_program(&rt, program.as_str())?;
+    assert!(rt; is_heard_on(rt, program.as_str())?);
+    fs::remove_file(&rt, program.as_str())?;
+    Ok(())
+}
+
+/// How many faults the closing of a launcher's child has, that is waited for so long.
+fn faults_of(rt: HostRuntime, launcher: &str, end: Duration) -> Result<u64, Fault> {
+    let second = Duration::from_secs(1);
+    let patience = Patience::until(PostClock::start(&rt), second, 1_000);
+    let child = launch(&rt, rt.alloc(), launcher, PRE, patience)?;
+    Ok(close(&rt, child, end))
 }
 
 #[test]
 fn a_child_that_is_killed_has_a_fault(rt: HostRuntime) -> Result<(), Fault> {
     let program = staying_program(&rt, rt.process(), "is-killed")?;
-    let second = Duration::from_secs(1);
-    let stays = launch(&rt, rt.alloc(), program.as_str(), PRE, second)?;
-    assert!(rt; close(&rt, stays, Duration::from_millis(20)) == 1);
-    let ends = launch(&rt, rt.alloc(), "echo", PRE, second)?;
-    assert!(rt; close(&rt, ends, second) == 0);
+    assert!(rt; faults_of(rt, program.as_str(), Duration::from_millis(20))? == 1);
     fs::remove_file(&rt, program.as_str())?;
+    Ok(())
+}
+
+#[test]
+fn a_child_that_ends_has_no_fault(rt: HostRuntime) -> Result<(), Fault> {
+    assert!(rt; faults_of(rt, "echo", Duration::from_secs(1))? == 0);
     Ok(())
 }
 
@@ -181,15 +427,52 @@ fn writes<P: Post>(post: &mut P, role: &Role, want: &[u8]) -> Result<bool, Faile
     Ok(is_wanted && second == 0)
 }
 
+/// Whether the child that a site's last post starts writes these bytes and ends.
+fn child_writes<S: Site>(
+    site: &mut S,
+    place: &Place,
+    role: &Role,
+    want: &[u8],
+) -> Result<bool, Failed>
+    requires { place.now.workers ≡ 2 }
+{
+    let mut post = last_post(site, place)?;
+    writes(&mut post, role, want)
+}
+
+/// Whether the child that a new site's post starts by `echo` writes these bytes and ends.
+fn echo_writes(rt: HostRuntime, name: &str, role: &Role, want: &[u8]) -> Result<bool, Fault> {
+    let place = temporary_place(&rt, rt.process(), name, "echo")?;
+    let are_written = child_writes(&mut RealSite::new(rt, rt.alloc()), &place, role, want)?;
+    clear(&rt, &place)?;
+    Ok(are_written)
+}
+
 #[test]
 fn a_child_is_given_its_words(rt: HostRuntime) -> Result<(), Fault> {
-    for (launcher, want) in [("echo", Ok(true)), ("/no/such/launcher", Err(Failed))] {
-        let place = temporary_place(&rt, rt.process(), "starts", launcher)?;
-        let mut site = RealSite::new(rt, rt.alloc());
-        let mut post = last_post(&mut site, &place)?;
-        assert!(rt; writes(&mut post, &PRE, b"child-pre 1\n") == want);
-        clear(&rt, &place)?;
-    }
+    assert!(rt; echo_writes(rt, "starts", &PRE, b"child-pre 1\n")?);
+    Ok(())
+}
+
+/// Whether the last post of a place fails to start a child.
+fn starts_no_child<S: Site>(site: &mut S, place: &Place) -> Result<bool, Failed>
+    requires { place.now.workers ≡ 2 }
+{
+    let mut post = last_post(site, place)?;
+    Ok(writes(&mut post, &PRE, b"") == Err(Failed))
+}
+
+/// Whether a new site's post starts no child by a launcher that isn't there.
+fn misses_launcher(rt: HostRuntime) -> Result<bool, Fault> {
+    let place = temporary_place(&rt, rt.process(), "misses", "/no/such/launcher")?;
+    let is_missed = starts_no_child(&mut RealSite::new(rt, rt.alloc()), &place)?;
+    clear(&rt, &place)?;
+    Ok(is_missed)
+}
+
+#[test]
+fn a_launcher_that_is_not_there_is_a_fault(rt: HostRuntime) -> Result<(), Fault> {
+    assert!(rt; misses_launcher(rt)?);
     Ok(())
 }
 
@@ -212,18 +495,25 @@ fn exchange<E: Stream>(ends: &mut E, answer: &[u8]) -> Result<([u8; 8], usize), 
     Ok((buf, n))
 }
 
+/// Whether the ends over one stream receive a line, and send what the stream's other side then has.
+fn are_passed(alloc: Global, ours: UnixStream, theirs: &mut UnixStream) -> io::Result<bool> {
+    theirs.write_all(b"phrase\n")?;
+    let is_received = {
+        let mut ends = RealEnds::new(ours.try_clone()?, ours);
+        exchange(&mut ends, b"password") == Ok((*b"phrase\n\0", 7))
+    };
+    Ok(is_received && comes(alloc, theirs, b"password")?)
+}
+
 #[test]
 fn ends_pass_bytes_both_ways(rt: HostRuntime) -> Result<(), Fault> {
     let (ours, mut theirs) = UnixStream::pair(&rt)?;
-    theirs.write_all(b"phrase\n")?;
-    let mut ends = RealEnds::new(ours.try_clone()?, ours);
-    let mut want = [0; 8];
-    want[..7].copy_from_slice(b"phrase\n");
-    assert!(rt; exchange(&mut ends, b"password") == Ok((want, 7)));
-    drop(ends);
-    let mut got = Vec::new(rt.alloc());
-    theirs.read_to_end(&mut got)?;
-    assert!(rt; got.as_slice() == b"password".as_slice());
+    assert!(rt; are_passed(rt.alloc(), ours, &mut theirs)?);
+    Ok(())
+}
+
+#[test]
+fn the_ends_of_the_program_take_no_bytes(rt: HostRuntime) -> Result<(), Fault> {
     RealEnds::new(rt.stdin(), rt.stdout()).send(b"")?;
     Ok(())
 }
@@ -256,9 +546,83 @@ fn is_replaced_and_read<F: Files>(files: &mut F, file: &Word) -> bool {
 
 #[test]
 fn a_file_is_replaced_and_read(rt: HostRuntime) -> Result<(), Fault> {
-    let file = temporary_place(&rt, rt.process(), "replaces", "echo")?.socket;
+    let file = temporary_path(&rt, rt.process(), "replaces")?;
     let mut files = RealFiles::new(rt, rt.alloc());
     assert!(rt; is_replaced_and_read(&mut files, &file));
+    fs::remove_file(&rt, file.as_str())?;
+    Ok(())
+}
+
+/// Whether a file that another one replaces after it was read is left alone, until it is read again.
+fn is_left_alone<F: Files, G: Files>(files: &mut F, others: &mut G, file: &Word) -> bool {
+    replace(files, file, b"abcdef") == Ok(())
+        && read(files, file, 0) == Ok(Some((*b"abcd", 4)))
+        && replace(others, file, b"xyz") == Ok(())
+        && replace(files, file, b"again") == Err(Failed)
+        && read(others, file, 0) == Ok(Some((*b"xyz\0", 3)))
+        && read(files, file, 0) == Ok(Some((*b"xyz\0", 3)))
+        && replace(files, file, b"again") == Ok(())
+}
+
+/// Whether a file that is made after it was looked for in vain is left alone.
+fn is_not_replaced<F: Files, G: Files>(files: &mut F, others: &mut G, file: &Word) -> bool {
+    read(files, file, 0) == Ok(None)
+        && replace(others, file, b"xyz") == Ok(())
+        && replace(files, file, b"again") == Err(Failed)
+        && read(others, file, 0) == Ok(Some((*b"xyz\0", 3)))
+}
+
+/// Whether the files of the machine leave a file alone that was changed after it was read.
+fn leave_changed_file(rt: HostRuntime, file: &Word) -> bool {
+    let mut files = RealFiles::new(rt, rt.alloc());
+    let mut others = RealFiles::new(rt, rt.alloc());
+    is_left_alone(&mut files, &mut others, file)
+}
+
+#[test]
+fn a_file_that_was_changed_is_left_alone(rt: HostRuntime) -> Result<(), Fault> {
+    let file = temporary_path(&rt, rt.process(), "changes")?;
+    assert!(rt; leave_changed_file(rt, &file));
+    fs::remove_file(&rt, file.as_str())?;
+    Ok(())
+}
+
+/// Whether the files of the machine leave a file alone that was made after they looked for it.
+fn leave_new_file(rt: HostRuntime, file: &Word) -> bool {
+    let mut files = RealFiles::new(rt, rt.alloc());
+    let mut others = RealFiles::new(rt, rt.alloc());
+    is_not_replaced(&mut files, &mut others, file)
+}
+
+#[test]
+fn a_file_that_was_made_meanwhile_is_left_alone(rt: HostRuntime) -> Result<(), Fault> {
+    let file = temporary_path(&rt, rt.process(), "is-made")?;
+    assert!(rt; leave_new_file(rt, &file));
+    fs::remove_file(&rt, file.as_str())?;
+    Ok(())
+}
+
+/// Whether what a link leads to is replaced, and the link stays.
+fn is_followed<F: Files>(files: &mut F, link: &Word, file: &Word) -> bool {
+    replace(files, link, b"abcdef") == Ok(()) && read(files, file, 0) == Ok(Some((*b"abcd", 4)))
+}
+
+/// Whether the files of the machine follow a link that leads nowhere at first, and then to this file.
+fn follow_link(rt: HostRuntime, link: &Word, file: &Word) -> bool {
+    let mut files = RealFiles::new(rt, rt.alloc());
+    replace(&mut files, link, b"nothing is there") == Err(Failed)
+        && replace(&mut files, file, b"old") == Ok(())
+        && is_followed(&mut files, link, file)
+}
+
+#[test]
+fn a_link_is_followed_to_its_end(rt: HostRuntime) -> Result<(), Fault> {
+    let file = temporary_path(&rt, rt.process(), "target")?;
+    let link = temporary_path(&rt, rt.process(), "link")?;
+    symlink(&rt, file.as_str(), link.as_str())?;
+    assert!(rt; follow_link(rt, &link, &file));
+    assert!(rt; fs::symlink_metadata(&rt, link.as_str())?.is_symlink());
+    fs::remove_file(&rt, link.as_str())?;
     fs::remove_file(&rt, file.as_str())?;
     Ok(())
 }
@@ -273,7 +637,7 @@ fn is_read_on<F: Files, G: Files>(files: &mut F, others: &mut G, file: &Word) ->
 
 #[test]
 fn a_file_that_is_read_stays_the_same(rt: HostRuntime) -> Result<(), Fault> {
-    let file = temporary_place(&rt, rt.process(), "same", "echo")?.socket;
+    let file = temporary_path(&rt, rt.process(), "same")?;
     let mut files = RealFiles::new(rt, rt.alloc());
     let mut others = RealFiles::new(rt, rt.alloc());
     assert!(rt; is_read_on(&mut files, &mut others, &file));
@@ -351,21 +715,68 @@ fn put_links<R: FileSystem + AllocGlobal>(rt: &R, vault: &str) -> io::Result<()>
     symlink(rt, "/etc/passwd", file.as_str())
 }
 
+/// Whether bytes are written up to a user's file's limit, and none that end beyond it, through the bound.
+fn ends_at<P: Post>(post: &mut P, name: &Label, limit: u64) -> bool
+    requires { 2 ≤ limit }
+{
+    post.vault_write(7, name, limit - 2, b"xy").is_ok()
+        && post.vault_write(7, name, limit - 1, b"xy").is_err()
+        && post.vault_write(7, name, u64::MAX, b"x").is_err()
+        && post.vault_read(7, name, limit, &mut [0; 4]) == Ok(0)
+}
+
+/// Whether users' files lie in a vault, which isn't there yet, and are their owners' alone.
+fn lie_in_vault<P: Post, R: FileSystem + AllocGlobal>(
+    rt: &R,
+    post: &mut P,
+    name: &Label,
+    vault: &str,
+) -> Result<bool, Fault> {
+    let is_refused = refuses_file(post, 7, name);
+    fs::create_dir(rt, vault)?;
+    let is_kept = keeps_files(post, name)? && ends_at(post, name, 16_777_216);
+    Ok(is_refused && is_kept && are_private(rt, vault)?)
+}
+
+/// Whether no link in a vault is followed. The vault is removed.
+fn follows_no_link<P: Post, R: FileSystem + AllocGlobal>(
+    rt: &R,
+    post: &mut P,
+    name: &Label,
+    vault: &str,
+) -> Result<bool, Fault> {
+    put_links(rt, vault)?;
+    let are_refused = refuses_file(post, 7, name) && refuses_file(post, 9, name);
+    fs::remove_dir_all(rt, vault)?;
+    Ok(are_refused)
+}
+
+/// Whether the last post of a place keeps users' files in its vault, and follows no link there.
+fn keeps_vault<S: Site, R: FileSystem + AllocGlobal>(
+    rt: &R,
+    site: &mut S,
+    place: &Place,
+) -> Result<bool, Fault>
+    requires { place.now.workers ≡ 2 }
+{
+    let name = Label::of(b"notes").ok_or("a label")?;
+    let vault = place.vault.as_str();
+    let mut post = last_post(site, place)?;
+    let is_kept = lie_in_vault(rt, &mut post, &name, vault)?;
+    Ok(is_kept && follows_no_link(rt, &mut post, &name, vault)?)
+}
+
+/// Whether a new site's post keeps users' files in its vault.
+fn is_vault_kept(rt: HostRuntime) -> Result<bool, Fault> {
+    let place = place_with_vault(&rt, rt.process())?;
+    let is_kept = keeps_vault(&rt, &mut RealSite::new(rt, rt.alloc()), &place)?;
+    clear(&rt, &place)?;
+    Ok(is_kept)
+}
+
 #[test]
 fn users_files_lie_in_the_vault_and_no_link_is_followed(rt: HostRuntime) -> Result<(), Fault> {
-    let place = place_with_vault(&rt, rt.process())?;
-    let mut post = last_post(&mut RealSite::new(rt, rt.alloc()), &place)?;
-    let name = Label::of(b"notes").ok_or("a label")?;
-    assert!(rt; refuses_file(&mut post, 7, &name));
-    let vault = place.vault.as_str();
-    fs::create_dir(&rt, vault)?;
-    assert!(rt; keeps_files(&mut post, &name)?);
-    assert!(rt; are_private(&rt, vault)?);
-    put_links(&rt, vault)?;
-    assert!(rt; refuses_file(&mut post, 7, &name));
-    assert!(rt; refuses_file(&mut post, 9, &name));
-    fs::remove_dir_all(&rt, vault)?;
-    clear(&rt, &place)?;
+    assert!(rt; is_vault_kept(rt)?);
     Ok(())
 }
 
@@ -382,29 +793,39 @@ fn hears<P: Post>(post: &mut P) -> Result<bool, Failed> {
     Ok(heard? == 5 && buf == *b"hello\0\0\0" && end? == 0 && before <= post.now())
 }
 
-#[test]
-fn a_client_is_heard(rt: HostRuntime) -> Result<(), Fault> {
-    let place = temporary_place(&rt, rt.process(), "hears", "echo")?;
-    let mut post = last_post(&mut RealSite::new(rt, rt.alloc()), &place)?;
-    let mut client = UnixStream::connect(&rt, place.socket.as_str())?;
+/// Whether the last post of a place hears a client that sends and ends.
+fn is_heard<S: Site, N: Net>(net: &N, site: &mut S, place: &Place) -> Result<bool, Fault>
+    requires { place.now.workers ≡ 2 }
+{
+    let mut post = last_post(site, place)?;
+    let mut client = UnixStream::connect(net, place.socket.as_str())?;
     client.write_all(b"hello")?;
     client.shutdown(Shutdown::Write)?;
-    assert!(rt; hears(&mut post)?);
+    Ok(hears(&mut post)?)
+}
+
+/// Whether a client is heard at a new site.
+fn hears_client(rt: HostRuntime) -> Result<bool, Fault> {
+    let place = temporary_place(&rt, rt.process(), "hears", "echo")?;
+    let is_heard = is_heard(&rt, &mut RealSite::new(rt, rt.alloc()), &place)?;
     clear(&rt, &place)?;
+    Ok(is_heard)
+}
+
+#[test]
+fn a_client_is_heard(rt: HostRuntime) -> Result<(), Fault> {
+    assert!(rt; hears_client(rt)?);
     Ok(())
 }
 
 #[test]
 fn a_users_child_is_given_its_words(rt: HostRuntime) -> Result<(), Fault> {
-    let place = temporary_place(&rt, rt.process(), "starts_user", "echo")?;
-    let mut post = last_post(&mut RealSite::new(rt, rt.alloc()), &place)?;
     let user = Name::of(b"bob").ok_or("a name")?;
     let role = Role::User {
         session: 7,
         uid: 1001,
         user,
     };
-    assert!(rt; writes(&mut post, &role, b"child-user 7 1001 bob\n") == Ok(true));
-    clear(&rt, &place)?;
+    assert!(rt; echo_writes(rt, "starts_user", &role, b"child-user 7 1001 bob\n")?);
     Ok(())
 }

@@ -51,10 +51,50 @@ fn no_hooks(alloc: Global) -> Result<Hooks, Fault> {
     Ok(Hooks::new(Vec::new(alloc)).ok().ok_or("hooks")?)
 }
 
-/// A run of `serve` with one such post.
-fn serve<R: Threads + Wait + Sync>(
+/// The files and the ends of a command.
+#[derive(Drop)]
+struct Sides {
+    files: MemFiles,
+    ends: MemStream,
+}
+
+/// These files, and ends with this input.
+fn sides_of(alloc: Global, files: MemFiles, input: &[u8]) -> Result<Sides, AllocError> {
+    let ends = MemStream::new(alloc, input, &[100], &[])?;
+    Ok(Sides { files, ends })
+}
+
+/// No files, and ends with this input.
+fn no_files(alloc: Global, input: &[u8]) -> Result<Sides, AllocError> {
+    sides_of(alloc, MemFiles::new(alloc, &[], &[])?, input)
+}
+
+/// What comes of these words, over a site and these sides.
+fn report_at<R: Threads + Wait + Sync + AllocGlobal>(
     rt: &R,
-    alloc: Global,
+    words: &[Word],
+    site: &mut MemSite<MemPost>,
+    sides: &mut Sides,
+    hooks: &Hooks,
+) -> Result<Report<MemPost, MemSink>, AllocError> {
+    let alloc = rt.alloc();
+    let log = MemSink::new(alloc, &[])?;
+    let (files, ends) = (&mut sides.files, &mut sides.ends);
+    Ok(otplogd(rt, alloc, words, files, site, log, ends, hooks))
+}
+
+/// A site of one such post.
+fn site_of(alloc: Global, pre: &[u8], cuts: &[usize]) -> Result<MemSite<MemPost>, AllocError>
+    requires some_cut { 0 < length cuts.now }
+    requires each_cut { All (λ c. 1 ≤ c) cuts.now }
+{
+    let posts = vec![in alloc; post(alloc, pre, cuts)?]?;
+    MemSite::new(alloc, posts)
+}
+
+/// A run of `serve` with one such post.
+fn serve<R: Threads + Wait + Sync + AllocGlobal>(
+    rt: &R,
     pre: &[u8],
     cuts: &[usize],
     hooks: &Hooks,
@@ -62,15 +102,11 @@ fn serve<R: Threads + Wait + Sync>(
     requires some_cut { 0 < length cuts.now }
     requires each_cut { All (λ c. 1 ≤ c) cuts.now }
 {
-    let posts = vec![in alloc; post(alloc, pre, cuts)?]?;
-    let mut site = MemSite::new(alloc, posts)?;
-    let words = [Word::of(alloc, "serve".as_bytes())?];
-    let mut files = MemFiles::new(alloc, &[], &[])?;
-    let mut ends = MemStream::new(alloc, b"", &[100], &[])?;
-    let log = MemSink::new(alloc, &[])?;
-    Ok(otplogd(
-        rt, alloc, &words, &mut files, &mut site, log, &mut ends, hooks,
-    ))
+    let alloc = rt.alloc();
+    let words = words_of(alloc, "serve")?;
+    let mut sides = no_files(alloc, b"")?;
+    let mut site = site_of(alloc, pre, cuts)?;
+    report_at(rt, &words, &mut site, &mut sides, hooks)
 }
 
 /// The text of the log, as bytes.
@@ -118,17 +154,16 @@ fn is_smallest(report: &Report<MemPost, MemSink>, acts: &[Act]) -> bool {
 }
 
 /// Whether the smallest run succeeds with the child's bytes in pieces of these lengths.
-fn succeeds<R: Threads + Wait + Sync>(
+fn succeeds<R: Threads + Wait + Sync + AllocGlobal>(
     rt: &R,
-    alloc: Global,
     cuts: &[usize],
     hooks: &Hooks,
 ) -> Result<bool, AllocError>
     requires some_cut { 0 < length cuts.now }
     requires each_cut { All (λ c. 1 ≤ c) cuts.now }
 {
-    let acts = smallest_acts(alloc)?;
-    let report = serve(rt, alloc, SMALLEST, cuts, hooks)?;
+    let acts = smallest_acts(rt.alloc())?;
+    let report = serve(rt, SMALLEST, cuts, hooks)?;
     Ok(is_smallest(&report, &acts))
 }
 
@@ -136,7 +171,7 @@ fn succeeds<R: Threads + Wait + Sync>(
 fn the_smallest_run_succeeds(rt: HostRuntime) -> Result<(), Fault> {
     let hooks = no_hooks(rt.alloc())?;
     for cuts in [[100, 100, 100], [1, 1, 1], [15, 2, 100]] {
-        assert!(rt; succeeds(&rt, rt.alloc(), &cuts, &hooks)?);
+        assert!(rt; succeeds(&rt, &cuts, &hooks)?);
     }
     Ok(())
 }
@@ -340,36 +375,42 @@ fn file_of(alloc: Global, row: &Unserved) -> Result<MemFiles, AllocError> {
     MemFiles::new(alloc, pairs.as_slice(), &[])
 }
 
-/// What comes of a line's words, over these files and ends, and a site without posts.
+/// What comes of these words, over these sides, and a site without posts.
+fn report_by<R: Threads + Wait + Sync + AllocGlobal>(
+    rt: &R,
+    words: &[Word],
+    sides: &mut Sides,
+    hooks: &Hooks,
+) -> Result<Report<MemPost, MemSink>, AllocError> {
+    let mut site: MemSite<MemPost> = MemSite::new(rt.alloc(), Vec::new(rt.alloc()))?;
+    report_at(rt, words, &mut site, sides, hooks)
+}
+
+/// What comes of a line's words, over these sides, and a site without posts.
 fn report_of<R: Threads + Wait + Sync + AllocGlobal>(
     rt: &R,
     line: &str,
-    files: &mut MemFiles,
-    ends: &mut MemStream,
+    sides: &mut Sides,
     hooks: &Hooks,
 ) -> Result<Report<MemPost, MemSink>, AllocError> {
-    let alloc = rt.alloc();
-    let words = words_of(alloc, line)?;
-    let mut site: MemSite<MemPost> = MemSite::new(alloc, Vec::new(alloc))?;
-    let log = MemSink::new(alloc, &[])?;
-    Ok(otplogd(rt, alloc, &words, files, &mut site, log, ends, hooks))
+    let words = words_of(rt.alloc(), line)?;
+    report_by(rt, &words, sides, hooks)
 }
 
 /// Whether a row holds.
 fn serves_nobody<R: Threads + Wait + Sync + AllocGlobal>(
     rt: &R,
-    alloc: Global,
     row: &Unserved,
     hooks: &Hooks,
 ) -> Result<bool, AllocError> {
-    let mut files = file_of(alloc, row)?;
-    let mut ends = MemStream::new(alloc, row.input, &[100], &[])?;
-    let report = report_of(rt, row.line, &mut files, &mut ends, hooks)?;
+    let files = file_of(rt.alloc(), row)?;
+    let mut sides = sides_of(rt.alloc(), files, row.input)?;
+    let report = report_of(rt, row.line, &mut sides, hooks)?;
     Ok(
         report.status == row.status
             && report.detail == row.detail
             && report.posts.len() == 0
-            && ends.sent() == row.sent,
+            && sides.ends.sent() == row.sent,
     )
 }
 
@@ -377,11 +418,7 @@ fn serves_nobody<R: Threads + Wait + Sync + AllocGlobal>(
 fn other_words_serve_nobody(rt: HostRuntime) -> Result<(), Fault> {
     let hooks = no_hooks(rt.alloc())?;
     for row in &UNSERVED {
-        assert!(rt;
-            serves_nobody(&rt, rt.alloc(), row, &hooks)?,
-            "{}",
-            row.line
-        );
+        assert!(rt; serves_nobody(&rt, row, &hooks)?, "{}", row.line);
     }
     Ok(())
 }
@@ -427,42 +464,36 @@ fn is_no_command(report: &Report<MemPost, MemSink>, ends: &MemStream) -> bool {
 /// Whether the words of a line are no command.
 fn names_no_command<R: Threads + Wait + Sync + AllocGlobal>(
     rt: &R,
-    alloc: Global,
     line: &str,
     hooks: &Hooks,
 ) -> Result<bool, AllocError> {
-    let mut files = MemFiles::new(alloc, &[], &[])?;
-    let mut ends = MemStream::new(alloc, PHRASE, &[100], &[])?;
-    let report = report_of(rt, line, &mut files, &mut ends, hooks)?;
-    Ok(is_no_command(&report, &ends))
+    let mut sides = no_files(rt.alloc(), PHRASE)?;
+    let report = report_of(rt, line, &mut sides, hooks)?;
+    Ok(is_no_command(&report, &sides.ends))
 }
 
 #[test]
 fn words_that_are_no_command(rt: HostRuntime) -> Result<(), Fault> {
     let hooks = no_hooks(rt.alloc())?;
     for line in NO_COMMANDS.split('\n') {
-        assert!(rt; names_no_command(&rt, rt.alloc(), line, &hooks)?, "{line}");
+        assert!(rt; names_no_command(&rt, line, &hooks)?, "{line}");
     }
     Ok(())
 }
 
 /// Whether no words at all are no command.
-fn nothing_is_no_command<R: Threads + Wait + Sync>(
+fn nothing_is_no_command<R: Threads + Wait + Sync + AllocGlobal>(
     rt: &R,
-    alloc: Global,
     hooks: &Hooks,
 ) -> Result<bool, AllocError> {
-    let mut files = MemFiles::new(alloc, &[], &[])?;
-    let mut ends = MemStream::new(alloc, PHRASE, &[100], &[])?;
-    let mut site: MemSite<MemPost> = MemSite::new(alloc, Vec::new(alloc))?;
-    let log = MemSink::new(alloc, &[])?;
-    let report = otplogd(rt, alloc, &[], &mut files, &mut site, log, &mut ends, hooks);
-    Ok(is_no_command(&report, &ends))
+    let mut sides = no_files(rt.alloc(), PHRASE)?;
+    let report = report_by(rt, &[], &mut sides, hooks)?;
+    Ok(is_no_command(&report, &sides.ends))
 }
 
 #[test]
 fn no_words_are_no_command(rt: HostRuntime) -> Result<(), Fault> {
     let hooks = no_hooks(rt.alloc())?;
-    assert!(rt; nothing_is_no_command(&rt, rt.alloc(), &hooks)?);
+    assert!(rt; nothing_is_no_command(&rt, &hooks)?);
     Ok(())
 }

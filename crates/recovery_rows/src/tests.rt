@@ -41,20 +41,31 @@ const SERVE: ServeCommand<'static> = ServeCommand::Named {
     log: Some("log"),
 };
 
-/// The files of a login: its setup and word list, and a log with these bytes, if there is one.
+/// A file of these bytes.
+fn file(alloc: Global, name: &str, bytes: &[u8]) -> Result<(Word, Bytes), AllocError> {
+    Ok((Word::of(alloc, name.as_bytes())?, Bytes::of(alloc, bytes)?))
+}
+
+/// Files of this setup, this word list, and a log with these bytes, if there is one.
 fn files_of(
     alloc: Global,
-    login: &Login,
+    setup: &[u8],
+    list: &[u8],
     log: Option<&[u8]>,
     fails: &[Fail],
 ) -> Result<MemFiles, AllocError> {
-    let setup = (Word::of(alloc, b"setup")?, Bytes::of(alloc, &login.setup)?);
-    let list = (Word::of(alloc, b"list")?, Bytes::of(alloc, &login.list)?);
-    let mut pairs = vec![in alloc; setup, list]?;
+    let mut pairs = Vec::new(alloc);
+    pairs.push(file(alloc, "setup", setup)?)?;
+    pairs.push(file(alloc, "list", list)?)?;
     if let Some(bytes) = log {
-        pairs.push((Word::of(alloc, b"log")?, Bytes::of(alloc, bytes)?))?;
+        pairs.push(file(alloc, "log", bytes)?)?;
     }
     MemFiles::new(alloc, &pairs, fails)
+}
+
+/// The files of a login, with a fresh log.
+fn fresh_files(alloc: Global, login: &Login) -> Result<MemFiles, AllocError> {
+    files_of(alloc, &login.setup, &login.list, Some(fresh_image()), &[])
 }
 
 /// What a login is played with.
@@ -95,6 +106,38 @@ struct Logged {
     disk: MemDisk,
 }
 
+/// A log on a fresh disk.
+fn new_log(alloc: Global) -> Result<LineLog<MemDisk>, AllocError> {
+    Ok(LineLog::new(MemDisk::new(alloc, fresh_image(), &[])?))
+}
+
+/// What came of a run.
+fn logged_of(served: Served<MemPost, LineLog<MemDisk>>) -> Logged {
+    let Served {
+        end,
+        journal: _,
+        log,
+        posts,
+    } = served;
+    Logged {
+        end,
+        posts: posts.len(),
+        disk: log.disk(),
+    }
+}
+
+/// Serves at a site with this log, by these files.
+fn serve_at<R: Threads + Wait + Sync>(
+    rt: &R,
+    alloc: Global,
+    files: &mut MemFiles,
+    site: &mut MemSite<MemPost>,
+    log: LineLog<MemDisk>,
+) -> Result<Logged, Fault> {
+    let hooks = Hooks::new(Vec::new(alloc)).ok().ok_or("hooks")?;
+    Ok(logged_of(run_serve(rt, alloc, &SERVE, files, site, log, &hooks)))
+}
+
 /// Serves a login with a durable log on a fresh disk, by these files.
 fn serve_logged<R: Threads + Wait + Sync>(
     rt: &R,
@@ -102,20 +145,8 @@ fn serve_logged<R: Threads + Wait + Sync>(
     login: &Login,
     files: &mut MemFiles,
 ) -> Result<Logged, Fault> {
-    let hooks = Hooks::new(Vec::new(alloc)).ok().ok_or("hooks")?;
-    let log = LineLog::new(MemDisk::new(alloc, fresh_image(), &[])?);
     let mut site = MemSite::new(alloc, posts(alloc, login)?)?;
-    let Served {
-        end,
-        journal: _,
-        log,
-        posts,
-    } = run_serve(rt, alloc, &SERVE, files, &mut site, log, &hooks);
-    Ok(Logged {
-        end,
-        posts: posts.len(),
-        disk: log.disk(),
-    })
+    serve_at(rt, alloc, files, &mut site, new_log(alloc)?)
 }
 
 /// What recovery came to, and the setup that it left.
@@ -134,7 +165,8 @@ fn recover_in(alloc: Global, files: MemFiles) -> Result<Left, Fault> {
 
 /// Recovers a login's setup from a log with these bytes.
 fn recover_from(alloc: Global, login: &Login, log: &[u8]) -> Result<Left, Fault> {
-    recover_in(alloc, files_of(alloc, login, Some(log), &[])?)
+    let files = files_of(alloc, &login.setup, &login.list, Some(log), &[])?;
+    recover_in(alloc, files)
 }
 
 /// How many lines an image has after so many calls, of which each line takes four: what was written, a
@@ -142,6 +174,15 @@ fn recover_from(alloc: Global, login: &Login, log: &[u8]) -> Result<Left, Fault>
 fn lines_after(call: u32, fill: u8) -> u32 {
     let is_opened = call % 4 == 3 && fill == 0x01;
     call / 4 + u32::from(is_opened)
+}
+
+/// Whether recovery came to so many lines.
+fn comes_to(alloc: Global, left: &Left, lines: u32) -> Result<bool, Fault> {
+    let is_accepted = lines >= REPLY;
+    let accepted = u32::from(is_accepted);
+    let chain = if is_accepted { BEHIND } else { BEFORE };
+    let is_told = left.came.outcome == Ok(Recovery { lines, accepted });
+    Ok(is_told && chain_in(alloc, &left.setup)? == chain)
 }
 
 /// Whether recovery from what may be left after so many calls comes to the lines that were answered.
@@ -157,12 +198,7 @@ fn is_recovered(
     }
     let image = disk.image(alloc, call, fill)?;
     let left = recover_from(alloc, login, &image)?;
-    let lines = lines_after(call, fill);
-    let is_accepted = lines >= REPLY;
-    let accepted = u32::from(is_accepted);
-    let chain = if is_accepted { BEHIND } else { BEFORE };
-    let is_told = left.came.outcome == Ok(Recovery { lines, accepted });
-    Ok(is_told && chain_in(alloc, &left.setup)? == chain)
+    comes_to(alloc, &left, lines_after(call, fill))
 }
 
 /// Whether recovery does so after each call of a login's disk, and before the first.
@@ -177,15 +213,31 @@ fn are_recovered(alloc: Global, login: &Login, disk: &MemDisk) -> Result<bool, F
     Ok(true)
 }
 
+/// Whether a login is served by so many calls of its disk, and recovered after each of them.
+fn is_recovered_anywhere<R: Threads + Wait + Sync>(
+    rt: &R,
+    alloc: Global,
+    login: &Login,
+) -> Result<bool, Fault> {
+    let mut files = fresh_files(alloc, login)?;
+    let logged = serve_logged(rt, alloc, login, &mut files)?;
+    let is_served = logged.end == Ok(()) && logged.disk.calls() == 4 * LINES;
+    Ok(is_served && are_recovered(alloc, login, &logged.disk)?)
+}
+
 #[test]
 fn a_login_that_stops_after_each_call(rt: HostRuntime) -> Result<(), Fault> {
-    let alloc = rt.alloc();
-    let login = log_in(&rt, alloc, ONE, 4_096)?;
-    let mut files = files_of(alloc, &login, Some(fresh_image()), &[])?;
-    let Logged { end, disk, .. } = serve_logged(&rt, alloc, &login, &mut files)?;
-    assert!(&rt; end == Ok(()) && disk.calls() == 4 * LINES);
-    assert!(&rt; are_recovered(alloc, &login, &disk)?);
+    let login = log_in(&rt, rt.alloc(), ONE, 4_096)?;
+    assert!(&rt; is_recovered_anywhere(&rt, rt.alloc(), &login)?);
     Ok(())
+}
+
+/// What is left on a login's disk that is stopped behind the accepted reply.
+fn image_behind_reply(alloc: Global, disk: &MemDisk) -> Result<Vec<u8>, Fault> {
+    if !disk.tells() || disk.calls() < 4 * REPLY {
+        return Err(Fault::from("a disk that tells"));
+    }
+    Ok(disk.image(alloc, 4 * REPLY, 0xff)?)
 }
 
 /// The log of a login that was stopped behind its accepted reply.
@@ -194,12 +246,9 @@ fn stopped_log<R: Threads + Wait + Sync>(
     alloc: Global,
     login: &Login,
 ) -> Result<Vec<u8>, Fault> {
-    let mut files = files_of(alloc, login, Some(fresh_image()), &[])?;
-    let Logged { disk, .. } = serve_logged(rt, alloc, login, &mut files)?;
-    if !disk.tells() || disk.calls() < 4 * REPLY {
-        return Err(Fault::from("a disk that tells"));
-    }
-    Ok(disk.image(alloc, 4 * REPLY, 0xff)?)
+    let mut files = fresh_files(alloc, login)?;
+    let logged = serve_logged(rt, alloc, login, &mut files)?;
+    image_behind_reply(alloc, &logged.disk)
 }
 
 /// Whether this is what recovery told, and the setup's accounts are those behind the reply.
@@ -214,43 +263,42 @@ fn is_fresh_then(alloc: Global, first: Left) -> Result<bool, Fault> {
     Ok(tells(alloc, &anew, b"recovered lines 0 accepted 0\n")? && anew.setup == setup)
 }
 
-/// The login with the setup that a recovery left.
-fn behind(alloc: Global, login: Login, left: &Left) -> Result<Login, Fault> {
-    Ok(Login {
-        setup: Vec::from_slice(alloc, &left.setup)?,
-        ..login
-    })
-}
-
 /// Whether the same log, with the setup that its recovery left, is recovered to the same: so it is where
 /// a recovery was stopped between its two files.
-fn is_there_already(alloc: Global, between: &Login, log: &[u8]) -> Result<bool, Fault> {
-    let second = recover_from(alloc, between, log)?;
-    Ok(tells(alloc, &second, WHOLE)? && second.setup == between.setup)
+fn is_there_already(alloc: Global, setup: &[u8], list: &[u8], log: &[u8]) -> Result<bool, Fault> {
+    let second = recover_in(alloc, files_of(alloc, setup, list, Some(log), &[])?)?;
+    Ok(tells(alloc, &second, WHOLE)? && second.setup.as_slice() == setup)
 }
 
 /// What is told of a log that was stopped behind its accepted reply.
 const WHOLE: &[u8] = b"recovered lines 7 accepted 1\n";
 
+/// Whether a login's log that was stopped is recovered, and is a fresh one then.
+fn is_recovered_and_fresh(alloc: Global, login: &Login, log: &[u8]) -> Result<bool, Fault> {
+    let first = recover_from(alloc, login, log)?;
+    let is_told = tells(alloc, &first, WHOLE)?;
+    Ok(is_fresh_then(alloc, first)? && is_told)
+}
+
 #[test]
 fn a_stopped_login_is_recovered_and_the_log_is_fresh(rt: HostRuntime) -> Result<(), Fault> {
-    let alloc = rt.alloc();
-    let login = log_in(&rt, alloc, ONE, 4_096)?;
-    let log = stopped_log(&rt, alloc, &login)?;
-    let first = recover_from(alloc, &login, &log)?;
-    assert!(&rt; tells(alloc, &first, WHOLE)?);
-    assert!(&rt; is_fresh_then(alloc, first)?);
+    let login = log_in(&rt, rt.alloc(), ONE, 4_096)?;
+    let log = stopped_log(&rt, rt.alloc(), &login)?;
+    assert!(&rt; is_recovered_and_fresh(rt.alloc(), &login, &log)?);
     Ok(())
+}
+
+/// Whether a login's log that was stopped is recovered, and once more by the setup that this left.
+fn is_done_again(alloc: Global, login: &Login, log: &[u8]) -> Result<bool, Fault> {
+    let first = recover_from(alloc, login, log)?;
+    is_there_already(alloc, &first.setup, &login.list, log)
 }
 
 #[test]
 fn a_stopped_recovery_is_done_again(rt: HostRuntime) -> Result<(), Fault> {
-    let alloc = rt.alloc();
-    let login = log_in(&rt, alloc, ONE, 4_096)?;
-    let log = stopped_log(&rt, alloc, &login)?;
-    let first = recover_from(alloc, &login, &log)?;
-    let between = behind(alloc, login, &first)?;
-    assert!(&rt; is_there_already(alloc, &between, &log)?);
+    let login = log_in(&rt, rt.alloc(), ONE, 4_096)?;
+    let log = stopped_log(&rt, rt.alloc(), &login)?;
+    assert!(&rt; is_done_again(rt.alloc(), &login, &log)?);
     Ok(())
 }
 
@@ -265,14 +313,23 @@ fn lets_in<R: Threads + Wait + Sync>(
     Ok(came.journal.iter().any(|event| event.accepts()))
 }
 
+/// Whether the same client is let in by the old setup, and not by the one that was recovered.
+fn is_let_in_once<R: Threads + Wait + Sync>(
+    rt: &R,
+    alloc: Global,
+    login: &Login,
+    log: &[u8],
+) -> Result<bool, Fault> {
+    let recovered = recover_from(alloc, login, log)?;
+    let is_let_in = lets_in(rt, alloc, login, &login.setup)?;
+    Ok(is_let_in && !lets_in(rt, alloc, login, &recovered.setup)?)
+}
+
 #[test]
 fn no_password_is_taken_again_behind_a_stop(rt: HostRuntime) -> Result<(), Fault> {
-    let alloc = rt.alloc();
-    let login = log_in(&rt, alloc, ONE, 4_096)?;
-    let log = stopped_log(&rt, alloc, &login)?;
-    let recovered = recover_from(alloc, &login, &log)?;
-    assert!(&rt; lets_in(&rt, alloc, &login, &login.setup)?);
-    assert!(&rt; !lets_in(&rt, alloc, &login, &recovered.setup)?);
+    let login = log_in(&rt, rt.alloc(), ONE, 4_096)?;
+    let log = stopped_log(&rt, rt.alloc(), &login)?;
+    assert!(&rt; is_let_in_once(&rt, rt.alloc(), &login, &log)?);
     Ok(())
 }
 
@@ -325,17 +382,28 @@ fn is_unserved<R: Threads + Wait + Sync>(
         number: case.number,
         sent: 0,
     };
-    let mut files = files_of(alloc, login, case.log, &[fail])?;
+    let mut files = files_of(alloc, &login.setup, &login.list, case.log, &[fail])?;
     let logged = serve_logged(rt, alloc, login, &mut files)?;
     Ok(logged.end == Err(case.error) && logged.posts == 0 && logged.disk.calls() == 0)
 }
 
+/// Whether nobody is served by any of these logs.
+fn are_unserved<R: Threads + Wait + Sync>(
+    rt: &R,
+    alloc: Global,
+    login: &Login,
+) -> Result<bool, Fault> {
+    for case in &UNFRESH {
+        if !is_unserved(rt, alloc, login, case)? {
+            return Ok(false);
+        }
+    }
+    Ok(true)
+}
+
 #[test]
 fn nobody_is_served_over_a_log_that_is_not_fresh(rt: HostRuntime) -> Result<(), Fault> {
-    let alloc = rt.alloc();
-    let login = log_in(&rt, alloc, ONE, 4_096)?;
-    for case in &UNFRESH {
-        assert!(&rt; is_unserved(&rt, alloc, &login, case)?);
-    }
+    let login = log_in(&rt, rt.alloc(), ONE, 4_096)?;
+    assert!(&rt; are_unserved(&rt, rt.alloc(), &login)?);
     Ok(())
 }

@@ -8,6 +8,6 @@ mod playing;
 mod setups;
 
 pub use frames::{frame, header};
-pub use outcome::{chain_in, is_at, sent, setup_in, told};
+pub use outcome::{chain_in, is_at, lines_of, sent, setup_in, told};
 pub use playing::{Came, Play, Session, come, come_with, notes, posts_of, serve};
 pub use setups::{ONE, setup_with, word_list};

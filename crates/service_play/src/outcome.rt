@@ -1,7 +1,9 @@
 //! What can be read off a run that came to its end.
 
 use account_file::read_setup;
+use decision_log::line;
 use outside::{Act, Files, MemFiles, MemPost, Place, Word};
+use policy_model::{Decision, Event};
 use std::alloc::{AllocError, Global};
 use std::test::Fail as Fault;
 
@@ -68,4 +70,23 @@ pub fn told(alloc: Global, posts: &[MemPost]) -> Result<Vec<u8>, AllocError> {
         }
     }
     Ok(told)
+}
+
+/// The lines of the events that were not lost.
+///
+/// # Errors
+///
+/// There isn't the memory.
+pub fn lines_of(alloc: Global, journal: &[Event]) -> Result<Vec<u8>, AllocError> {
+    let mut lines = Vec::new(alloc);
+    let mut number = 0_u32;
+    for event in journal {
+        if event.decision != Decision::Lost {
+            number = number.wrapping_add(1);
+            let mut buf = [0; 256];
+            let len = line(number, event, &mut buf);
+            lines.extend_from_slice(&buf[..len])?;
+        }
+    }
+    Ok(lines)
 }

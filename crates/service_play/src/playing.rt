@@ -114,6 +114,86 @@ fn place_of(alloc: Global, places: &[Place]) -> Result<Option<Place>, AllocError
     }
 }
 
+/// What a run is made over: its files, its log and its site.
+#[derive(Drop)]
+struct Sides<P: Post> {
+    files: MemFiles,
+    log: MemSink,
+    site: MemSite<P>,
+}
+
+/// The files that a play reads.
+fn files_of(alloc: Global, play: &Play<'_>) -> Result<MemFiles, AllocError> {
+    let setup = file(alloc, "setup", play.setup)?;
+    let pairs = vec![in alloc; setup, file(alloc, "list", play.list)?]?;
+    MemFiles::new(alloc, pairs.as_slice(), play.fails)
+}
+
+/// What a play is run over, at this site.
+fn sides_of<P: Post>(
+    alloc: Global,
+    play: &Play<'_>,
+    site: MemSite<P>,
+) -> Result<Sides<P>, AllocError> {
+    let files = files_of(alloc, play)?;
+    let log = MemSink::new(alloc, play.fails)?;
+    Ok(Sides { files, log, site })
+}
+
+/// The command that asks for the setup of this name.
+fn command_of<'a>(name: &'a str) -> ServeCommand<'a> {
+    match name {
+        "" => ServeCommand::Plain,
+        name => ServeCommand::Named {
+            setup: name,
+            log: None,
+        },
+    }
+}
+
+/// What came of a run that listened at these places.
+fn came_of<P: Post>(
+    alloc: Global,
+    served: Served<P, MemSink>,
+    files: MemFiles,
+    places: &[Place],
+) -> Result<Came<P>, Fault> {
+    let Served {
+        end,
+        journal,
+        log,
+        posts,
+    } = served;
+    let place = place_of(alloc, places)?;
+    Ok(Came {
+        status: status(end),
+        listens: places.len(),
+        place,
+        journal,
+        log,
+        posts,
+        files,
+    })
+}
+
+/// Serves over these sides, with this information.
+fn serve_over<P: Post, R: Threads + Wait + Sync>(
+    rt: &R,
+    alloc: Global,
+    play: &Play<'_>,
+    sides: Sides<P>,
+    hooks: &Hooks,
+) -> Result<Came<P>, Fault> {
+    let Sides {
+        mut files,
+        log,
+        mut site,
+    } = sides;
+    let command = command_of(play.name);
+    let served = run_serve(rt, alloc, &command, &mut files, &mut site, log, hooks);
+    came_of(alloc, served, files, site.listens())
+}
+
 /// Serves at a site of these posts, with this information.
 ///
 /// # Errors
@@ -128,34 +208,9 @@ pub fn serve<P: Post, R: Threads + Wait + Sync>(
 ) -> Result<Came<P>, Fault>
     requires { All (IsFresh P.scene P.faults) posts.items }
 {
-    let setup = file(alloc, "setup", play.setup)?;
-    let list = file(alloc, "list", play.list)?;
-    let pairs = vec![in alloc; setup, list]?;
-    let mut files = MemFiles::new(alloc, &pairs, play.fails)?;
-    let log = MemSink::new(alloc, play.fails)?;
-    let mut site = MemSite::new(alloc, posts)?;
-    let command = match play.name {
-        "" => ServeCommand::Plain,
-        name => ServeCommand::Named {
-            setup: name,
-            log: None,
-        },
-    };
-    let Served {
-        end,
-        journal,
-        log,
-        posts,
-    } = run_serve(rt, alloc, &command, &mut files, &mut site, log, hooks);
-    Ok(Came {
-        status: status(end),
-        listens: site.listens().len(),
-        place: place_of(alloc, site.listens())?,
-        journal,
-        log,
-        posts,
-        files,
-    })
+    let site = MemSite::new(alloc, posts)?;
+    let sides = sides_of(alloc, play, site)?;
+    serve_over(rt, alloc, play, sides, hooks)
 }
 
 /// Serves all connections of so many workers in memory, with this information.

@@ -1,8 +1,6 @@
-//! The tests of what is done and said, which stand apart so that no crate waits for them.
+//! The tests of information, of the children's keeper and of turns, which stand apart so that no crate waits for them.
 #![tactic(auto)]
 
-#[cfg(test)]
-mod children;
 #[cfg(test)]
 mod hooks;
 #[cfg(test)]

@@ -1,7 +1,6 @@
-use super::{Detail, no_hooks, otplogd};
+use super::{Detail, no_files, no_hooks, report_of};
 use info_hooks::Hooks;
-use outside::{MemFiles, MemPost, MemSink, MemSite, MemStream, Word};
-use std::alloc::{AllocError, Global};
+use std::alloc::AllocError;
 use std::sync::Wait;
 use std::test::Fail as Fault;
 use std::thread::Threads;
@@ -19,49 +18,37 @@ end truncated 8
 end violation 8
 ";
 
-/// Whether the words end with this status and send this, so many events are given, and the log is as
-/// it was.
-fn drills<R: Threads + Wait + Sync>(
+/// Whether the words of a line end with this status and send this, so many events are given, and the
+/// log is as it was.
+fn drills<R: Threads + Wait + Sync + AllocGlobal>(
     rt: &R,
-    alloc: Global,
-    texts: &[&str],
+    line: &str,
     hooks: &Hooks,
-    wanted: (u8, &str, usize),
+    (status, sent, events): (u8, &str, usize),
 ) -> Result<bool, AllocError> {
-    let mut words = Vec::new(alloc);
-    for text in texts {
-        words.push(Word::of(alloc, text.as_bytes())?)?;
-    }
-    let mut files = MemFiles::new(alloc, &[], &[])?;
-    let mut ends = MemStream::new(alloc, b"", &[100], &[])?;
-    let mut site: MemSite<MemPost> = MemSite::new(alloc, Vec::new(alloc))?;
-    let log = MemSink::new(alloc, &[])?;
-    let report = otplogd(
-        rt, alloc, &words, &mut files, &mut site, log, &mut ends, hooks,
-    );
-    let (status, sent, events) = wanted;
+    let mut sides = no_files(rt.alloc(), b"")?;
+    let report = report_of(rt, line, &mut sides, hooks)?;
     let is_told = report.status == status && report.detail == Detail::Nothing;
     let is_lent = report.log.held().is_empty() && report.posts.is_empty();
-    let is_sent = ends.sent() == sent.as_bytes() && report.journal.len() == events;
+    let is_sent = sides.ends.sent() == sent.as_bytes() && report.journal.len() == events;
     Ok(is_told && is_lent && is_sent)
 }
+
+/// Lines that name no drill.
+const REFUSED: &str = "drill
+drill 0
+drill 65
+drill 07
+drill seven
+drill 1 1";
 
 /// A drill is told by its counts; its number is from 1 to 64, without a leading zero.
 #[test]
 fn a_drill_tells_its_counts(rt: HostRuntime) -> Result<(), Fault> {
-    let alloc = rt.alloc();
-    let hooks = no_hooks(alloc)?;
-    assert!(rt; drills(&rt, alloc, &["drill", "1"], &hooks, (0, DRILL_1, 200))?);
-    let refused: [&[&str]; 6] = [
-        &["drill"],
-        &["drill", "0"],
-        &["drill", "65"],
-        &["drill", "07"],
-        &["drill", "seven"],
-        &["drill", "1", "1"],
-    ];
-    for texts in refused {
-        assert!(rt; drills(&rt, alloc, texts, &hooks, (2, "", 0))?);
+    let hooks = no_hooks(rt.alloc())?;
+    assert!(rt; drills(&rt, "drill 1", &hooks, (0, DRILL_1, 200))?);
+    for line in REFUSED.lines() {
+        assert!(rt; drills(&rt, line, &hooks, (2, "", 0))?, "{line}");
     }
     Ok(())
 }

@@ -1,8 +1,8 @@
-use super::{Detail, no_hooks, otplogd};
+use super::{Detail, Sides, no_hooks, report_of, sides_of};
 use audit_check::AuditWhy;
 use info_hooks::Hooks;
 use otp_extended::RenewFault;
-use outside::{Bytes, MemFiles, MemPost, MemSink, MemSite, MemStream, Word};
+use outside::{Bytes, MemFiles, MemStream, Word};
 use std::alloc::{AllocError, Global};
 use std::sync::Wait;
 use std::test::Fail as Fault;
@@ -71,10 +71,10 @@ fn files_of(alloc: Global) -> Result<MemFiles, AllocError> {
     MemFiles::new(alloc, pairs.as_slice(), &[])
 }
 
-/// Three words and an input, and what they come to.
+/// A line of words and an input, and what they come to.
 #[derive(Clone, Copy)]
 struct Told {
-    words: [&'static str; 3],
+    line: &'static str,
     input: &'static str,
     status: u8,
     detail: Detail,
@@ -82,72 +82,64 @@ struct Told {
 }
 
 /// Whether the words with the input come to this.
-fn comes<R: Threads + Wait + Sync>(
+fn comes<R: Threads + Wait + Sync + AllocGlobal>(
     rt: &R,
-    alloc: Global,
-    files: &mut MemFiles,
+    sides: &mut Sides,
     hooks: &Hooks,
     told: &Told,
 ) -> Result<bool, AllocError> {
-    let words = [
-        Word::of(alloc, told.words[0].as_bytes())?,
-        Word::of(alloc, told.words[1].as_bytes())?,
-        Word::of(alloc, told.words[2].as_bytes())?,
-    ];
-    let mut ends = MemStream::new(alloc, told.input.as_bytes(), &[100], &[])?;
-    let mut site: MemSite<MemPost> = MemSite::new(alloc, Vec::new(alloc))?;
-    let log = MemSink::new(alloc, &[])?;
-    let report = otplogd(rt, alloc, &words, files, &mut site, log, &mut ends, hooks);
-    let sent = ends.sent() == told.sent.as_bytes();
-    Ok(report.status == told.status && report.detail == told.detail && sent)
+    sides.ends = MemStream::new(rt.alloc(), told.input.as_bytes(), &[100], &[])?;
+    let report = report_of(rt, told.line, sides, hooks)?;
+    let is_sent = sides.ends.sent() == told.sent.as_bytes();
+    Ok(report.status == told.status && report.detail == told.detail && is_sent)
 }
+
+/// The words and the input that renew alice's chain.
+const RENEWED: Told = Told {
+    line: "renew setup alice",
+    input: RESPONSE,
+    status: 0,
+    detail: Detail::Nothing,
+    sent: "renewed alice 99\n",
+};
+
+/// The words that audit the log.
+const LEGAL: Told = Told {
+    line: "audit setup log",
+    input: "",
+    status: 0,
+    detail: Detail::Nothing,
+    sent: "yes 7\n",
+};
+
+const STEPS: [Told; 4] = [
+    LEGAL,
+    RENEWED,
+    Told {
+        status: 15,
+        detail: Detail::RenewBad(RenewFault::SameSeed),
+        sent: "",
+        ..RENEWED
+    },
+    Told {
+        status: 14,
+        detail: Detail::AuditNo {
+            line: 3,
+            why: AuditWhy::Event,
+        },
+        sent: "no 3 event\n",
+        ..LEGAL
+    },
+];
 
 /// The log is legal for the setup with which it began. Alice is renewed by the same password, and the
 /// response is spent. By the new setup the log ends at her first challenge, of another number.
 #[test]
 fn a_log_is_audited_and_an_account_renewed(rt: HostRuntime) -> Result<(), Fault> {
-    let alloc = rt.alloc();
-    let mut files = files_of(alloc)?;
-    let hooks = no_hooks(alloc)?;
-    let renewed = Told {
-        words: ["renew", "setup", "alice"],
-        input: RESPONSE,
-        status: 0,
-        detail: Detail::Nothing,
-        sent: "renewed alice 99\n",
-    };
-    let legal = Told {
-        words: ["audit", "setup", "log"],
-        input: "",
-        status: 0,
-        detail: Detail::Nothing,
-        sent: "yes 7\n",
-    };
-    let steps = [
-        legal,
-        renewed,
-        Told {
-            status: 15,
-            detail: Detail::RenewBad(RenewFault::SameSeed),
-            sent: "",
-            ..renewed
-        },
-        Told {
-            status: 14,
-            detail: Detail::AuditNo {
-                line: 3,
-                why: AuditWhy::Event,
-            },
-            sent: "no 3 event\n",
-            ..legal
-        },
-    ];
-    for told in &steps {
-        assert!(rt;
-            comes(&rt, alloc, &mut files, &hooks, told)?,
-            "{}",
-            told.sent
-        );
+    let hooks = no_hooks(rt.alloc())?;
+    let mut sides = sides_of(rt.alloc(), files_of(rt.alloc())?, b"")?;
+    for told in &STEPS {
+        assert!(rt; comes(&rt, &mut sides, &hooks, told)?, "{}", told.sent);
     }
     Ok(())
 }

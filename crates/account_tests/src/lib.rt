@@ -1,0 +1,7 @@
+//! The tests of the modes that write accounts, which stand apart so that no crate waits for them.
+#![tactic(auto)]
+
+#[cfg(test)]
+mod recoveries;
+#[cfg(test)]
+mod renewed_files;

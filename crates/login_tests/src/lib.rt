@@ -1,0 +1,7 @@
+//! The tests of whole logins, which stand apart so that no crate waits for them.
+#![tactic(auto)]
+
+#[cfg(test)]
+mod failing;
+#[cfg(test)]
+mod logins;

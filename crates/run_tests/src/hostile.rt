@@ -1,0 +1,187 @@
+//! Frames that are no request before the login, and the limit of requests.
+
+use outside::MemPost;
+use service_play::{Came, ONE, Play, Session, come, frame, header, sent, setup_with, word_list};
+use std::alloc::{AllocError, Global};
+use std::sync::Wait;
+use std::test::Fail as Fault;
+use std::thread::Threads;
+
+/// The run of connections whose first child sends these bytes.
+fn run_of<R: Threads + Wait + Sync>(
+    rt: &R,
+    alloc: Global,
+    lines: &str,
+    pre: &[u8],
+    connections: usize,
+) -> Result<Came<MemPost>, Fault> {
+    let session = Session {
+        client: b"",
+        pre,
+        user: b"",
+    };
+    let sessions = vec![in alloc; session; connections]?;
+    let setup = setup_with(alloc, lines)?;
+    let list = word_list(alloc, 2_048)?;
+    let play = Play {
+        name: "setup",
+        setup: &setup,
+        list: &list,
+        sessions: &sessions,
+        piece: 4_096,
+        fails: &[],
+    };
+    come(rt, alloc, &play, 1)
+}
+
+/// Whether a header of this length ends the session as a bad frame.
+fn is_bad<R: Threads + Wait + Sync>(rt: &R, alloc: Global, len: u16) -> Result<bool, Fault> {
+    let header = header(alloc, 1, len, 0, 0)?;
+    let end = format!(in alloc; "1 w0 s1 open permit\n2 w0 s1 end bad-frame {len} permit\n")?;
+    let came = run_of(rt, alloc, ONE, &header, 1)?;
+    let is_silent = sent(&came.posts, 0).is_empty();
+    Ok(came.status == 0 && came.log.held() == end.as_bytes() && is_silent)
+}
+
+#[test]
+fn lengths_that_no_frame_has(rt: HostRuntime) -> Result<(), Fault> {
+    assert!(&rt; is_bad(&rt, rt.alloc(), 0)?);
+    assert!(&rt; is_bad(&rt, rt.alloc(), 15)?);
+    assert!(&rt; is_bad(&rt, rt.alloc(), 16_385)?);
+    assert!(&rt; is_bad(&rt, rt.alloc(), 65_535)?);
+    Ok(())
+}
+
+/// The reply to a denied frame, which has the request's kind only where that is known and the flags
+/// are 0.
+fn denial(alloc: Global, pre: &[u8], rule: u8, detail: u32) -> Result<Vec<u8>, AllocError> {
+    let kind = match pre.first() {
+        Some(kind) if rule == 5 => *kind,
+        _ => 0,
+    };
+    let mut body = vec![in alloc; 1, rule]?;
+    body.extend_from_slice(&detail.to_le_bytes())?;
+    frame(alloc, u32::from(kind) | 256, 0, 1, &body)
+}
+
+/// Whether a frame is denied by this rule with this detail, and its session ends.
+fn is_refused<R: Threads + Wait + Sync>(
+    rt: &R,
+    alloc: Global,
+    pre: &[u8],
+    rule: u8,
+    detail: u32,
+) -> Result<bool, Fault> {
+    let log = format!(in alloc;
+        "1 w0 s1 open permit\n2 w0 s1 bad {rule} {detail} deny {rule} {detail}\n3 w0 s1 end violation {rule} permit\n"
+    )?;
+    let reply = denial(alloc, pre, rule, detail)?;
+    let came = run_of(rt, alloc, ONE, pre, 1)?;
+    let is_denied = sent(&came.posts, 0) == reply.as_slice();
+    Ok(came.status == 0 && came.log.held() == log.as_bytes() && is_denied)
+}
+
+/// Whether a frame of this kind is refused as unknown.
+fn is_unknown<R: Threads + Wait + Sync>(rt: &R, alloc: Global, kind: u32) -> Result<bool, Fault> {
+    let frame = frame(alloc, kind, 0, 0, b"")?;
+    is_refused(rt, alloc, &frame, 4, kind)
+}
+
+#[test]
+fn kinds_that_no_request_has(rt: HostRuntime) -> Result<(), Fault> {
+    for kind in [0, 14, u32::MAX] {
+        assert!(&rt; is_unknown(&rt, rt.alloc(), kind)?);
+    }
+    Ok(())
+}
+
+#[test]
+fn a_frame_that_is_marked(rt: HostRuntime) -> Result<(), Fault> {
+    let marked = frame(rt.alloc(), 13, u16::MAX, 0, b"")?;
+    assert!(&rt; is_refused(&rt, rt.alloc(), &marked, 2, 65_535)?);
+    Ok(())
+}
+
+/// Whether a request with this body is refused as malformed.
+fn is_malformed<R: Threads + Wait + Sync>(
+    rt: &R,
+    alloc: Global,
+    kind: u32,
+    body: &[u8],
+) -> Result<bool, Fault> {
+    let frame = frame(alloc, kind, 0, 0, body)?;
+    is_refused(rt, alloc, &frame, 5, kind)
+}
+
+/// The body of a READ of the connection of at most so many bytes.
+fn read_body(max: u32) -> [u8; 16] {
+    let mut body = [0; 16];
+    body[12..].copy_from_slice(&max.to_le_bytes());
+    body
+}
+
+#[test]
+fn bodies_that_no_request_has(rt: HostRuntime) -> Result<(), Fault> {
+    let alloc = rt.alloc();
+    assert!(&rt; is_malformed(&rt, alloc, 1, b"x")?);
+    assert!(&rt; is_malformed(&rt, alloc, 2, b"")?);
+    assert!(&rt; is_malformed(&rt, alloc, 7, &read_body(0))?);
+    assert!(&rt; is_malformed(&rt, alloc, 7, &read_body(16_001))?);
+    assert!(&rt; is_malformed(&rt, alloc, 8, &[0; 12])?);
+    assert!(&rt; is_malformed(&rt, alloc, 9, b"\x04notes")?);
+    assert!(&rt; is_malformed(&rt, alloc, 12, &[b'a'; 65])?);
+    Ok(())
+}
+
+#[test]
+fn a_body_that_is_too_long(rt: HostRuntime) -> Result<(), Fault> {
+    let long = vec![in rt.alloc(); 0; 16_013]?;
+    assert!(&rt; is_malformed(&rt, rt.alloc(), 8, &long)?);
+    Ok(())
+}
+
+const BUDGET_LOG: &str = "1 w0 s1 open permit
+2 w0 s1 note 61 permit
+3 w0 s1 note 61 permit
+4 w0 s1 note 61 permit
+5 w0 s1 note 61 permit
+6 w0 s1 note 61 permit
+7 w0 s1 note 61 permit
+8 w0 s1 note 61 permit
+9 w0 s1 note 61 permit
+10 w0 s1 note 61 deny 1 8
+11 w0 s1 end violation 1 permit
+12 w0 s2 open permit
+13 w0 s2 note 61 permit
+";
+
+/// Nine notes of `a`.
+fn nine_notes(alloc: Global) -> Result<Vec<u8>, AllocError> {
+    let note = frame(alloc, 12, 0, 0, b"a")?;
+    let mut notes = Vec::new(alloc);
+    for _ in 0..9 {
+        notes.extend_from_slice(&note)?;
+    }
+    Ok(notes)
+}
+
+/// The reply to the ninth note of session 1.
+const LAST_REPLY: &[u8] = b"\x0c\x01\0\0\x16\0\0\0\0\0\0\0\x01\0\0\0\x01\x01\x08\0\0\0";
+
+/// Whether eight of these notes are permitted in a session, and the ninth ends it.
+fn are_limited<R: Threads + Wait + Sync>(
+    rt: &R,
+    alloc: Global,
+    notes: &[u8],
+) -> Result<bool, Fault> {
+    let came = run_of(rt, alloc, "workers = 1\nrequests = 8", notes, 2)?;
+    let is_logged = came.log.held().starts_with(BUDGET_LOG.as_bytes());
+    Ok(is_logged && sent(&came.posts, 0).ends_with(LAST_REPLY))
+}
+
+#[test]
+fn a_session_s_requests_are_limited(rt: HostRuntime) -> Result<(), Fault> {
+    let notes = nine_notes(rt.alloc())?;
+    assert!(&rt; are_limited(&rt, rt.alloc(), &notes)?);
+    Ok(())
+}
