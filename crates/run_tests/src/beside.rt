@@ -212,6 +212,62 @@ fn two_workers_serve_at_once(rt: HostRuntime) -> Result<(), Fault> {
     Ok(())
 }
 
+/// Whether an event is the one at this place of a session that writes `hi` and finishes.
+fn is_step(step: usize, event: &Event) -> bool {
+    let is_asked = match (step, event.ask) {
+        (0, Ask::Begin) | (2, Ask::Finish) => true,
+        (
+            1,
+            Ask::WriteAt {
+                handle: 0,
+                offset: 0,
+                len: 2,
+            },
+        ) => true,
+        (3, Ask::End { why: Why::Finished }) => true,
+        _ => false,
+    };
+    is_asked && event.decision.is_permit()
+}
+
+/// How many events a worker has, if they are those of such a session in order, and else 0.
+fn steps_of(journal: &[Event], worker: u32) -> usize {
+    let mut step = 0usize;
+    for event in journal {
+        if event.worker == worker {
+            if !is_step(step, event) {
+                return 0;
+            }
+            step = step.saturating_add(1);
+        }
+    }
+    step
+}
+
+/// Whether two workers were served, each a session in order, and the log has a line of each event.
+fn are_both_served(alloc: Global, came: &Came<MemPost>) -> Result<bool, AllocError> {
+    let lines = lines_of(alloc, &came.journal)?;
+    let are_whole = steps_of(&came.journal, 0) == 4 && steps_of(&came.journal, 1) == 4;
+    let is_logged = came.journal.len() == 8 && came.log.held() == lines.as_slice();
+    Ok(came.status == 0 && are_whole && is_logged)
+}
+
+#[test]
+fn two_workers_make_eight_lines(rt: HostRuntime) -> Result<(), Fault> {
+    let alloc = rt.alloc();
+    let setup = setup_with(alloc, "workers = 2\nrequests = 64")?;
+    let list = word_list(alloc, 2_048)?;
+    let pre = [WRITE, FINISH].concat(alloc)?;
+    let session = Session {
+        client: b"",
+        pre: &pre,
+        user: b"",
+    };
+    let came = come(&rt, alloc, &play_of(&setup, &list, &[session]), 2)?;
+    assert!(&rt; are_both_served(alloc, &came)?);
+    Ok(())
+}
+
 /// Whether 64 workers were served, and the log is the journal's.
 fn are_all_served(alloc: Global, came: &Came<MemPost>) -> Result<bool, AllocError> {
     let lines = lines_of(alloc, &came.journal)?;

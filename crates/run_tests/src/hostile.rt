@@ -102,6 +102,71 @@ fn a_frame_that_is_marked(rt: HostRuntime) -> Result<(), Fault> {
     Ok(())
 }
 
+/// Whether a FINISH with these flags is refused by this rule.
+fn is_marked<R: Threads + Wait + Sync>(
+    rt: &R,
+    alloc: Global,
+    flags: u16,
+    rule: u8,
+) -> Result<bool, Fault> {
+    let marked = frame(alloc, 13, flags, 0, b"")?;
+    is_refused(rt, alloc, &marked, rule, u32::from(flags))
+}
+
+#[test]
+fn a_finish_with_flags(rt: HostRuntime) -> Result<(), Fault> {
+    for (flags, rule) in [(1, 2), (2, 3), (3, 2)] {
+        assert!(&rt; is_marked(&rt, rt.alloc(), flags, rule)?);
+    }
+    Ok(())
+}
+
+/// Whether a child that sends these bytes and ends is sent this reply, and the log is this.
+fn is_answered<R: Threads + Wait + Sync>(
+    rt: &R,
+    alloc: Global,
+    pre: &[u8],
+    reply: &[u8],
+    log: &str,
+) -> Result<bool, Fault> {
+    let came = run_of(rt, alloc, ONE, pre, 1)?;
+    let is_logged = came.log.held() == log.as_bytes();
+    Ok(came.status == 0 && is_logged && sent(&came.posts, 0) == reply)
+}
+
+/// WRITE of `a` to handle 5, and the reply to it.
+const STRAY_WRITE: (&[u8], &[u8]) = (
+    b"\x08\0\0\0\x1d\0\0\0\0\0\0\0\0\0\0\0\x05\0\0\0\0\0\0\0\0\0\0\0a",
+    b"\x08\x01\0\0\x16\0\0\0\0\0\0\0\x01\0\0\0\x01\x11\x05\0\0\0",
+);
+
+const STRAY_LOG: &str = "1 w0 s1 open permit
+2 w0 s1 write 5 0 1 deny 17 5
+3 w0 s1 end child-ended permit
+";
+
+#[test]
+fn a_write_to_a_handle_that_is_not_open(rt: HostRuntime) -> Result<(), Fault> {
+    let (write, reply) = STRAY_WRITE;
+    assert!(&rt; is_answered(&rt, rt.alloc(), write, reply, STRAY_LOG)?);
+    Ok(())
+}
+
+const CUT_LOG: &str = "1 w0 s1 open permit
+2 w0 s1 end truncated permit
+";
+
+const SILENT_LOG: &str = "1 w0 s1 open permit
+2 w0 s1 end child-ended permit
+";
+
+#[test]
+fn a_child_that_ends_within_a_frame(rt: HostRuntime) -> Result<(), Fault> {
+    assert!(&rt; is_answered(&rt, rt.alloc(), &STRAY_WRITE.0[..7], b"", CUT_LOG)?);
+    assert!(&rt; is_answered(&rt, rt.alloc(), b"", b"", SILENT_LOG)?);
+    Ok(())
+}
+
 /// Whether a request with this body is refused as malformed.
 fn is_malformed<R: Threads + Wait + Sync>(
     rt: &R,
@@ -113,9 +178,9 @@ fn is_malformed<R: Threads + Wait + Sync>(
     is_refused(rt, alloc, &frame, 5, kind)
 }
 
-/// The body of a READ of the connection of at most so many bytes.
-fn read_body(max: u32) -> [u8; 16] {
-    let mut body = [0; 16];
+/// The body of a READ of the connection of at most so many bytes: handle, offset and that number.
+fn read_body(max: u16) -> [u8; 14] {
+    let mut body = [0; 14];
     body[12..].copy_from_slice(&max.to_le_bytes());
     body
 }
