@@ -58,7 +58,7 @@ fn agrees(lines: &[u8], said: &[u8]) -> bool
     lines.starts_with(said) || said.starts_with(lines)
 }
 
-/// Whether what was received goes on with the lines, behind what was said before.
+/// Whether what was received goes on with the lines, after what was said before.
 fn goes_on(lines: &[u8], said: &mut Vec<u8>, max: usize, bytes: &[u8]) -> Result<bool, AllocError>
     ensures { IfOk result (λ yes. (said.new.items ≡ said.old.items ++ bytes.now) × (yes ≡ true
         → (1 ≤ length bytes.now) × (length bytes.now ≤ max) × AgreesWith lines.now said.new.items)) }
@@ -67,7 +67,7 @@ fn goes_on(lines: &[u8], said: &mut Vec<u8>, max: usize, bytes: &[u8]) -> Result
     Ok(1 <= bytes.len() && bytes.len() <= max && agrees(lines, said))
 }
 
-/// Whether the client says these lines in an act, behind what it said before.
+/// Whether the client says these lines in an act, after what it said before.
 fn says(lines: &[u8], said: &mut Vec<u8>, act: &Act) -> Result<bool, AllocError>
     ensures { IfOk result (λ yes. yes ≡ true → (later : List Act)
         → ClientSays lines.now said.new.items later → ClientSays lines.now said.old.items (act.now ∷ later)) }
@@ -89,7 +89,7 @@ fn says(lines: &[u8], said: &mut Vec<u8>, act: &Act) -> Result<bool, AllocError>
     }
 }
 
-/// Whether the client says these lines, with anything behind them, and no call on its connection fails.
+/// Whether the client says these lines, with anything after them, and no call on its connection fails.
 ///
 /// # Errors
 ///
