@@ -2,6 +2,8 @@
 #![tactic(auto)]
 
 #[cfg(test)]
+mod enrolments;
+#[cfg(test)]
 mod recoveries;
 #[cfg(test)]
 mod renewed_files;

@@ -150,7 +150,18 @@ fn told(
     input: &str,
     fails: &[Fail],
 ) -> Result<String, Fault> {
-    let command = read_renew_command("renew", &["setup", user]).ok_or("a command")?;
+    told_by(alloc, files, &["setup", user], input, fails)
+}
+
+/// The same by the words after the mode's.
+fn told_by(
+    alloc: Global,
+    files: &mut MemFiles,
+    words: &[&str],
+    input: &str,
+    fails: &[Fail],
+) -> Result<String, Fault> {
+    let command = read_renew_command("renew", words).ok_or("a command")?;
     let mut ends = MemStream::new(alloc, input.as_bytes(), &[7], fails)?;
     let outcome = run_renew(alloc, &command, files, &mut ends);
     let status = status(outcome);
@@ -297,6 +308,41 @@ fn the_longest_line(rt: HostRuntime) -> Result<(), Fault> {
     Ok(())
 }
 
+/// The files with a right setup and the plain list, beside a log of these bytes.
+fn logged_files(alloc: Global, log: &[u8], fails: &[Fail]) -> Result<MemFiles, AllocError> {
+    let list = plain_list(alloc)?;
+    let pairs = vec![in alloc;
+        file(alloc, "setup", SETUP.as_bytes())?,
+        file(alloc, "list", list.as_slice())?,
+        file(alloc, "log", log)?,
+    ]?;
+    MemFiles::new(alloc, pairs.as_slice(), fails)
+}
+
+/// Whether alice's input beside a log has this outcome, and the file is as it was where nothing was renewed.
+fn renews_beside(alloc: Global, log: &[u8], fails: &[Fail], want: &str) -> Result<bool, Fault> {
+    let mut files = logged_files(alloc, log, fails)?;
+    let got = told_by(alloc, &mut files, &["setup", "alice", "log"], INPUT, &[])?;
+    Ok(got.as_str() == want && stands(alloc, &files, want)?)
+}
+
+/// The image of a durable log with one record.
+const ONE_RECORD: &[u8] = b"OTJ1\x01\x14\x001 w0 s1 open permit\n\0";
+
+#[test]
+fn a_durable_log_that_is_named(rt: HostRuntime) -> Result<(), Fault> {
+    let alloc = rt.alloc();
+    assert!(rt; renews_beside(alloc, b"OTJ1\0", &[], "0 renewed alice 99")?);
+    assert!(rt; renews_beside(alloc, ONE_RECORD, &[], "13 LogNotFresh")?);
+    assert!(rt; renews_beside(alloc, NONE.as_bytes(), &[], "13 LogNotFresh")?);
+    assert!(rt; renews_beside(alloc, b"", &[], "13 LogNotFresh")?);
+    assert!(rt; renews_beside(alloc, b"OTJ1\0\0", &[], "13 LogNotFresh")?);
+    // The setup is read by two calls, the list by four, and then the log by one.
+    let seventh = fail(CallKind::Read, 7);
+    assert!(rt; renews_beside(alloc, b"OTJ1\0", &[seventh], "3 ReadFailed")?);
+    Ok(())
+}
+
 /// Whether these words are a command of the mode.
 fn is_command(mode: &str, further: &[&str]) -> bool {
     read_renew_command(mode, further).is_some()
@@ -308,6 +354,8 @@ fn words_of_the_mode(rt: HostRuntime) {
     assert!(rt; !is_command("renew", &["x", "Bob"]));
     assert!(rt; !is_command("renew", &["x", ""]));
     assert!(rt; !is_command("renew", &["x"]));
-    assert!(rt; !is_command("renew", &["x", "bob", "y"]));
+    assert!(rt; is_command("renew", &["x", "bob", "y"]));
+    assert!(rt; !is_command("renew", &["x", "Bob", "y"]));
+    assert!(rt; !is_command("renew", &["x", "bob", "y", "z"]));
     assert!(rt; !is_command("Renew", &["x", "bob"]));
 }

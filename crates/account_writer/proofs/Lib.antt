@@ -1,5 +1,6 @@
 pub mod AccountReads
 pub mod AsciiLemmas
+pub mod BehindLemmas
 pub mod CurrentLemmas
 pub mod KeyReads
 pub mod ListLemmas

@@ -9,7 +9,7 @@ use Rattle.std.proofs.lemmas.Bool.{and_parts}
 use Rattle.std.proofs.lemmas.Bool.Decides.{nat_tests}
 use Rattle.std.proofs.lemmas.List.{length-map}
 use Rattle.std.proofs.lemmas.Str.{utf8_valid_len-IsUtf8}
-use Rattle.toml.specs.Data.{Data, Members, array, as_integer, get_member, items_depth, items_have_valid_dates, members_depth, members_have_valid_dates}
+use Rattle.toml.specs.Data.{Data, Members, no_members, array, as_integer, get_member, items_depth, items_have_valid_dates, members_depth, members_have_valid_dates}
 use Rattle.toml.specs.Parse.{parse_document}
 use Rattle.toml.specs.View.{items_of}
 use Rattle.otp_hash.specs.SeedBytes.{seed_bytes}
@@ -19,7 +19,7 @@ use Rattle.request_catalogue.specs.Results.{◌>>=◌}
 use Rattle.policy_model.specs.declared.account.Account.{Account}
 use Rattle.policy_model.specs.declared.account.Grant.{Grant}
 use Rattle.policy_model.specs.declared.ranges.TheConstants.{EVENTS_LIMIT}
-use Rattle.policy_model.specs.Settings.{IsInRange, Settings, are_distinct, are_numbers, is_number}
+use Rattle.policy_model.specs.Settings.{IsInRange, Settings, are_accounts, are_distinct, are_numbers, is_number}
 use Rattle.request_catalogue.specs.Texts.{is_text}
 use Rattle.account_file.specs.declared.fault.SetupFault.{SetupFault}
 use Rattle.account_file.specs.declared.fault.SetupKey.TheVariants as keys
@@ -32,7 +32,7 @@ use Rattle.account_file.specs.Keys.{number_in, passed, read_number, read_spelled
 use Rattle.account_file.specs.Numbers.{read_info}
 use Rattle.account_file.specs.Setups.{all_some, read_counts, info_items, read_settings, setup_keys, setup_of, read_texts, top}
 use Rattle.account_file.specs.Trees.{are_known, read_each}
-use Rattle.account_writer.specs.Tables.{account_data, grant_data, is_writable, number, setup_members}
+use Rattle.account_writer.specs.Tables.{account_data, grant_data, is_writable, number, put_counts, put_texts, setup_members}
 use Rattle.account_writer.proofs.AccountReads.{accounts_read}
 use Rattle.account_writer.proofs.KeyReads.{data_of-items, number_read, seed_read, text_read, width_read}
 
@@ -106,19 +106,39 @@ within low high n h = grind (arith, nat_tests)
 product_read : (counts : Counts) → counts.workers * (counts.connections * (counts.requests + 3)) ≤ 1048576 → product_of counts ≡ Ok counts
 product_read counts few = ap (λ (b : Bool). demand_at (top keys.Requests) rules.Product (then_some b counts)) (le-leb _ _ few)
 
-pub setup_read : (s : Settings) → IsInRange s → list_all is_writable s.accounts ≡ true → read_settings (setup_members s (map account_data s.accounts)) ≡ Ok (entries_of s)
-setup_read s range writable =
-    let ms = setup_members s (map account_data s.accounts) in
+-- the table of a setup without its accounts
+abbrev pub others : Settings → Members
+others s = put_counts s (put_texts s no_members)
+
+own_texts : (s : Settings) → IsInRange s → read_texts (others s) ≡ Ok (entries_of s).texts
+own_texts s range =
     let t4 = and_parts _ _ range.texts in
     let t3 = and_parts _ _ t4.0 in
     let t2 = and_parts _ _ t3.0 in
     let t1 = and_parts _ _ t2.0 in
-    let texts = texts_by ms s.socket s.launcher s.vault s.words s.banner (text_read (top keys.Socket) 1 100 s.socket t1.0) (text_read (top keys.Launcher) 1 255 s.launcher t1.1) (text_read (top keys.Vault) 1 255 s.vault t2.1) (text_read (top keys.Words) 1 255 s.words t3.1) (text_read (top keys.Banner) 0 200 s.banner t4.1) in
-    let counts = counts_by ms s.workers s.connections s.requests s.tries s.hold (number_read (top keys.Workers) 1 64 s.workers (within 1 64 s.workers range.workers)) (number_read (top keys.Connections) 1 4096 s.connections (within 1 4096 s.connections range.connections)) (number_read (top keys.Requests) 8 4096 s.requests (within 8 4096 s.requests range.requests)) (number_read (top keys.Tries) 1 10 s.tries (within 1 10 s.tries range.tries)) (number_read (top keys.Hold) 1 3600000 s.hold (within 1 3600000 s.hold range.hold)) in
-    settings_by ms _ (seed_bytes s.salt) s.frames _ s.info (map account_entry s.accounts) texts (seed_read (top keys.Salt) s.salt) (width_read (top keys.Frames) s.frames) counts (info_read s.info range.info) (product_read _ range.product) (accounts_read s.accounts range.accounts writable)
+    texts_by (others s) s.socket s.launcher s.vault s.words s.banner (text_read (top keys.Socket) 1 100 s.socket t1.0) (text_read (top keys.Launcher) 1 255 s.launcher t1.1) (text_read (top keys.Vault) 1 255 s.vault t2.1) (text_read (top keys.Words) 1 255 s.words t3.1) (text_read (top keys.Banner) 0 200 s.banner t4.1)
+
+own_counts : (s : Settings) → IsInRange s → read_counts (others s) ≡ Ok (entries_of s).counts
+own_counts s range =
+    counts_by (others s) s.workers s.connections s.requests s.tries s.hold (number_read (top keys.Workers) 1 64 s.workers (within 1 64 s.workers range.workers)) (number_read (top keys.Connections) 1 4096 s.connections (within 1 4096 s.connections range.connections)) (number_read (top keys.Requests) 8 4096 s.requests (within 8 4096 s.requests range.requests)) (number_read (top keys.Tries) 1 10 s.tries (within 1 10 s.tries range.tries)) (number_read (top keys.Hold) 1 3600000 s.hold (within 1 3600000 s.hold range.hold))
+
+-- a setup with these accounts, which are read so
+with_accounts : (s : Settings) (accounts : List Data) (entries : List AccountEntry) → IsInRange s → read_each (top keys.Account) 1024 next_account (get_member (codes "account") (setup_members s accounts)) ≡ Ok entries → read_settings (setup_members s accounts) ≡ Ok (record (entries_of s) { accounts = entries })
+with_accounts s [] entries range are =
+    settings_by (setup_members s []) _ (seed_bytes s.salt) s.frames _ s.info entries (own_texts s range) (seed_read (top keys.Salt) s.salt) (width_read (top keys.Frames) s.frames) (own_counts s range) (info_read s.info range.info) (product_read _ range.product) are
+with_accounts s (d ∷ ds) entries range are =
+    settings_by (setup_members s (d ∷ ds)) _ (seed_bytes s.salt) s.frames _ s.info entries (own_texts s range) (seed_read (top keys.Salt) s.salt) (width_read (top keys.Frames) s.frames) (own_counts s range) (info_read s.info range.info) (product_read _ range.product) are
+
+own_accounts : (s : Settings) (accounts : List Account) → are_accounts accounts ≡ true → list_all is_writable accounts ≡ true → read_each (top keys.Account) 1024 next_account (get_member (codes "account") (setup_members s (map account_data accounts))) ≡ Ok (map account_entry accounts)
+own_accounts s [] legal writable = refl
+own_accounts s (a ∷ accounts) legal writable = accounts_read (a ∷ accounts) legal writable
+
+pub setup_read : (s : Settings) → IsInRange s → list_all is_writable s.accounts ≡ true → read_settings (setup_members s (map account_data s.accounts)) ≡ Ok (entries_of s)
+setup_read s range writable = with_accounts s (map account_data s.accounts) (map account_entry s.accounts) range (own_accounts s s.accounts range.accounts writable)
 
 keys_known : (s : Settings) (accounts : List Data) → are_known setup_keys (setup_members s accounts) ≡ true
-keys_known s accounts = refl
+keys_known s [] = refl
+keys_known s (d ∷ ds) = refl
 
 -- what follows from a document's entries
 abbrev known_of : Members → Result SetupEntries SetupFault
@@ -147,12 +167,13 @@ grants_flat : (gs : List Grant) → items_depth (items_of (map grant_data gs)) �
 grants_flat [] = omega arith
 grants_flat (g ∷ gs) = omega (arith, grants_flat gs)
 
-accounts_flat : (accounts : List Account) → items_depth (items_of (map account_data accounts)) ≤ 3
+pub accounts_flat : (accounts : List Account) → items_depth (items_of (map account_data accounts)) ≤ 3
 accounts_flat [] = omega arith
 accounts_flat (a ∷ accounts) = omega (arith, grants_flat a.grants, accounts_flat accounts)
 
 pub setup_flat : (s : Settings) (accounts : List Account) → members_depth (setup_members s (map account_data accounts)) ≤ 80
-setup_flat s accounts = omega (arith, accounts_flat accounts, numbers_flat s.info)
+setup_flat s [] = omega (arith, numbers_flat s.info)
+setup_flat s (a ∷ accounts) = omega (arith, accounts_flat (a ∷ accounts), numbers_flat s.info)
 
 numbers_dated : (info : List ℕ) → items_have_valid_dates (items_of (map number info)) ≡ true
 numbers_dated [] = refl
@@ -162,9 +183,10 @@ grants_dated : (gs : List Grant) → items_have_valid_dates (items_of (map grant
 grants_dated [] = refl
 grants_dated (g ∷ gs) = grants_dated gs
 
-accounts_dated : (accounts : List Account) → items_have_valid_dates (items_of (map account_data accounts)) ≡ true
+pub accounts_dated : (accounts : List Account) → items_have_valid_dates (items_of (map account_data accounts)) ≡ true
 accounts_dated [] = refl
 accounts_dated (a ∷ accounts) = rw (grants_dated a.grants, accounts_dated accounts) refl
 
 pub setup_dated : (s : Settings) (accounts : List Account) → members_have_valid_dates (setup_members s (map account_data accounts)) ≡ true
-setup_dated s accounts = rw (accounts_dated accounts, numbers_dated s.info) refl
+setup_dated s [] = rw (numbers_dated s.info) refl
+setup_dated s (a ∷ accounts) = rw (accounts_dated (a ∷ accounts), numbers_dated s.info) refl

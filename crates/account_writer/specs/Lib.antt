@@ -1,2 +1,3 @@
 pub mod CurrentSetup
 pub mod Tables
+pub mod Written

@@ -1,5 +1,5 @@
--- Inner: the tables that are printed for the parts of a setup.
-use Rattle.std.specs.Prelude.{ℕ, pos, Bool, ◌&&◌, List, map, codes, nat_le, nat_lt}
+-- Believed: the tables that are printed for the parts of a setup.
+use Rattle.std.specs.Prelude.{ℕ, pos, Bool, ◌&&◌, List, [], ◌∷◌, map, codes, nat_le, nat_lt}
 use Rattle.std.specs.Cmp.Lexicographic.{slice_cmp}
 use Rattle.std.specs.Ordering.{nat_cmp, match_ordering}
 use Rattle.otp_hash.specs.Names.{algo_name}
@@ -50,6 +50,10 @@ account_members a =
 abbrev pub account_data : Account → Data
 account_data a = table (account_members a)
 
+-- the table that has one account alone
+abbrev pub alone : Account → Members
+alone a = put_member (codes "account") (array (items_of (account_data a ∷ []))) no_members
+
 -- an account with what its chain has come to
 abbrev pub with_current : Account → Current → Account
 with_current a current = record a { sequence = current.sequence; password = current.password }
@@ -75,9 +79,14 @@ put_counts s ms =
     (put_member (codes "connections") (number s.connections)
     (put_member (codes "workers") (number s.workers) ms)))))
 
+-- the tables of accounts, before other members; no key where there are none, so that tables may follow
+abbrev pub put_accounts : List Data → Members → Members
+put_accounts [] ms = ms
+put_accounts (d ∷ ds) ms = put_member (codes "account") (array (items_of (d ∷ ds))) ms
+
 -- the table of a setup, with the tables of its accounts
 abbrev pub setup_members : Settings → List Data → Members
-setup_members s accounts = put_member (codes "account") (array (items_of accounts)) (put_counts s (put_texts s no_members))
+setup_members s accounts = put_accounts accounts (put_counts s (put_texts s no_members))
 
 -- an account's sequence and password can be written
 abbrev pub is_writable : Account → Bool

@@ -1,10 +1,11 @@
 //! The setup file that is written at the end of a run: the setup as it was read, with each account's
-//! sequence and password as the ledger knows them. What is believed stands in
-//! `specs/CurrentSetup.antt`. The modes `serve`, `renew` and `recover` stand above.
+//! sequence and password as the ledger knows them; and one account's table, to stand behind one. What is
+//! believed stands in `specs/CurrentSetup.antt` and `specs/Written.antt`. The modes `serve`, `renew`,
+//! `recover` and `enrol` stand above.
 #![tactic(auto)]
 
 mod tables;
 mod values;
 mod writing;
 
-pub use writing::write_accounts;
+pub use writing::{write_account, write_accounts};

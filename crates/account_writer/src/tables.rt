@@ -3,7 +3,8 @@
 ghost use Rattle.std.specs.Prelude.{◌≡◌, ◌≤◌, IfOk, OnOk, map, true};
 ghost use Rattle.toml.specs.Data.{no_members, string};
 ghost use Rattle.toml.specs.View.{table_view, view};
-ghost use Rattle.account_writer.specs.Tables.{account_members, grant_data, grant_members, is_writable, number, put_counts, put_member, put_texts, with_current};
+ghost use Rattle.policy_model.specs.Settings.{is_account};
+ghost use Rattle.account_writer.specs.Tables.{account_members, alone, grant_data, grant_members, is_writable, number, put_accounts, put_counts, put_member, put_texts, with_current};
 
 use crate::values::{
     algo_value, label_value, name_value, password_value, put, seed_value, width_value,
@@ -72,6 +73,37 @@ fn put_account(
     put(alloc, table, "enabled", Value::from(account.enabled))?;
     let grants = grant_values(alloc, account.grants.as_slice())?;
     put(alloc, table, "grants", Value::from(grants))
+}
+
+/// Puts the tables of accounts, where there are any: behind a key with no table none could follow.
+pub(crate) fn put_accounts(
+    alloc: Global,
+    table: &mut Table,
+    accounts: Vec<Value>,
+) -> Result<(), AllocError>
+    ensures { OnOk result (table_view table.new ≡ put_accounts (map view accounts.items) (table_view table.old)) }
+{
+    if accounts.is_empty() {
+        return Ok(());
+    }
+    put(alloc, table, "account", Value::from(accounts))
+}
+
+/// The table that has one account alone.
+pub(crate) fn alone_table(alloc: Global, account: &Account) -> Result<Table, AllocError>
+    requires { is_account account.now ≡ true }
+    ensures table { IfOk result (λ table. table_view table ≡ alone account.now) }
+    ensures writable { IfOk result (λ _. is_writable account.now ≡ true) }
+{
+    let current = Current {
+        sequence: account.sequence,
+        password: account.password,
+    };
+    let mut tables = Vec::with_capacity(alloc, 1)?;
+    tables.push(Value::from(account_table(alloc, account, current)?))?;
+    let mut table = Table::new(alloc);
+    put(alloc, &mut table, "account", Value::from(tables))?;
+    Ok(table)
 }
 
 /// Puts the texts of a setup, and what is written as one.

@@ -1,25 +1,28 @@
 //! The setup file that is written.
 
-ghost use Rattle.std.specs.Prelude.{◌≡◌, IfOk, Ok, length, map, true};
+ghost use Rattle.std.specs.Prelude.{◌≡◌, ◌∷◌, IfOk, IsUtf8, Ok, false, length, map, string_bytes, true};
 ghost use Rattle.std.specs.List.{list_all};
-ghost use Rattle.policy_model.specs.Settings.{IsInRange};
+ghost use Rattle.policy_model.specs.Settings.{IsInRange, is_account};
 ghost use Rattle.account_file.specs.Entries.{entries_of};
 ghost use Rattle.account_file.specs.Setups.{setup_of};
+ghost use Rattle.toml.specs.Data.{members_have_valid_dates};
+ghost use Rattle.toml.specs.Text.{IsDocumentText};
 ghost use Rattle.toml.specs.View.{table_view, view};
 ghost use Rattle.account_writer.specs.CurrentSetup.{IsSetupAfter, current_accounts, current_setup};
 ghost use Rattle.account_writer.specs.Tables.{account_data, is_writable, setup_members};
+ghost use Rattle.account_writer.specs.Written.{IsFileOf, IsTextOf};
 
-use crate::tables::{account_table, put_counts, put_texts};
-use crate::values::put;
+use crate::tables::{account_table, alone_table, put_accounts, put_counts, put_texts};
 use otp_ledger::Ledger;
-use policy_model::Setup;
+use policy_model::{Account, Setup};
 use std::alloc::{AllocError, Global};
 use toml::ser::Error;
 use toml::{Table, Value};
 
 /// The bytes of a setup file that `account_file::read_setup` reads to the setup that the ledger was
 /// made from, with each account's sequence and password as the ledger knows them. All keys are
-/// written; comments and spacing of an earlier file are not kept.
+/// written, but that of accounts where there are none; comments and spacing of an earlier file are not
+/// kept.
 ///
 /// # Errors
 ///
@@ -28,14 +31,49 @@ pub fn write_accounts(alloc: Global, setup: &Setup, ledger: &Ledger) -> Result<V
     requires { ledger.now.setup ≡ setup.now }
     ensures current { IfOk result (λ bytes. setup_of bytes.items ≡ Ok (entries_of (current_setup setup.now ledger.now.accounts))) }
     ensures after { IfOk result (λ bytes. IsSetupAfter setup.now ledger.now bytes.items) }
+    ensures written { IfOk result (λ bytes. IsFileOf (current_setup setup.now ledger.now.accounts) bytes.items) }
 {
     let accounts = account_values(alloc, ledger)?;
     let table = setup_table(alloc, setup, accounts)?;
-    match toml::table_to_string(alloc, &table) {
-        Ok(text) => Ok(text.into_bytes()),
+    let text = printed(alloc, &table)?;
+    Ok(text.into_bytes())
+}
+
+/// The bytes of an account's table, behind an empty line: what [`write_accounts`] writes for it behind
+/// the other accounts of a setup.
+///
+/// # Errors
+///
+/// There isn't the memory.
+pub fn write_account(alloc: Global, account: &Account) -> Result<Vec<u8>, AllocError>
+    requires { is_account account.now ≡ true }
+    ensures { IfOk result (λ bytes. IsTextOf account.now bytes.items) }
+{
+    let table = alone_table(alloc, account)?;
+    let text = printed(alloc, &table)?;
+    spaced(alloc, text.as_str())
+}
+
+/// A table as TOML prints it.
+fn printed(alloc: Global, table: &Table) -> Result<String, AllocError>
+    requires { members_have_valid_dates (table_view table.now) ≡ true }
+    ensures { IfOk result (λ text. IsDocumentText false (table_view table.now) (string_bytes text)) }
+{
+    match toml::table_to_string(alloc, table) {
+        Ok(text) => Ok(text),
         Err(Error::OutOfMemory) => Err(AllocError),
         Err(Error::DateInvalid) => unreachable!(),
     }
+}
+
+/// A text behind an empty line.
+fn spaced(alloc: Global, text: &str) -> Result<Vec<u8>, AllocError>
+    ensures bytes { IfOk result (λ bytes. bytes.items ≡ 10 ∷ text.now) }
+    ensures utf8 { IfOk result (λ bytes. IsUtf8 bytes.items) }
+{
+    let mut bytes = String::from_str(alloc, "\n")?;
+    bytes.push_str(text)?;
+    Ok(bytes.into_bytes())
 }
 
 /// The tables of the accounts, with what the ledger knows of each.
@@ -62,6 +100,6 @@ fn setup_table(alloc: Global, setup: &Setup, accounts: Vec<Value>) -> Result<Tab
     let mut table = Table::new(alloc);
     put_texts(alloc, &mut table, parts)?;
     put_counts(alloc, &mut table, parts)?;
-    put(alloc, &mut table, "account", Value::from(accounts))?;
+    put_accounts(alloc, &mut table, accounts)?;
     Ok(table)
 }

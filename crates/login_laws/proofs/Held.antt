@@ -25,7 +25,7 @@ use Rattle.session_laws.specs.Tied.{LeavesUser}
 use Rattle.session_laws.proofs.Permits.{new_reply, permit_from, request_permit, row_permit, same_from_same_name}
 use Rattle.session_laws.proofs.Permitted.{reserves_from}
 use Rattle.session_laws.proofs.Settling.{leaves_user, reserves_live, unaccepted}
-use Rattle.login_laws.specs.Login.{RepliesWithinHold}
+use Rattle.login_laws.specs.Login.{ComesWithinHold}
 use Rattle.login_laws.proofs.Walk.{Comes}
 
 -- a session holds a user, whose permitted replies so far are these
@@ -78,7 +78,7 @@ within_is_held setup before session other user now is away lt =
 
 -- an event of another session, that doesn't ask for the user later than the hold
 pub others_leave : (setup : Settings) (journal : List Event) (session : ℕ) (user : Name) (replies : List ℕ)
-    (before : List Event) (e : Event) → RepliesWithinHold setup journal session user → IsLegal setup before
+    (before : List Event) (e : Event) → ComesWithinHold setup before session user e → IsLegal setup before
     → Comes setup journal before e → e.session ≢ session
     → Holds session user replies before → Holds session user replies (before ++ e ∷ [])
 others_leave setup journal session user replies before e hold legal comes away held =
@@ -93,7 +93,7 @@ others_leave setup journal session user replies before e hold legal comes away h
           let free = not_held setup before e.session e.ask user live.account (value_of e.decision) is.0
           (request_permit setup before e comes.next (request_challenge user e.ask is.0) is.1) live.numbered.found
           live.live in
-          let lt = hold.within before e comes.stands held.holder away is.0 in
+          let lt = hold held.holder away is.0 in
           false≢true (sym free ∙ within_is_held setup before session e.session user (moment_of e.ask) held.holder away
           lt))
 

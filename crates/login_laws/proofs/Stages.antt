@@ -31,16 +31,16 @@ use Rattle.session_laws.proofs.Permitted.{reserves_from}
 use Rattle.session_laws.proofs.PhaseLemmas.{over_is}
 use Rattle.session_laws.proofs.Settling.{live_reserves, unaccepted}
 use Rattle.session_laws.proofs.UserLemmas.{verified_user-own, verified_user-other}
-use Rattle.login_laws.specs.Login.{RepliesWithinHold, is_talk}
+use Rattle.login_laws.specs.Login.{ComesAfter, ComesWithinHold, RepliesWithinHold, is_talk}
 use Rattle.login_laws.proofs.Held.{Holds, others_leave, own_leaves}
 use Rattle.login_laws.proofs.Judged.{talk_by_frame}
 use Rattle.login_laws.proofs.Walk.{At, Comes, State, goes_on, not_own, own_session, stays}
 
 -- an event with its ask and its decision
-abbrev event_as : Event → Ask → Decision → Event
+abbrev pub event_as : Event → Ask → Decision → Event
 event_as e ask d = record { worker = e.worker; session = e.session; ask = ask; decision = d }
 
-spelled : (e : Event) (ask : Ask) (d : Decision) → e.ask ≡ ask → e.decision ≡ d → e ≡ event_as e ask d
+pub spelled : (e : Event) (ask : Ask) (d : Decision) → e.ask ≡ ask → e.decision ≡ d → e ≡ event_as e ask d
 spelled e ask d is decided = ap (λ (a : Ask). event_as e a e.decision) is ∙ ap (event_as e ask) decided
 
 -- ---- talk
@@ -164,12 +164,32 @@ module _ (setup : Settings) (journal : List Event) (worker session : ℕ) where
   pub nothing : Lasts (λ before. Unit {0})
   nothing = record { others = λ s before e at comes other known. tt; quiet = λ before e legal next own q known. tt }
 
+  -- the session holds a user, from when on this holds
+  pub holding_from : (P : List Event → Type 0) → ((before : List Event) (e : Event) → P before → P (before ++ e ∷ []))
+      → (user : Name) (replies : List ℕ)
+      → ((before : List Event) (e : Event) → ComesAfter journal before e → P before
+      → ComesWithinHold setup before session user e)
+      → Lasts (λ before. Holds session user replies before × P before)
+  holding_from P later user replies hold = record {
+    others = λ s before e at comes other known. (
+      others_leave setup journal session user replies before e (hold before e comes.stands known.1) at.legal comes
+          (not_own setup journal worker session s before e at comes other) known.0,
+      later before e known.1,
+    );
+    quiet = λ before e legal next own q known. (
+      own_leaves setup session user replies before e legal next (q.takes_nobody user) q.accepts_none q.leaves_none
+          known.0,
+      later before e known.1,
+    );
+  }
+
   -- the session holds a user
   pub holding : (user : Name) (replies : List ℕ) → RepliesWithinHold setup journal session user
       → Lasts (Holds session user replies)
   holding user replies hold = record {
-    others = λ s before e at comes other held. others_leave setup journal session user replies before e hold at.legal
-        comes (not_own setup journal worker session s before e at comes other) held;
+    others = λ s before e at comes other held. others_leave setup journal session user replies before e
+        (hold.within before e comes.stands) at.legal comes
+        (not_own setup journal worker session s before e at comes other) held;
     quiet = λ before e legal next own q held. own_leaves setup session user replies before e legal next
         (q.takes_nobody user) q.accepts_none q.leaves_none held;
   }

@@ -32,12 +32,17 @@ taken_at before user = option_map_or (λ e. moment_of e.ask) (last_taking_of bef
 abbrev pub asks_for : Name → Ask → Bool
 asks_for user ask = is_user user (challenge_name ask)
 
--- while the session holds the user, other sessions ask for that user only at moments less than the hold after the
--- moment at which this one was challenged
+-- where the session holds the user, an ask of another session for that user comes at a moment less than the hold after
+-- the one at which this session was challenged
+abbrev pub ComesWithinHold : Settings → List Event → ℕ → Name → Event → Type 0
+ComesWithinHold setup before session user e =
+    holder_of before user ≡ Some session → e.session ≢ session → asks_for user e.ask ≡ true
+    → moment_of e.ask < taken_at before user + setup.hold
+
+-- each event does so
 pub record RepliesWithinHold (setup : Settings) (journal : List Event) (session : ℕ) (user : Name) : Type 0 where
   pub within : (before : List Event) (e : Event) → ComesAfter journal before e
-      → holder_of before user ≡ Some session → e.session ≢ session → asks_for user e.ask ≡ true
-      → moment_of e.ask < taken_at before user + setup.hold
+      → ComesWithinHold setup before session user e
 
 -- ---- the user
 

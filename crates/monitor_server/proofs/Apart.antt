@@ -15,11 +15,13 @@ use Rattle.check_mode.specs.Words.{check_command}
 use Rattle.child_mode.specs.Words.{ChildParts, child_command}
 use Rattle.audit_mode.specs.Words.{AuditParts, audit_command}
 use Rattle.drill_mode.specs.Words.{drill_command, drill_number}
+use Rattle.enrol_mode.specs.Words.{EnrolParts, enrol_command}
 use Rattle.text_line.specs.Reading.{decimal_of}
 use Rattle.otp_extended.specs.Commands.{RenewParts, renew_command}
 use Rattle.recover_mode.specs.Words.{RecoverParts, recover_command}
+use Rattle.request_catalogue.specs.Texts.{is_name}
 use Rattle.serve_mode.specs.Words.{Named, Plain, Source, serve_command}
-use Rattle.monitor_server.specs.Commands.{asks_audit, asks_check, asks_child, asks_drill, asks_otp, asks_recover, asks_renew, asks_serve}
+use Rattle.monitor_server.specs.Commands.{asks_audit, asks_check, asks_child, asks_drill, asks_enrol, asks_otp, asks_recover, asks_renew, asks_serve}
 
 pub none-some : {A B : Type 0} (o : Option A) (a : A) → o ≡ None → o ≡ Some a → B
 none-some o a none some = absurd (let e : None ≡ Some a = sym none ∙ some in cc)
@@ -44,6 +46,7 @@ pub data Mode : Type 0 where
   Renew : Mode
   Drill : Mode
   Recover : Mode
+  Enrol : Mode
 
 abbrev pub place : Mode → ℕ
 place Serve = 0
@@ -54,10 +57,11 @@ place Audit = 4
 place Renew = 5
 place Drill = 6
 place Recover = 7
+place Enrol = 8
 
 -- the words of the modes
 abbrev mode_words : List (List ℕ × Mode)
-mode_words = (codes "serve", Serve) ∷ (codes "otp", Otp) ∷ (codes "check", Check) ∷ (codes "child-pre", Child) ∷ (codes "child-user", Child) ∷ (codes "audit", Audit) ∷ (codes "renew", Renew) ∷ (codes "drill", Drill) ∷ (codes "recover", Recover) ∷ []
+mode_words = (codes "serve", Serve) ∷ (codes "otp", Otp) ∷ (codes "check", Check) ∷ (codes "child-pre", Child) ∷ (codes "child-user", Child) ∷ (codes "audit", Audit) ∷ (codes "renew", Renew) ∷ (codes "drill", Drill) ∷ (codes "recover", Recover) ∷ (codes "enrol", Enrol) ∷ []
 
 -- the mode that a word names, of a list of such words
 abbrev named_in : List (List ℕ × Mode) → List ℕ → Option Mode
@@ -134,12 +138,23 @@ recover_mode_of (mode ∷ setup ∷ []) parts asked = none-some (recover_command
 recover_mode_of (mode ∷ setup ∷ log ∷ []) parts asked = begins mode (codes "recover") (setup ∷ log ∷ []) Recover (then_true (bytes_eq mode (codes "recover")) (record { setup = setup; log = log }) parts asked) refl
 recover_mode_of (mode ∷ setup ∷ log ∷ more ∷ rest) parts asked = none-some (recover_command (mode ∷ setup ∷ log ∷ more ∷ rest)) parts refl asked
 
+enrol_mode_of : (words : List (List ℕ)) (parts : EnrolParts) → enrol_command words ≡ Some parts → mode_of words ≡ Some Enrol
+enrol_mode_of [] parts asked = none-some (enrol_command []) parts refl asked
+enrol_mode_of (mode ∷ []) parts asked = none-some (enrol_command (mode ∷ [])) parts refl asked
+enrol_mode_of (mode ∷ one ∷ []) parts asked = none-some (enrol_command (mode ∷ one ∷ [])) parts refl asked
+enrol_mode_of (mode ∷ one ∷ two ∷ []) parts asked = none-some (enrol_command (mode ∷ one ∷ two ∷ [])) parts refl asked
+enrol_mode_of (mode ∷ one ∷ two ∷ three ∷ []) parts asked = none-some (enrol_command (mode ∷ one ∷ two ∷ three ∷ [])) parts refl asked
+enrol_mode_of (mode ∷ one ∷ two ∷ three ∷ four ∷ []) parts asked = none-some (enrol_command (mode ∷ one ∷ two ∷ three ∷ four ∷ [])) parts refl asked
+enrol_mode_of (mode ∷ name ∷ uid ∷ algo ∷ number ∷ seed ∷ []) parts asked = begins mode (codes "enrol") (name ∷ uid ∷ algo ∷ number ∷ seed ∷ []) Enrol (first_true (bytes_eq mode (codes "enrol")) (is_name name) (first_true (bytes_eq mode (codes "enrol") && is_name name) (is_seed_text seed) (cond_true _ _ parts asked))) refl
+enrol_mode_of (mode ∷ one ∷ two ∷ three ∷ four ∷ five ∷ more ∷ rest) parts asked = none-some (enrol_command (mode ∷ one ∷ two ∷ three ∷ four ∷ five ∷ more ∷ rest)) parts refl asked
+
 renew_mode_of : (words : List (List ℕ)) (parts : RenewParts) → renew_command words ≡ Some parts → mode_of words ≡ Some Renew
 renew_mode_of [] parts asked = none-some (renew_command []) parts refl asked
 renew_mode_of (mode ∷ []) parts asked = none-some (renew_command (mode ∷ [])) parts refl asked
 renew_mode_of (mode ∷ setup ∷ []) parts asked = none-some (renew_command (mode ∷ setup ∷ [])) parts refl asked
 renew_mode_of (mode ∷ setup ∷ user ∷ []) parts asked = begins mode (codes "renew") (setup ∷ user ∷ []) Renew (cond_true (bytes_eq mode (codes "renew")) _ parts asked) refl
-renew_mode_of (mode ∷ setup ∷ log ∷ more ∷ rest) parts asked = none-some (renew_command (mode ∷ setup ∷ log ∷ more ∷ rest)) parts refl asked
+renew_mode_of (mode ∷ setup ∷ user ∷ log ∷ []) parts asked = begins mode (codes "renew") (setup ∷ user ∷ log ∷ []) Renew (cond_true (bytes_eq mode (codes "renew")) _ parts asked) refl
+renew_mode_of (mode ∷ setup ∷ user ∷ log ∷ more ∷ rest) parts asked = none-some (renew_command (mode ∷ setup ∷ user ∷ log ∷ more ∷ rest)) parts refl asked
 
 drill_mode_of : (words : List (List ℕ)) (number : ℕ) → drill_command words ≡ Some number → mode_of words ≡ Some Drill
 drill_mode_of [] number asked = none-some (drill_command []) number refl asked
@@ -169,6 +184,7 @@ same_place Audit e = absurd cc
 same_place Renew e = absurd cc
 same_place Drill e = absurd cc
 same_place Recover e = absurd cc
+same_place Enrol e = absurd cc
 
 -- so they ask another mode for nothing
 apart : {A : Type 0} (read : List (List ℕ) → Option A) (mode other : Mode) → ((plain : List (List ℕ)) (a : A) → read plain ≡ Some a → mode_of plain ≡ Some mode) → (words : List (List ℕ)) → mode_in words ≡ Some other → (place mode == place other) ≡ false → option_and_then read (words_without_hyphen words) ≡ None
@@ -186,6 +202,7 @@ pub record AskOnly (words : List (List ℕ)) (mode : Mode) : Type 0 where
   pub renew : (place Renew == place mode) ≡ false → asks_renew words ≡ None
   pub drill : (place Drill == place mode) ≡ false → asks_drill words ≡ None
   pub recover : (place Recover == place mode) ≡ false → asks_recover words ≡ None
+  pub enrol : (place Enrol == place mode) ≡ false → asks_enrol words ≡ None
 
 ask_only : (words : List (List ℕ)) (mode : Mode) → mode_in words ≡ Some mode → AskOnly words mode
 ask_only words mode is = record {
@@ -197,6 +214,7 @@ ask_only words mode is = record {
   renew = apart renew_command Renew mode renew_mode_of words is;
   drill = apart drill_command Drill mode drill_mode_of words is;
   recover = apart recover_command Recover mode recover_mode_of words is;
+  enrol = apart enrol_command Enrol mode enrol_mode_of words is;
 }
 
 pub only_serve : (words : List (List ℕ)) (source : Source) → asks_serve words ≡ Some source → AskOnly words Serve
@@ -222,6 +240,9 @@ only_drill words number asked = ask_only words Drill (asked_mode drill_command D
 
 pub only_recover : (words : List (List ℕ)) (parts : RecoverParts) → asks_recover words ≡ Some parts → AskOnly words Recover
 only_recover words parts asked = ask_only words Recover (asked_mode recover_command Recover recover_mode_of words parts asked)
+
+pub only_enrol : (words : List (List ℕ)) (parts : EnrolParts) → asks_enrol words ≡ Some parts → AskOnly words Enrol
+only_enrol words parts asked = ask_only words Enrol (asked_mode enrol_command Enrol enrol_mode_of words parts asked)
 
 -- ---- the number of a drill
 

@@ -1,5 +1,5 @@
 -- What the statuses and the details of the modes tell.
-use Rattle.std.proofs.Common.{◌≡◌, ◌≢◌, ℕ, Bool, true, false, ◌&&◌, ◌||◌, List, [], ◌∷◌, Some, None, Result, Ok, Err, refl, sym, ap, subst, ◌∙◌, inl, inr, arith}
+use Rattle.std.proofs.Common.{◌≡◌, ◌≢◌, ◌≤◌, ◌⊎◌, ℕ, Bool, true, false, ◌&&◌, ◌||◌, List, [], ◌∷◌, Some, None, Result, Ok, Err, refl, sym, ap, subst, ◌∙◌, inl, inr, arith}
 use Rattle.std.specs.Prelude.{not, ◌==◌, Vec}
 use Rattle.std.specs.Global.{Global}
 use Rattle.std.specs.List.{list_any}
@@ -25,6 +25,9 @@ use Rattle.policy_model.specs.declared.event.Event.{Event}
 use Rattle.drill_mode.specs.declared.error.DrillError.{DrillError}
 use Rattle.drill_mode.specs.declared.error.DrillError.TheVariants as drill_errors
 use Rattle.drill_mode.specs.Errors as drills
+use Rattle.enrol_mode.specs.declared.fault.EnrolFault.{EnrolFault}
+use Rattle.enrol_mode.specs.declared.fault.EnrolFault.TheVariants as enrol_faults
+use Rattle.enrol_mode.specs.Faults as enrolments
 use Rattle.otp_extended.specs.declared.renewal.Renewed.{Renewed}
 use Rattle.otp_extended.specs.declared.run.RenewalFault.TheVariants as renewal_faults
 use Rattle.renew_mode.specs.declared.error.RenewError.{RenewError}
@@ -77,6 +80,7 @@ renew_status (Err renew_errors.SetupMissing) = refl
 renew_status (Err (renew_errors.SetupRefused fault)) = refl
 renew_status (Err renew_errors.WordsMissing) = refl
 renew_status (Err (renew_errors.WordsRefused fault)) = refl
+renew_status (Err renew_errors.LogNotFresh) = refl
 renew_status (Err (renew_errors.NoRenewal renewal_faults.OutOfMemory)) = refl
 renew_status (Err (renew_errors.NoRenewal renewal_faults.EndsFailed)) = refl
 renew_status (Err (renew_errors.NoRenewal renewal_faults.LineTooLong)) = refl
@@ -101,6 +105,31 @@ drill_status (Ok journal) = refl
 drill_status (Err drill_errors.OutOfMemory) = refl
 drill_status (Err drill_errors.CeasedToTell) = refl
 drill_status (Err drill_errors.EndsFailed) = refl
+
+pub enrol_status : (outcome : Result (Unit {0}) EnrolFault) → IsModeStatus (enrolments.status_of outcome)
+enrol_status (Ok done) = refl
+enrol_status (Err enrol_faults.OutOfMemory) = refl
+enrol_status (Err enrol_faults.EndsFailed) = refl
+enrol_status (Err enrol_faults.PhraseRefused) = refl
+
+-- the mode `enrol` reads no file
+pub enrol_files : (outcome : Result (Unit {0}) EnrolFault) (status : ℕ) → status ≡ enrolments.status_of outcome → (status ≡ 3) ⊎ (status ≡ 4) ⊎ (status ≡ 5) ⊎ (status ≡ 13) → ⊥
+enrol_files outcome status is how = go outcome is (within how) where
+  within : (status ≡ 3) ⊎ (status ≡ 4) ⊎ (status ≡ 5) ⊎ (status ≡ 13) → ((3 ≤ status) × (status ≤ 5)) ⊎ (status ≡ 13)
+  within (inl e) = inl (omega (arith, e), omega (arith, e))
+  within (inr (inl e)) = inl (omega (arith, e), omega (arith, e))
+  within (inr (inr (inl e))) = inl (omega (arith, e), omega (arith, e))
+  within (inr (inr (inr e))) = inr e
+
+  go : (outcome : Result (Unit {0}) EnrolFault) → status ≡ enrolments.status_of outcome → ((3 ≤ status) × (status ≤ 5)) ⊎ (status ≡ 13) → ⊥
+  go (Ok done) is (inl few) = omega (arith, is, few.0, few.1)
+  go (Ok done) is (inr e) = omega (arith, is, e)
+  go (Err enrol_faults.OutOfMemory) is (inl few) = omega (arith, is, few.0, few.1)
+  go (Err enrol_faults.OutOfMemory) is (inr e) = omega (arith, is, e)
+  go (Err enrol_faults.EndsFailed) is (inl few) = omega (arith, is, few.0, few.1)
+  go (Err enrol_faults.EndsFailed) is (inr e) = omega (arith, is, e)
+  go (Err enrol_faults.PhraseRefused) is (inl few) = omega (arith, is, few.0, few.1)
+  go (Err enrol_faults.PhraseRefused) is (inr e) = omega (arith, is, e)
 
 pub child_status : (outcome : ChildRun) → IsModeStatus (children.run_status outcome)
 child_status (runs.Ended ends.Done) = refl
@@ -163,6 +192,7 @@ renew_plain (Err renew_errors.SetupMissing) plain = absurd (plain.four refl)
 renew_plain (Err (renew_errors.SetupRefused fault)) plain = absurd (plain.five refl)
 renew_plain (Err renew_errors.WordsMissing) plain = absurd (plain.four refl)
 renew_plain (Err (renew_errors.WordsRefused fault)) plain = absurd (plain.five refl)
+renew_plain (Err renew_errors.LogNotFresh) plain = absurd (plain.thirteen refl)
 renew_plain (Err (renew_errors.NoRenewal renewal_faults.OutOfMemory)) plain = refl
 renew_plain (Err (renew_errors.NoRenewal renewal_faults.EndsFailed)) plain = refl
 renew_plain (Err (renew_errors.NoRenewal renewal_faults.LineTooLong)) plain = refl

@@ -21,6 +21,8 @@ use Rattle.child_mode.specs.Words.{ChildParts, child_command}
 use Rattle.audit_mode.specs.Outcome as audits
 use Rattle.audit_mode.specs.Words.{AuditParts, audit_command}
 use Rattle.drill_mode.specs.Words.{drill_command}
+use Rattle.enrol_mode.specs.Command as enrolments_command
+use Rattle.enrol_mode.specs.Words.{EnrolParts, enrol_command}
 use Rattle.otp_extended.specs.Commands.{RenewParts, renew_command}
 use Rattle.renew_mode.specs.Errors as renews
 use Rattle.renew_mode.specs.Outcome.{Spares}
@@ -45,12 +47,12 @@ use Rattle.monitor_server.specs.Alone.{IsRunOf, SparesRest, unread_answer}
 use Rattle.monitor_server.specs.declared.report.Answer.{Answer}
 use Rattle.monitor_server.specs.declared.report.Detail.{Detail}
 use Rattle.monitor_server.specs.declared.report.Detail.TheVariants.{Nothing}
-use Rattle.monitor_server.specs.Commands.{AsksAlone, IsCommand, IsReading, asks_audit, asks_check, asks_child, asks_drill, asks_otp, asks_recover, asks_renew, asks_serve}
+use Rattle.monitor_server.specs.Commands.{AsksAlone, IsCommand, IsReading, asks_audit, asks_check, asks_child, asks_drill, asks_enrol, asks_otp, asks_recover, asks_renew, asks_serve}
 use Rattle.monitor_server.specs.Headline.{IsStatus, UsesNothing, StatusHasCause}
-use Rattle.monitor_server.specs.Modes.{AuditRan, ChangesFiles, CheckRan, ChildRan, DrillRan, LeavesRest, PasswordRan, RecoverRan, RenewRan, ServeRan, audit_detail, checked_detail, detail_of, recover_detail, renew_detail, serve_detail}
+use Rattle.monitor_server.specs.Modes.{AuditRan, ChangesFiles, CheckRan, ChildRan, DrillRan, EnrolRan, LeavesRest, PasswordRan, RecoverRan, RenewRan, ServeRan, audit_detail, checked_detail, detail_of, recover_detail, renew_detail, serve_detail}
 use Rattle.monitor_server.specs.Whole.{Whole}
-use Rattle.monitor_server.proofs.Apart.{AskOnly, Recover, Renew, none-some, only_audit, only_check, only_child, only_drill, only_otp, only_recover, only_renew, only_serve, spoken}
-use Rattle.monitor_server.proofs.Told.{IsModeStatus, audit_plain, audit_status, check_detail, check_status, child_status, detail-by, drill_status, moded, password_detail, password_status, recover_plain, recover_status, renew_plain, renew_status, serve_command_status, serve_plain, serve_status, served, uncommanded, unremembered}
+use Rattle.monitor_server.proofs.Apart.{AskOnly, Recover, Renew, none-some, only_audit, only_check, only_child, only_drill, only_enrol, only_otp, only_recover, only_renew, only_serve, spoken}
+use Rattle.monitor_server.proofs.Told.{IsModeStatus, audit_plain, audit_status, check_detail, check_status, child_status, detail-by, drill_status, enrol_files, enrol_status, moded, password_detail, password_status, recover_plain, recover_status, renew_plain, renew_status, serve_command_status, serve_plain, serve_status, served, uncommanded, unremembered}
 
 -- ---- the files that are changed
 
@@ -92,7 +94,7 @@ changes-recovered words parts status detail old new before after R P E asked ran
 -- ---- all that is said of each command
 
 -- where nobody was served, and a mode ran
-moded-leaves : {F S E K P : Type 0} {words : List (List ℕ)} {status : ℕ} {detail : Detail} {journal : List Event} {posts : List P} {files_old files_new : F} {site_old site_new : S} {ends_old ends_new : E} {log_old log_new : K} → asks_serve words ≡ None → (asks_otp words ≡ None → asks_check words ≡ None → asks_audit words ≡ None → asks_renew words ≡ None → asks_recover words ≡ None → files_new ≡ files_old) → (asks_otp words ≡ None → asks_check words ≡ None → asks_child words ≡ None → asks_audit words ≡ None → asks_renew words ≡ None → asks_drill words ≡ None → asks_recover words ≡ None → ends_new ≡ ends_old) → site_new ≡ site_old → UsesNothing log_old log_new journal posts → ((parts : OtpParts) → asks_otp words ≡ Some parts → parts.list ≡ None → files_new ≡ files_old) → ((status ≡ 3) ⊎ (status ≡ 9) × (asks_renew words ≡ None) → ends_new ≡ ends_old) → (asks_check words ≡ None → (status ≡ 4) ⊎ (status ≡ 5) → ends_new ≡ ends_old) → ((status ≡ 0 → asks_check words ≡ None) → status ≢ 4 → status ≢ 5 → status ≢ 13 → status ≢ 14 → status ≢ 15 → detail ≡ Nothing) → LeavesRest words status detail files_old files_new site_old site_new ends_old ends_new log_old log_new journal posts
+moded-leaves : {F S E K P : Type 0} {words : List (List ℕ)} {status : ℕ} {detail : Detail} {journal : List Event} {posts : List P} {files_old files_new : F} {site_old site_new : S} {ends_old ends_new : E} {log_old log_new : K} → asks_serve words ≡ None → (asks_otp words ≡ None → asks_check words ≡ None → asks_audit words ≡ None → asks_renew words ≡ None → asks_recover words ≡ None → files_new ≡ files_old) → (asks_otp words ≡ None → asks_check words ≡ None → asks_child words ≡ None → asks_audit words ≡ None → asks_renew words ≡ None → asks_drill words ≡ None → asks_recover words ≡ None → asks_enrol words ≡ None → ends_new ≡ ends_old) → site_new ≡ site_old → UsesNothing log_old log_new journal posts → ((parts : OtpParts) → asks_otp words ≡ Some parts → parts.list ≡ None → files_new ≡ files_old) → ((status ≡ 3) ⊎ (status ≡ 9) × (asks_renew words ≡ None) × (asks_enrol words ≡ None) → ends_new ≡ ends_old) → (asks_check words ≡ None → (status ≡ 4) ⊎ (status ≡ 5) ⊎ (status ≡ 13) → ends_new ≡ ends_old) → ((status ≡ 0 → asks_check words ≡ None) → status ≢ 4 → status ≢ 5 → status ≢ 13 → status ≢ 14 → status ≢ 15 → detail ≡ Nothing) → LeavesRest words status detail files_old files_new site_old site_new ends_old ends_new log_old log_new journal posts
 moded-leaves {words = words} unserved files ends site unused unread silent unprinted plain = record {
   files = λ _. files;
   plain_setup = λ plain. none-some (asks_serve words) Plain unserved plain;
@@ -107,7 +109,7 @@ moded-leaves {words = words} unserved files ends site unused unread silent unpri
 }
 
 -- a mode that is silent with 9 too
-three_or_nine : {A B C : Type 0} → A ⊎ B × C → A ⊎ B
+three_or_nine : {A B C D : Type 0} → A ⊎ B × C × D → A ⊎ B
 three_or_nine (inl a) = inl a
 three_or_nine (inr both) = inr both.0
 
@@ -129,10 +131,11 @@ module _ {F S E K P : Type 0} {words : List (List ℕ)} {forms : List Key} {stat
     renew = record { ran = λ other is. none-some (asks_renew words) other (only.renew refl) is };
     drill = record { ran = λ other is. none-some (asks_drill words) other (only.drill refl) is };
     recover = record { ran = λ other is. none-some (asks_recover words) other (only.recover refl) is };
+    enrol = record { ran = λ other is. none-some (asks_enrol words) other (only.enrol refl) is };
     leaves = record {
       files = λ none _ _ _ _ _. none-some (asks_serve words) source none asked;
       plain_setup = λ is. plain (once source Plain (sym asked ∙ is));
-      ends = λ _ _ _ _ _ _ _. ends;
+      ends = λ _ _ _ _ _ _ _ _. ends;
       site = λ none. none-some (asks_serve words) source none asked;
       unserved = λ none. none-some (asks_serve words) source none asked;
       eventless = λ none _. none-some (asks_serve words) source none asked;
@@ -151,7 +154,7 @@ module _ {F S E K P : Type 0} {words : List (List ℕ)} {forms : List Key} {stat
     once : (a b : Source) → Some a ≡ Some b → a ≡ b
     once a b e = cc
 
-  pub whole-password : (parts : OtpParts) → asks_otp words ≡ Some parts → PasswordRan parts status detail new before after ReadRose EndsRose → UsesNothing log_old log_new journal posts → (parts.list ≡ None → files_new ≡ files_old) → ((status ≡ 3) ⊎ (status ≡ 9) → ends_new ≡ ends_old) → ((status ≡ 4) ⊎ (status ≡ 5) → ends_new ≡ ends_old) → site_new ≡ site_old → Goes SameFiles old new
+  pub whole-password : (parts : OtpParts) → asks_otp words ≡ Some parts → PasswordRan parts status detail new before after ReadRose EndsRose → UsesNothing log_old log_new journal posts → (parts.list ≡ None → files_new ≡ files_old) → ((status ≡ 3) ⊎ (status ≡ 9) → ends_new ≡ ends_old) → ((status ≡ 4) ⊎ (status ≡ 5) ⊎ (status ≡ 13) → ends_new ≡ ends_old) → site_new ≡ site_old → Goes SameFiles old new
       → Whole words forms status detail journal posts scene faults files_old files_new site_old site_new ends_old ends_new log_old log_new old new before after listens_old listens_new held_old held_new ReadRose ReplaceRose ListenRose LogRose EndsRose
   whole-password parts asked ran unused unread silent at_list site goes =
       let status_is = sym ran.status_is in
@@ -171,7 +174,8 @@ module _ {F S E K P : Type 0} {words : List (List ℕ)} {forms : List Key} {stat
         renew = record { ran = λ other is. none-some (asks_renew words) other (only.renew refl) is };
         drill = record { ran = λ other is. none-some (asks_drill words) other (only.drill refl) is };
         recover = record { ran = λ other is. none-some (asks_recover words) other (only.recover refl) is };
-        leaves = moded-leaves (only.serve refl) (λ none _ _ _ _. none-some (asks_otp words) parts none asked) (λ none _ _ _ _ _ _. none-some (asks_otp words) parts none asked) site unused (λ other is none. unread (ap (λ (p : OtpParts). p.list) (let e : Some parts ≡ Some other = sym asked ∙ is in let same : parts ≡ other = cc in same) ∙ none)) (λ how. silent (three_or_nine how)) (λ _. at_list) (λ _. detail-by passwords.status_of detail_of ran.outcome status detail ran.status_is ran.detail_is (password_detail ran.outcome));
+        enrol = record { ran = λ other is. none-some (asks_enrol words) other (only.enrol refl) is };
+        leaves = moded-leaves (only.serve refl) (λ none _ _ _ _. none-some (asks_otp words) parts none asked) (λ none _ _ _ _ _ _ _. none-some (asks_otp words) parts none asked) site unused (λ other is none. unread (ap (λ (p : OtpParts). p.list) (let e : Some parts ≡ Some other = sym asked ∙ is in let same : parts ≡ other = cc in same) ∙ none)) (λ how. silent (three_or_nine how)) (λ _. at_list) (λ _. detail-by passwords.status_of detail_of ran.outcome status detail ran.status_is ran.detail_is (password_detail ran.outcome));
         changes = changes-none words status old new goes;
       }
 
@@ -195,11 +199,12 @@ module _ {F S E K P : Type 0} {words : List (List ℕ)} {forms : List Key} {stat
         renew = record { ran = λ other is. none-some (asks_renew words) other (only.renew refl) is };
         drill = record { ran = λ other is. none-some (asks_drill words) other (only.drill refl) is };
         recover = record { ran = λ other is. none-some (asks_recover words) other (only.recover refl) is };
-        leaves = moded-leaves (only.serve refl) (λ _ none _ _ _. none-some (asks_check words) setup none asked) (λ _ none _ _ _ _ _. none-some (asks_check words) setup none asked) site unused (λ parts is _. none-some (asks_otp words) parts (only.otp refl) is) (λ how. silent (three_or_nine how)) (λ none _. none-some (asks_check words) setup none asked) (λ zero. detail-by checks.status_of checked_detail ran.outcome status detail ran.status_is ran.detail_is (check_detail ran.outcome (λ e. none-some (asks_check words) setup (zero (ran.status_is ∙ e)) asked)));
+        enrol = record { ran = λ other is. none-some (asks_enrol words) other (only.enrol refl) is };
+        leaves = moded-leaves (only.serve refl) (λ _ none _ _ _. none-some (asks_check words) setup none asked) (λ _ none _ _ _ _ _ _. none-some (asks_check words) setup none asked) site unused (λ parts is _. none-some (asks_otp words) parts (only.otp refl) is) (λ how. silent (three_or_nine how)) (λ none _. none-some (asks_check words) setup none asked) (λ zero. detail-by checks.status_of checked_detail ran.outcome status detail ran.status_is ran.detail_is (check_detail ran.outcome (λ e. none-some (asks_check words) setup (zero (ran.status_is ∙ e)) asked)));
         changes = changes-none words status old new goes;
       }
 
-  pub whole-child : (parts : ChildParts) → asks_child words ≡ Some parts → ChildRan parts status before after EndsRose → detail ≡ Nothing → UsesNothing log_old log_new journal posts → ((status ≡ 3) ⊎ (status ≡ 9) → ends_new ≡ ends_old) → ((status ≡ 4) ⊎ (status ≡ 5) → ends_new ≡ ends_old) → files_new ≡ files_old → site_new ≡ site_old → Goes SameFiles old new
+  pub whole-child : (parts : ChildParts) → asks_child words ≡ Some parts → ChildRan parts status before after EndsRose → detail ≡ Nothing → UsesNothing log_old log_new journal posts → ((status ≡ 3) ⊎ (status ≡ 9) → ends_new ≡ ends_old) → ((status ≡ 4) ⊎ (status ≡ 5) ⊎ (status ≡ 13) → ends_new ≡ ends_old) → files_new ≡ files_old → site_new ≡ site_old → Goes SameFiles old new
       → Whole words forms status detail journal posts scene faults files_old files_new site_old site_new ends_old ends_new log_old log_new old new before after listens_old listens_new held_old held_new ReadRose ReplaceRose ListenRose LogRose EndsRose
   whole-child parts asked ran plain unused silent no_file files site goes =
       let status_is = sym ran.status_is in
@@ -219,11 +224,12 @@ module _ {F S E K P : Type 0} {words : List (List ℕ)} {forms : List Key} {stat
         renew = record { ran = λ other is. none-some (asks_renew words) other (only.renew refl) is };
         drill = record { ran = λ other is. none-some (asks_drill words) other (only.drill refl) is };
         recover = record { ran = λ other is. none-some (asks_recover words) other (only.recover refl) is };
-        leaves = moded-leaves (only.serve refl) (λ _ _ _ _ _. files) (λ _ _ none _ _ _ _. none-some (asks_child words) parts none asked) site unused (λ _ _ _. files) (λ how. silent (three_or_nine how)) (λ _. no_file) (λ _ _ _ _ _ _. plain);
+        enrol = record { ran = λ other is. none-some (asks_enrol words) other (only.enrol refl) is };
+        leaves = moded-leaves (only.serve refl) (λ _ _ _ _ _. files) (λ _ _ none _ _ _ _ _. none-some (asks_child words) parts none asked) site unused (λ _ _ _. files) (λ how. silent (three_or_nine how)) (λ _. no_file) (λ _ _ _ _ _ _. plain);
         changes = changes-none words status old new goes;
       }
 
-  pub whole-audited : (parts : AuditParts) → asks_audit words ≡ Some parts → AuditRan parts status detail new before after ReadRose EndsRose → UsesNothing log_old log_new journal posts → ((status ≡ 3) ⊎ (status ≡ 9) → ends_new ≡ ends_old) → ((status ≡ 4) ⊎ (status ≡ 5) → ends_new ≡ ends_old) → site_new ≡ site_old → Goes SameFiles old new
+  pub whole-audited : (parts : AuditParts) → asks_audit words ≡ Some parts → AuditRan parts status detail new before after ReadRose EndsRose → UsesNothing log_old log_new journal posts → ((status ≡ 3) ⊎ (status ≡ 9) → ends_new ≡ ends_old) → ((status ≡ 4) ⊎ (status ≡ 5) ⊎ (status ≡ 13) → ends_new ≡ ends_old) → site_new ≡ site_old → Goes SameFiles old new
       → Whole words forms status detail journal posts scene faults files_old files_new site_old site_new ends_old ends_new log_old log_new old new before after listens_old listens_new held_old held_new ReadRose ReplaceRose ListenRose LogRose EndsRose
   whole-audited parts asked ran unused silent at_file site goes =
       let status_is = sym ran.status_is in
@@ -243,11 +249,12 @@ module _ {F S E K P : Type 0} {words : List (List ℕ)} {forms : List Key} {stat
         renew = record { ran = λ other is. none-some (asks_renew words) other (only.renew refl) is };
         drill = record { ran = λ other is. none-some (asks_drill words) other (only.drill refl) is };
         recover = record { ran = λ other is. none-some (asks_recover words) other (only.recover refl) is };
-        leaves = moded-leaves (only.serve refl) (λ _ _ none _ _. none-some (asks_audit words) parts none asked) (λ _ _ _ none _ _ _. none-some (asks_audit words) parts none asked) site unused (λ other is _. none-some (asks_otp words) other (only.otp refl) is) (λ how. silent (three_or_nine how)) (λ _. at_file) (λ _. detail-by audits.status_of audit_detail ran.outcome status detail ran.status_is ran.detail_is (audit_plain ran.outcome));
+        enrol = record { ran = λ other is. none-some (asks_enrol words) other (only.enrol refl) is };
+        leaves = moded-leaves (only.serve refl) (λ _ _ none _ _. none-some (asks_audit words) parts none asked) (λ _ _ _ none _ _ _ _. none-some (asks_audit words) parts none asked) site unused (λ other is _. none-some (asks_otp words) other (only.otp refl) is) (λ how. silent (three_or_nine how)) (λ _. at_file) (λ _. detail-by audits.status_of audit_detail ran.outcome status detail ran.status_is ran.detail_is (audit_plain ran.outcome));
         changes = changes-none words status old new goes;
       }
 
-  pub whole-renewed : (parts : RenewParts) → asks_renew words ≡ Some parts → RenewRan parts status detail old new before after ReadRose ReplaceRose EndsRose → UsesNothing log_old log_new journal posts → ((status ≡ 3) ⊎ (status ≡ 4) ⊎ (status ≡ 5) → ends_new ≡ ends_old) → site_new ≡ site_old
+  pub whole-renewed : (parts : RenewParts) → asks_renew words ≡ Some parts → RenewRan parts status detail old new before after ReadRose ReplaceRose EndsRose → UsesNothing log_old log_new journal posts → ((status ≡ 3) ⊎ (status ≡ 4) ⊎ (status ≡ 5) ⊎ (status ≡ 13) → ends_new ≡ ends_old) → site_new ≡ site_old
       → Whole words forms status detail journal posts scene faults files_old files_new site_old site_new ends_old ends_new log_old log_new old new before after listens_old listens_new held_old held_new ReadRose ReplaceRose ListenRose LogRose EndsRose
   whole-renewed parts asked ran unused at_files site =
       let status_is = sym ran.status_is in
@@ -267,14 +274,15 @@ module _ {F S E K P : Type 0} {words : List (List ℕ)} {forms : List Key} {stat
         };
         drill = record { ran = λ other is. none-some (asks_drill words) other (only.drill refl) is };
         recover = record { ran = λ other is. none-some (asks_recover words) other (only.recover refl) is };
-        leaves = moded-leaves (only.serve refl) (λ _ _ _ none _. none-some (asks_renew words) parts none asked) (λ _ _ _ _ none _ _. none-some (asks_renew words) parts none asked) site unused (λ other is _. none-some (asks_otp words) other (only.otp refl) is) silent (λ _ how. at_files (inr how)) (λ _. detail-by renews.status_of renew_detail ran.outcome status detail ran.status_is ran.detail_is (renew_plain ran.outcome));
+        enrol = record { ran = λ other is. none-some (asks_enrol words) other (only.enrol refl) is };
+        leaves = moded-leaves (only.serve refl) (λ _ _ _ none _. none-some (asks_renew words) parts none asked) (λ _ _ _ _ none _ _ _. none-some (asks_renew words) parts none asked) site unused (λ other is _. none-some (asks_otp words) other (only.otp refl) is) silent (λ _ how. at_files (inr how)) (λ _. detail-by renews.status_of renew_detail ran.outcome status detail ran.status_is ran.detail_is (renew_plain ran.outcome));
         changes = changes-renewed words parts status detail old new before after ReadRose ReplaceRose EndsRose asked ran only;
       } where
-        silent : (status ≡ 3) ⊎ (status ≡ 9) × (asks_renew words ≡ None) → ends_new ≡ ends_old
+        silent : (status ≡ 3) ⊎ (status ≡ 9) × (asks_renew words ≡ None) × (asks_enrol words ≡ None) → ends_new ≡ ends_old
         silent (inl three) = at_files (inl three)
         silent (inr nine) = none-some (asks_renew words) parts nine.1 asked
 
-  pub whole-drilled : (number : ℕ) → asks_drill words ≡ Some number → DrillRan number status journal before after EndsRose → detail ≡ Nothing → log_new ≡ log_old → posts ≡ [] → ((status ≡ 3) ⊎ (status ≡ 9) → ends_new ≡ ends_old) → ((status ≡ 4) ⊎ (status ≡ 5) → ends_new ≡ ends_old) → files_new ≡ files_old → site_new ≡ site_old → Goes SameFiles old new
+  pub whole-drilled : (number : ℕ) → asks_drill words ≡ Some number → DrillRan number status journal before after EndsRose → detail ≡ Nothing → log_new ≡ log_old → posts ≡ [] → ((status ≡ 3) ⊎ (status ≡ 9) → ends_new ≡ ends_old) → ((status ≡ 4) ⊎ (status ≡ 5) ⊎ (status ≡ 13) → ends_new ≡ ends_old) → files_new ≡ files_old → site_new ≡ site_old → Goes SameFiles old new
       → Whole words forms status detail journal posts scene faults files_old files_new site_old site_new ends_old ends_new log_old log_new old new before after listens_old listens_new held_old held_new ReadRose ReplaceRose ListenRose LogRose EndsRose
   whole-drilled number asked ran plain log workers silent no_file files site goes =
       let of : IsModeStatus status = subst IsModeStatus (sym ran.status_is) (drill_status ran.outcome) in
@@ -293,10 +301,11 @@ module _ {F S E K P : Type 0} {words : List (List ℕ)} {forms : List Key} {stat
               subst (λ n. DrillRan n status journal before after EndsRose) same ran;
         };
         recover = record { ran = λ other is. none-some (asks_recover words) other (only.recover refl) is };
+        enrol = record { ran = λ other is. none-some (asks_enrol words) other (only.enrol refl) is };
         leaves = record {
           files = λ _ _ _ _ _ _. files;
           plain_setup = λ _. files;
-          ends = λ _ _ _ _ _ none _. none-some (asks_drill words) number none asked;
+          ends = λ _ _ _ _ _ none _ _. none-some (asks_drill words) number none asked;
           site = λ _. site;
           unserved = λ _. record { log = log; workers = workers };
           eventless = λ _ none. none-some (asks_drill words) number none asked;
@@ -308,14 +317,14 @@ module _ {F S E K P : Type 0} {words : List (List ℕ)} {forms : List Key} {stat
         changes = changes-none words status old new goes;
       }
 
-  pub whole-recovered : (parts : RecoverParts) → asks_recover words ≡ Some parts → RecoverRan parts status detail old new before after ReadRose ReplaceRose EndsRose → UsesNothing log_old log_new journal posts → ((status ≡ 3) ⊎ (status ≡ 9) → ends_new ≡ ends_old) → ((status ≡ 4) ⊎ (status ≡ 5) → ends_new ≡ ends_old) → site_new ≡ site_old
+  pub whole-recovered : (parts : RecoverParts) → asks_recover words ≡ Some parts → RecoverRan parts status detail old new before after ReadRose ReplaceRose EndsRose → UsesNothing log_old log_new journal posts → ((status ≡ 3) ⊎ (status ≡ 9) → ends_new ≡ ends_old) → ((status ≡ 4) ⊎ (status ≡ 5) ⊎ (status ≡ 13) → ends_new ≡ ends_old) → site_new ≡ site_old
       → Whole words forms status detail journal posts scene faults files_old files_new site_old site_new ends_old ends_new log_old log_new old new before after listens_old listens_new held_old held_new ReadRose ReplaceRose ListenRose LogRose EndsRose
   whole-recovered parts asked ran unused silent at_files site =
       let status_is = sym ran.status_is in
       let of : IsModeStatus status = subst IsModeStatus status_is (recover_status ran.outcome) in
       let only = only_recover words parts asked in
       record {
-        causes = moded words status (inr (inr (inr (inr (inr (inr (inr (parts, asked)))))))) (spoken recover_command words parts asked) of;
+        causes = moded words status (inr (inr (inr (inr (inr (inr (inr (inl (parts, asked))))))))) (spoken recover_command words parts asked) of;
         serve = record { ran = λ other is. none-some (asks_serve words) other (only.serve refl) is };
         password = record { ran = λ other is. none-some (asks_otp words) other (only.otp refl) is };
         check = record { ran = λ other is. none-some (asks_check words) other (only.check refl) is };
@@ -328,9 +337,37 @@ module _ {F S E K P : Type 0} {words : List (List ℕ)} {forms : List Key} {stat
               let same : parts ≡ other = (let e : Some parts ≡ Some other = sym asked ∙ is in cc) in
               inr (subst (λ p. RecoverRan p status detail old new before after ReadRose ReplaceRose EndsRose) same ran);
         };
-        leaves = moded-leaves (only.serve refl) (λ _ _ _ _ none. none-some (asks_recover words) parts none asked) (λ _ _ _ _ _ _ none. none-some (asks_recover words) parts none asked) site unused (λ other is _. none-some (asks_otp words) other (only.otp refl) is) (λ how. silent (three_or_nine how)) (λ _. at_files) (λ _. detail-by recoveries.status_of recover_detail ran.outcome status detail ran.status_is ran.detail_is (recover_plain ran.outcome));
+        enrol = record { ran = λ other is. none-some (asks_enrol words) other (only.enrol refl) is };
+        leaves = moded-leaves (only.serve refl) (λ _ _ _ _ none. none-some (asks_recover words) parts none asked) (λ _ _ _ _ _ _ none _. none-some (asks_recover words) parts none asked) site unused (λ other is _. none-some (asks_otp words) other (only.otp refl) is) (λ how. silent (three_or_nine how)) (λ _. at_files) (λ _. detail-by recoveries.status_of recover_detail ran.outcome status detail ran.status_is ran.detail_is (recover_plain ran.outcome));
         changes = changes-recovered words parts status detail old new before after ReadRose ReplaceRose EndsRose asked ran only;
       }
+
+  pub whole-enrolled : (parts : EnrolParts) → asks_enrol words ≡ Some parts → EnrolRan parts status before after EndsRose → detail ≡ Nothing → UsesNothing log_old log_new journal posts → files_new ≡ files_old → site_new ≡ site_old → Goes SameFiles old new
+      → Whole words forms status detail journal posts scene faults files_old files_new site_old site_new ends_old ends_new log_old log_new old new before after listens_old listens_new held_old held_new ReadRose ReplaceRose ListenRose LogRose EndsRose
+  whole-enrolled parts asked ran plain unused files site goes =
+      let of : IsModeStatus status = subst IsModeStatus (sym ran.status_is) (enrol_status ran.outcome) in
+      let only = only_enrol words parts asked in
+      record {
+        causes = moded words status (inr (inr (inr (inr (inr (inr (inr (inr (parts, asked))))))))) (spoken enrol_command words parts asked) of;
+        serve = record { ran = λ other is. none-some (asks_serve words) other (only.serve refl) is };
+        password = record { ran = λ other is. none-some (asks_otp words) other (only.otp refl) is };
+        check = record { ran = λ other is. none-some (asks_check words) other (only.check refl) is };
+        child = record { ran = λ other is. none-some (asks_child words) other (only.child refl) is };
+        audit = record { ran = λ other is. none-some (asks_audit words) other (only.audit refl) is };
+        renew = record { ran = λ other is. none-some (asks_renew words) other (only.renew refl) is };
+        drill = record { ran = λ other is. none-some (asks_drill words) other (only.drill refl) is };
+        recover = record { ran = λ other is. none-some (asks_recover words) other (only.recover refl) is };
+        enrol = record {
+          ran = λ other is.
+              let same : parts ≡ other = (let e : Some parts ≡ Some other = sym asked ∙ is in cc) in
+              inr (subst (λ p. EnrolRan p status before after EndsRose) same ran);
+        };
+        leaves = moded-leaves (only.serve refl) (λ _ _ _ _ _. files) (λ _ _ _ _ _ _ _ none. none-some (asks_enrol words) parts none asked) site unused (λ _ _ _. files) silent (λ _ how. absurd (enrol_files ran.outcome status ran.status_is (inr how))) (λ _ _ _ _ _ _. plain);
+        changes = changes-none words status old new goes;
+      } where
+        silent : (status ≡ 3) ⊎ (status ≡ 9) × (asks_renew words ≡ None) × (asks_enrol words ≡ None) → ends_new ≡ ends_old
+        silent (inl three) = absurd (enrol_files ran.outcome status ran.status_is (inl three))
+        silent (inr nine) = none-some (asks_enrol words) parts nine.2 asked
 
   -- a command that is done without threads
   pub whole-alone : (command : AloneCommand) → AsksAlone words command
@@ -353,12 +390,15 @@ module _ {F S E K P : Type 0} {words : List (List ℕ)} {forms : List Key} {stat
       (spares.unprinted refl) site (spares.unwritten refl)
   whole-alone (alone.Renew command) asked ran spares unused site =
       whole-renewed (renewals.command_parts command) asked ran unused at_files site where
-        at_files : (status ≡ 3) ⊎ (status ≡ 4) ⊎ (status ≡ 5) → ends_new ≡ ends_old
+        at_files : (status ≡ 3) ⊎ (status ≡ 4) ⊎ (status ≡ 5) ⊎ (status ≡ 13) → ends_new ≡ ends_old
         at_files (inl three) = spares.silent (inl three)
         at_files (inr how) = spares.unprinted refl how
   whole-alone (alone.Recover command) asked ran spares unused site =
       whole-recovered (recoveries_command.command_parts command) asked ran unused
       (λ how. spares.silent (taking_none how)) (spares.unprinted refl) site
+  whole-alone (alone.Enrol command) asked ran spares unused site =
+      whole-enrolled (enrolments_command.command_parts command) asked ran.0 ran.1 unused (spares.unread refl) site
+      (spares.unwritten refl)
 
   -- the same under the names of what was handed out
   pub whole-answered : (command : AloneCommand) (answer : Answer) → status ≡ answer.status → detail ≡ answer.detail
@@ -387,11 +427,12 @@ module _ {F S E K P : Type 0} {words : List (List ℕ)} {forms : List Key} {stat
     audit = record { ran = λ parts asked. ran why (inr (inr (inr (inr (inl (parts, asked)))))) };
     renew = record { ran = λ parts asked. inl (nine why (inr (inr (inr (inr (inr (inl (parts, asked))))))), unsent) };
     drill = record { ran = λ number asked. unremembered_drill number (nine why (inr (inr (inr (inr (inr (inr (inl (number, asked))))))))) };
-    recover = record { ran = λ parts asked. ran why (inr (inr (inr (inr (inr (inr (inr (parts, asked)))))))) };
+    recover = record { ran = λ parts asked. ran why (inr (inr (inr (inr (inr (inr (inr (inl (parts, asked))))))))) };
+    enrol = record { ran = λ parts asked. inl (nine why (inr (inr (inr (inr (inr (inr (inr (inr (parts, asked))))))))), told) };
     leaves = record {
       files = λ _ _ _ _ _ _. files;
       plain_setup = λ _. files;
-      ends = λ _ _ _ _ _ _ _. ends;
+      ends = λ _ _ _ _ _ _ _ _. ends;
       site = λ _. site;
       unserved = λ _. record { log = unused.log; workers = unused.workers };
       eventless = λ _ _. unused.events;

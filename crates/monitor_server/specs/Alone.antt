@@ -9,6 +9,7 @@ use Rattle.child_mode.specs.Commands.{parts_of}
 use Rattle.audit_mode.specs.Commands as audits
 use Rattle.otp_extended.specs.Commands as renewals
 use Rattle.recover_mode.specs.Commands as recoveries
+use Rattle.enrol_mode.specs.Command as enrolments
 use Rattle.monitor_server.specs.declared.command.AloneCommand.{AloneCommand}
 use Rattle.monitor_server.specs.declared.command.AloneCommand.TheVariants as alone
 use Rattle.monitor_server.specs.declared.command.Unread.{Unread}
@@ -16,7 +17,7 @@ use Rattle.monitor_server.specs.declared.command.Unread.TheVariants as unread
 use Rattle.monitor_server.specs.declared.report.Detail.TheVariants.{Nothing}
 use Rattle.monitor_server.specs.declared.report.Answer.{Answer}
 use Rattle.monitor_server.specs.Commands.{asks_drill, asks_serve}
-use Rattle.monitor_server.specs.Modes.{AuditRan, CheckRan, ChildRan, PasswordRan, RecoverRan, RenewRan}
+use Rattle.monitor_server.specs.Modes.{AuditRan, CheckRan, ChildRan, EnrolRan, PasswordRan, RecoverRan, RenewRan}
 use Rattle.monitor_server.specs.Whole.{Whole}
 
 -- what comes of words that were not read
@@ -42,11 +43,14 @@ IsRunOf (alone.Renew command) forms answer old new before after ReadRose Replace
 IsRunOf (alone.Recover command) forms answer old new before after ReadRose ReplaceRose EndsRose =
     RecoverRan (recoveries.command_parts command) answer.status answer.detail old new before after ReadRose ReplaceRose
     EndsRose
+IsRunOf (alone.Enrol command) forms answer old new before after ReadRose ReplaceRose EndsRose =
+    EnrolRan (enrolments.command_parts command) answer.status before after EndsRose × (answer.detail ≡ Nothing)
 
 -- commands that read a file
 abbrev pub reads_files : AloneCommand → Bool
 reads_files (alone.Password command) = is_some (command_parts command).list
 reads_files (alone.Child command) = false
+reads_files (alone.Enrol command) = false
 reads_files _ = true
 
 -- commands that may write one
@@ -63,6 +67,7 @@ says_findings _ = false
 -- a command whose memory may be wanted after its input
 abbrev pub takes_input_first : AloneCommand → Bool
 takes_input_first (alone.Renew command) = true
+takes_input_first (alone.Enrol command) = true
 takes_input_first _ = false
 
 -- what a command has no use for it leaves as it was
@@ -71,7 +76,7 @@ pub record SparesRest {F E : Type 0} (command : AloneCommand) (status : ℕ) (fi
   pub unread : reads_files command ≡ false → files_new ≡ files_old
   pub unwritten : writes_files command ≡ false → Goes SameFiles old new
   pub silent : (status ≡ 3) ⊎ (status ≡ 9) × (takes_input_first command ≡ false) → ends_new ≡ ends_old
-  pub unprinted : says_findings command ≡ false → (status ≡ 4) ⊎ (status ≡ 5) → ends_new ≡ ends_old
+  pub unprinted : says_findings command ≡ false → (status ≡ 4) ⊎ (status ≡ 5) ⊎ (status ≡ 13) → ends_new ≡ ends_old
 
 -- ---- all words
 

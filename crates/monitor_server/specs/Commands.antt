@@ -9,6 +9,8 @@ use Rattle.child_mode.specs.Words.{ChildParts, child_command}
 use Rattle.audit_mode.specs.Commands as audits
 use Rattle.audit_mode.specs.Words.{AuditParts, audit_command}
 use Rattle.drill_mode.specs.Words.{drill_command}
+use Rattle.enrol_mode.specs.Command as enrolments
+use Rattle.enrol_mode.specs.Words.{EnrolParts, enrol_command}
 use Rattle.otp_extended.specs.Commands as renewals
 use Rattle.otp_extended.specs.Commands.{RenewParts, renew_command}
 use Rattle.recover_mode.specs.Commands as recoveries
@@ -42,7 +44,7 @@ asks_child words = option_and_then child_command (words_without_hyphen words)
 abbrev pub asks_audit : List (List ℕ) → Option AuditParts
 asks_audit words = option_and_then audit_command (words_without_hyphen words)
 
--- the setup and the user that the words ask the mode `renew` for, where none begins with a hyphen
+-- the setup, the user and the log that the words ask the mode `renew` for, where none begins with a hyphen
 abbrev pub asks_renew : List (List ℕ) → Option RenewParts
 asks_renew words = option_and_then renew_command (words_without_hyphen words)
 
@@ -54,9 +56,14 @@ asks_drill words = option_and_then drill_command (words_without_hyphen words)
 abbrev pub asks_recover : List (List ℕ) → Option RecoverParts
 asks_recover words = option_and_then recover_command (words_without_hyphen words)
 
--- the words of a command: those of the modes `serve`, `otp` and `check`, of the children's, and of `audit`, `renew`, `drill` and `recover`
+-- the account that the words ask the mode `enrol` for, where none begins with a hyphen
+abbrev pub asks_enrol : List (List ℕ) → Option EnrolParts
+asks_enrol words = option_and_then enrol_command (words_without_hyphen words)
+
+-- the words of a command: those of the modes `serve`, `otp` and `check`, of the children's, and of `audit`, `renew`, `drill`, `recover`
+-- and `enrol`
 abbrev pub IsCommand : List (List ℕ) → Type 0
-IsCommand words = ((source : Source) × (asks_serve words ≡ Some source)) ⊎ ((parts : OtpParts) × (asks_otp words ≡ Some parts)) ⊎ ((setup : List ℕ) × (asks_check words ≡ Some setup)) ⊎ ((parts : ChildParts) × (asks_child words ≡ Some parts)) ⊎ ((parts : AuditParts) × (asks_audit words ≡ Some parts)) ⊎ ((parts : RenewParts) × (asks_renew words ≡ Some parts)) ⊎ ((number : ℕ) × (asks_drill words ≡ Some number)) ⊎ ((parts : RecoverParts) × (asks_recover words ≡ Some parts))
+IsCommand words = ((source : Source) × (asks_serve words ≡ Some source)) ⊎ ((parts : OtpParts) × (asks_otp words ≡ Some parts)) ⊎ ((setup : List ℕ) × (asks_check words ≡ Some setup)) ⊎ ((parts : ChildParts) × (asks_child words ≡ Some parts)) ⊎ ((parts : AuditParts) × (asks_audit words ≡ Some parts)) ⊎ ((parts : RenewParts) × (asks_renew words ≡ Some parts)) ⊎ ((number : ℕ) × (asks_drill words ≡ Some number)) ⊎ ((parts : RecoverParts) × (asks_recover words ≡ Some parts)) ⊎ ((parts : EnrolParts) × (asks_enrol words ≡ Some parts))
 
 -- what a mode's word and the words after it are read as that is done without threads
 abbrev pub IsMeantAlone : List (List ℕ) → Option AloneCommand → Type 0
@@ -66,8 +73,10 @@ IsMeantAlone words (Some (alone.Child command)) = child_command words ≡ Some (
 IsMeantAlone words (Some (alone.Audit command)) = audit_command words ≡ Some (audits.command_parts command)
 IsMeantAlone words (Some (alone.Renew command)) = renew_command words ≡ Some (renewals.command_parts command)
 IsMeantAlone words (Some (alone.Recover command)) = recover_command words ≡ Some (recoveries.command_parts command)
+IsMeantAlone words (Some (alone.Enrol command)) = enrol_command words ≡ Some (enrolments.command_parts command)
 IsMeantAlone words None = (otp_command words ≡ None) × (check_command words ≡ None) × (child_command words ≡ None)
     × (audit_command words ≡ None) × (renew_command words ≡ None) × (recover_command words ≡ None)
+    × (enrol_command words ≡ None)
 
 -- what a mode's word and the words after it are read as
 abbrev pub IsMeant : List (List ℕ) → Option Command → Type 0
@@ -84,6 +93,7 @@ AsksAlone words (alone.Child command) = asks_child words ≡ Some (parts_of comm
 AsksAlone words (alone.Audit command) = asks_audit words ≡ Some (audits.command_parts command)
 AsksAlone words (alone.Renew command) = asks_renew words ≡ Some (renewals.command_parts command)
 AsksAlone words (alone.Recover command) = asks_recover words ≡ Some (recoveries.command_parts command)
+AsksAlone words (alone.Enrol command) = asks_enrol words ≡ Some (enrolments.command_parts command)
 
 -- what the words of a command line are read as; want of memory comes only where none begins with a hyphen
 abbrev pub IsReading : List (List ℕ) → Result Command Unread → Type 0

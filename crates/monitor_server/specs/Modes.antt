@@ -37,6 +37,11 @@ use Rattle.audit_mode.specs.Words.{AuditParts}
 use Rattle.drill_mode.specs.declared.error.DrillError.{DrillError}
 use Rattle.drill_mode.specs.Errors as drill_errors
 use Rattle.drill_mode.specs.Outcome as drills
+use Rattle.enrol_mode.specs.declared.fault.EnrolFault.{EnrolFault}
+use Rattle.enrol_mode.specs.Exact as enrols_exact
+use Rattle.enrol_mode.specs.Faults as enrol_faults
+use Rattle.enrol_mode.specs.Outcome as enrols
+use Rattle.enrol_mode.specs.Words.{EnrolParts}
 use Rattle.otp_extended.specs.declared.renewal.Renewed.{Renewed}
 use Rattle.otp_extended.specs.declared.run.RenewalFault.TheVariants as renewal_faults
 use Rattle.otp_extended.specs.Commands.{RenewParts}
@@ -55,7 +60,7 @@ use Rattle.monitor_server.specs.declared.report.Detail.{Detail}
 use Rattle.monitor_server.specs.declared.report.Detail.TheVariants.{AuditNo, FewRequests, LogBad, LogNotFresh, Missing, Nothing, RenewBad, SetupBad, WordsBad}
 use Rattle.monitor_server.specs.declared.report.FileKind.TheVariants.{Log, Setup, Words}
 use Rattle.monitor_server.specs.declared.report.TheConstants.{FEW_REQUESTS}
-use Rattle.monitor_server.specs.Commands.{asks_audit, asks_check, asks_child, asks_drill, asks_otp, asks_recover, asks_renew, asks_serve}
+use Rattle.monitor_server.specs.Commands.{asks_audit, asks_check, asks_child, asks_drill, asks_enrol, asks_otp, asks_recover, asks_renew, asks_serve}
 use Rattle.monitor_server.specs.Headline.{IsUnserved}
 
 -- what is missing or refused of what a run serves by and logs to
@@ -152,12 +157,13 @@ pub record AuditRan (parts : AuditParts) (status : ℕ) (detail : Detail) (conte
 pub record AuditMode (words : List (List ℕ)) (status : ℕ) (detail : Detail) (contents : Option Contents) (before after : Option Link) (ReadFailed EndsFailed : Type 0) : Type 0 where
   pub ran : (parts : AuditParts) → asks_audit words ≡ Some parts → (status ≡ 9) ⊎ AuditRan parts status detail contents before after ReadFailed EndsFailed
 
--- what is missing or refused of a setup, a word list and a response
+-- what is missing or refused of a setup, a word list, a log and a response
 abbrev pub renew_detail : Result Renewed RenewError → Detail
 renew_detail (Err renew_errors.SetupMissing) = Missing Setup
 renew_detail (Err (renew_errors.SetupRefused fault)) = SetupBad fault
 renew_detail (Err renew_errors.WordsMissing) = Missing Words
 renew_detail (Err (renew_errors.WordsRefused fault)) = WordsBad fault
+renew_detail (Err renew_errors.LogNotFresh) = LogNotFresh
 renew_detail (Err (renew_errors.NoRenewal (renewal_faults.Refused fault))) = RenewBad fault
 renew_detail _ = Nothing
 
@@ -195,6 +201,17 @@ pub record RecoverRan (parts : RecoverParts) (status : ℕ) (detail : Detail) (o
 pub record RecoverMode (words : List (List ℕ)) (status : ℕ) (detail : Detail) (old new : Option Contents) (before after : Option Link) (ReadFailed ReplaceFailed EndsFailed : Type 0) : Type 0 where
   pub ran : (parts : RecoverParts) → asks_recover words ≡ Some parts → (status ≡ 9) ⊎ RecoverRan parts status detail old new before after ReadFailed ReplaceFailed EndsFailed
 
+-- the mode `enrol` came to an outcome that the ends account for, and that is told by the status
+pub record EnrolRan (parts : EnrolParts) (status : ℕ) (before after : Option Link) (EndsFailed : Type 0) : Type 0 where
+  pub outcome : Result (Unit {0}) EnrolFault
+  pub status_is : status ≡ enrol_faults.status_of outcome
+  pub cause : enrols.IsOutcome parts before after EndsFailed outcome
+  pub exact : enrols_exact.IsExact before after EndsFailed outcome
+
+-- where the words are those of the mode `enrol`, it ran, unless memory was wanted for them
+pub record EnrolMode (words : List (List ℕ)) (status : ℕ) (before after : Option Link) (EndsFailed : Type 0) : Type 0 where
+  pub ran : (parts : EnrolParts) → asks_enrol words ≡ Some parts → (status ≡ 9) × (after ≡ before) ⊎ EnrolRan parts status before after EndsFailed
+
 -- the journal that is given of a drill
 abbrev pub drilled_journal : Result (Vec Event Global) DrillError → List Event
 drilled_journal (Ok journal) = journal.items
@@ -220,18 +237,18 @@ pub record ChangesFiles (words : List (List ℕ)) (status : ℕ) (old new : Opti
   pub unwritten : asks_serve words ≡ None → status ≢ 0 → status ≢ 8 → status ≢ 11 → Goes SameFiles old new
 
 -- what a mode doesn't use it leaves as it was: all but `serve`, `otp`, `check`, `audit`, `renew` and `recover` the files; all but `otp`,
--- `check`, `audit`, `renew`, `recover`, `drill` and the children's the ends; all but `serve` the site, the log and the posts; and all but
+-- `check`, `audit`, `renew`, `recover`, `drill`, `enrol` and the children's the ends; all but `serve` the site, the log and the posts; and all but
 -- `serve` and `drill` the journal. `serve` leaves the files where it serves by the plain setup, and `otp` where the words name no list.
--- With 3 nothing was received or sent, with 9 only by `renew`, and with 4 and 5 only by `check`. The detail tells of 4, 5, 13, 14 and 15
+-- With 3 nothing was received or sent, with 9 only by `renew` and `enrol`, and with 4, 5 and 13 at most by `check`. The detail tells of 4, 5, 13, 14 and 15
 -- alone, and of 0 by `check`
 pub record LeavesRest {F S E K P : Type 0} (words : List (List ℕ)) (status : ℕ) (detail : Detail) (files_old files_new : F) (site_old site_new : S) (ends_old ends_new : E) (log_old log_new : K) (journal : List Event) (posts : List P) : Type 0 where
   pub files : asks_serve words ≡ None → asks_otp words ≡ None → asks_check words ≡ None → asks_audit words ≡ None → asks_renew words ≡ None → asks_recover words ≡ None → files_new ≡ files_old
   pub plain_setup : asks_serve words ≡ Some Plain → files_new ≡ files_old
-  pub ends : asks_otp words ≡ None → asks_check words ≡ None → asks_child words ≡ None → asks_audit words ≡ None → asks_renew words ≡ None → asks_drill words ≡ None → asks_recover words ≡ None → ends_new ≡ ends_old
+  pub ends : asks_otp words ≡ None → asks_check words ≡ None → asks_child words ≡ None → asks_audit words ≡ None → asks_renew words ≡ None → asks_drill words ≡ None → asks_recover words ≡ None → asks_enrol words ≡ None → ends_new ≡ ends_old
   pub site : asks_serve words ≡ None → site_new ≡ site_old
   pub unserved : asks_serve words ≡ None → IsUnserved log_old log_new posts
   pub eventless : asks_serve words ≡ None → asks_drill words ≡ None → journal ≡ []
   pub unread : (parts : OtpParts) → asks_otp words ≡ Some parts → parts.list ≡ None → files_new ≡ files_old
-  pub silent : (status ≡ 3) ⊎ (status ≡ 9) × (asks_renew words ≡ None) → ends_new ≡ ends_old
-  pub unprinted : asks_check words ≡ None → (status ≡ 4) ⊎ (status ≡ 5) → ends_new ≡ ends_old
+  pub silent : (status ≡ 3) ⊎ (status ≡ 9) × (asks_renew words ≡ None) × (asks_enrol words ≡ None) → ends_new ≡ ends_old
+  pub unprinted : asks_check words ≡ None → (status ≡ 4) ⊎ (status ≡ 5) ⊎ (status ≡ 13) → ends_new ≡ ends_old
   pub plain : (status ≡ 0 → asks_check words ≡ None) → status ≢ 4 → status ≢ 5 → status ≢ 13 → status ≢ 14 → status ≢ 15 → detail ≡ Nothing

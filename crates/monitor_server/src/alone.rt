@@ -6,7 +6,8 @@ ghost use Rattle.monitor_server.specs.Alone.{IsDoneAlone, IsRunOf, NeedsThreads,
 
 use crate::command::{AloneCommand, Command, Unread, read_command};
 use crate::modes::{
-    audit_log, check_setup, print_password, recover_accounts, renew_account, run_child,
+    audit_log, check_setup, print_account, print_password, recover_accounts, renew_account,
+    run_child,
 };
 use crate::report::Answer;
 use outside::{Files, Stream, Word};
@@ -52,6 +53,7 @@ pub(crate) fn answer<F: Files, E: Stream, I: Information>(
         AloneCommand::Audit(command) => audit_log(alloc, &command, files, ends),
         AloneCommand::Renew(command) => renew_account(alloc, &command, files, ends),
         AloneCommand::Recover(command) => recover_accounts(alloc, &command, files, ends),
+        AloneCommand::Enrol(command) => print_account(alloc, &command, ends),
     }
 }
 

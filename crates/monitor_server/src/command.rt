@@ -9,6 +9,7 @@ use check_mode::read_check_command;
 use child_mode::{ChildCommand, read_child_command};
 use command_line::read_command_line;
 use drill_mode::read_drill_command;
+use enrol_mode::{EnrolCommand, read_enrol_command};
 use otp_extended::{RenewCommand, read_renew_command};
 use otp_mode::{OtpCommand, read_otp_command};
 use outside::Word;
@@ -42,6 +43,8 @@ pub enum AloneCommand<'a> {
     Renew(RenewCommand<'a>),
     /// To recover the accounts from a durable log.
     Recover(RecoverCommand<'a>),
+    /// To print the account of a new user.
+    Enrol(EnrolCommand),
 }
 
 /// Why words were not read as a command.
@@ -106,8 +109,11 @@ fn alone_command_of<'a>(mode: &str, further: &[&'a str]) -> Option<AloneCommand<
     if let Some(command) = read_renew_command(mode, further) {
         return Some(AloneCommand::Renew(command));
     }
-    match read_recover_command(mode, further) {
-        Some(command) => Some(AloneCommand::Recover(command)),
+    if let Some(command) = read_recover_command(mode, further) {
+        return Some(AloneCommand::Recover(command));
+    }
+    match read_enrol_command(mode, further) {
+        Some(command) => Some(AloneCommand::Enrol(command)),
         None => None,
     }
 }

@@ -6,13 +6,14 @@ ghost use Rattle.outside.specs.Told.{Goes, Rose};
 ghost use Rattle.policy_model.specs.Journal.{has_lost};
 ghost use Rattle.otp_mode.specs.Command.{command_parts};
 ghost use Rattle.child_mode.specs.Commands.{parts_of};
+ghost use Rattle.enrol_mode.specs.Command as enrolments;
 ghost use Rattle.audit_mode.specs.Commands as audits;
 ghost use Rattle.otp_extended.specs.Commands as renewals;
 ghost use Rattle.recover_mode.specs.Commands as recoveries;
 ghost use Rattle.monitor_server.specs.declared.report.Detail.TheVariants.{Nothing};
 ghost use Rattle.serve_mode.specs.Commands as serves;
 ghost use Rattle.serve_mode.specs.Words.{Plain};
-ghost use Rattle.monitor_server.specs.Modes.{AuditRan, CheckRan, ChildRan, DrillRan, PasswordRan, RecoverRan, RenewRan, ServeRan, audit_detail, fault_detail, finding_detail, recover_detail, renew_detail, serve_detail};
+ghost use Rattle.monitor_server.specs.Modes.{AuditRan, CheckRan, ChildRan, DrillRan, EnrolRan, PasswordRan, RecoverRan, RenewRan, ServeRan, audit_detail, fault_detail, finding_detail, recover_detail, renew_detail, serve_detail};
 
 use crate::report::{Answer, Detail, FEW_REQUESTS, FileKind, Report};
 use audit_check::Audit;
@@ -20,6 +21,7 @@ use audit_mode::{AuditCommand, AuditError, run_audit};
 use check_mode::{Finding, run_check};
 use child_mode::{ChildCommand, run_child_mode};
 use drill_mode::run_drill;
+use enrol_mode::{EnrolCommand, run_enrol};
 use otp_extended::{RenewCommand, RenewalFault, Renewed};
 use otp_mode::{OtpCommand, OtpFault, run_otp};
 use outside::{Files, Sink, Site, Stream};
@@ -94,7 +96,7 @@ pub(crate) fn print_password<F: Files, E: Stream>(
     ensures password { PasswordRan (command_parts command.now) result.status result.detail (F.contents files.new) (E.link ends.old) (E.link ends.new) (Rose (F.read_faults files.old) (F.read_faults files.new)) (Rose (E.faults ends.old) (E.faults ends.new)) }
     ensures no_list { (command_parts command.now).list ≡ None → files.new ≡ files.old }
     ensures silent { (result.status ≡ 3) ⊎ (result.status ≡ 9) → ends.new ≡ ends.old }
-    ensures at_list { (result.status ≡ 4) ⊎ (result.status ≡ 5) → ends.new ≡ ends.old }
+    ensures at_list { (result.status ≡ 4) ⊎ (result.status ≡ 5) ⊎ (result.status ≡ 13) → ends.new ≡ ends.old }
     ensures files { Goes SameFiles (F.contents files.old) (F.contents files.new) }
 {
     match run_otp(alloc, command, files, ends) {
@@ -168,7 +170,7 @@ pub(crate) fn run_child<E: Stream>(alloc: Global, command: &ChildCommand, ends: 
     ensures child { ChildRan (parts_of command.now) result.status (E.link ends.old) (E.link ends.new) (Rose (E.faults ends.old) (E.faults ends.new)) }
     ensures detail { result.detail ≡ Nothing }
     ensures silent { (result.status ≡ 3) ⊎ (result.status ≡ 9) → ends.new ≡ ends.old }
-    ensures no_file { (result.status ≡ 4) ⊎ (result.status ≡ 5) → ends.new ≡ ends.old }
+    ensures no_file { (result.status ≡ 4) ⊎ (result.status ≡ 5) ⊎ (result.status ≡ 13) → ends.new ≡ ends.old }
 {
     let run = run_child_mode(alloc, command, ends);
     Answer::plain(run.status())
@@ -183,7 +185,7 @@ pub(crate) fn audit_log<F: Files, E: Stream>(
 ) -> Answer
     ensures audit { AuditRan (audits.command_parts command.now) result.status result.detail (F.contents files.new) (E.link ends.old) (E.link ends.new) (Rose (F.read_faults files.old) (F.read_faults files.new)) (Rose (E.faults ends.old) (E.faults ends.new)) }
     ensures silent { (result.status ≡ 3) ⊎ (result.status ≡ 9) → ends.new ≡ ends.old }
-    ensures at_file { (result.status ≡ 4) ⊎ (result.status ≡ 5) → ends.new ≡ ends.old }
+    ensures at_file { (result.status ≡ 4) ⊎ (result.status ≡ 5) ⊎ (result.status ≡ 13) → ends.new ≡ ends.old }
     ensures files { Goes SameFiles (F.contents files.old) (F.contents files.new) }
 {
     let outcome = run_audit(alloc, command, files, ends);
@@ -221,7 +223,7 @@ pub(crate) fn renew_account<F: Files, E: Stream>(
     ends: &mut E,
 ) -> Answer
     ensures renew { RenewRan (renewals.command_parts command.now) result.status result.detail (F.contents files.old) (F.contents files.new) (E.link ends.old) (E.link ends.new) (Rose (F.read_faults files.old) (F.read_faults files.new)) (Rose (F.replace_faults files.old) (F.replace_faults files.new)) (Rose (E.faults ends.old) (E.faults ends.new)) }
-    ensures at_files { (result.status ≡ 3) ⊎ (result.status ≡ 4) ⊎ (result.status ≡ 5) → ends.new ≡ ends.old }
+    ensures at_files { (result.status ≡ 3) ⊎ (result.status ≡ 4) ⊎ (result.status ≡ 5) ⊎ (result.status ≡ 13) → ends.new ≡ ends.old }
 {
     let outcome = run_renew(alloc, command, files, ends);
     Answer {
@@ -230,7 +232,7 @@ pub(crate) fn renew_account<F: Files, E: Stream>(
     }
 }
 
-/// What is missing or refused of a setup, a word list and a response.
+/// What is missing or refused of a setup, a word list, a log and a response.
 fn renew_detail(outcome: Result<Renewed, RenewError>) -> Detail
     ensures { result ≡ renew_detail outcome }
 {
@@ -243,6 +245,7 @@ fn renew_detail(outcome: Result<Renewed, RenewError>) -> Detail
             file: FileKind::Words,
         },
         Err(RenewError::WordsRefused(fault)) => Detail::WordsBad(fault),
+        Err(RenewError::LogNotFresh) => Detail::LogNotFresh,
         Err(RenewError::NoRenewal(RenewalFault::Refused(fault))) => Detail::RenewBad(fault),
         _ => Detail::Nothing,
     }
@@ -257,7 +260,7 @@ pub(crate) fn recover_accounts<F: Files, E: Stream>(
 ) -> Answer
     ensures recover { RecoverRan (recoveries.command_parts command.now) result.status result.detail (F.contents files.old) (F.contents files.new) (E.link ends.old) (E.link ends.new) (Rose (F.read_faults files.old) (F.read_faults files.new)) (Rose (F.replace_faults files.old) (F.replace_faults files.new)) (Rose (E.faults ends.old) (E.faults ends.new)) }
     ensures silent { (result.status ≡ 3) ⊎ (result.status ≡ 9) → ends.new ≡ ends.old }
-    ensures at_files { (result.status ≡ 4) ⊎ (result.status ≡ 5) → ends.new ≡ ends.old }
+    ensures at_files { (result.status ≡ 4) ⊎ (result.status ≡ 5) ⊎ (result.status ≡ 13) → ends.new ≡ ends.old }
 {
     let outcome = run_recover(alloc, command, files, ends);
     Answer {
@@ -280,6 +283,22 @@ fn recover_detail(outcome: Result<Recovery, RecoveryError>) -> Detail
     }
 }
 
+/// Prints the account of a new user: the pass phrase is read from the ends.
+pub(crate) fn print_account<E: Stream>(
+    alloc: Global,
+    command: &EnrolCommand,
+    ends: &mut E,
+) -> Answer
+    ensures enrol { EnrolRan (enrolments.command_parts command.now) result.status (E.link ends.old) (E.link ends.new) (Rose (E.faults ends.old) (E.faults ends.new)) }
+    ensures detail { result.detail ≡ Nothing }
+    ensures at_files { (result.status ≡ 3) ⊎ (result.status ≡ 4) ⊎ (result.status ≡ 5) ⊎ (result.status ≡ 13) → ends.new ≡ ends.old }
+{
+    match run_enrol(alloc, command, ends) {
+        Ok(()) => Answer::plain(0),
+        Err(refused) => Answer::plain(refused.status()),
+    }
+}
+
 /// Runs the drill of a number, from 1 to 64, and tells the counts of its journal.
 pub(crate) fn play_drill<P, K, E: Stream, R: Threads + Wait + Sync>(
     rt: &R,
@@ -295,7 +314,7 @@ pub(crate) fn play_drill<P, K, E: Stream, R: Threads + Wait + Sync>(
     ensures log { result.log ≡ log }
     ensures posts { result.posts.items ≡ [] }
     ensures silent { (result.status ≡ 3) ⊎ (result.status ≡ 9) → ends.new ≡ ends.old }
-    ensures no_file { (result.status ≡ 4) ⊎ (result.status ≡ 5) → ends.new ≡ ends.old }
+    ensures no_file { (result.status ≡ 4) ⊎ (result.status ≡ 5) ⊎ (result.status ≡ 13) → ends.new ≡ ends.old }
 {
     let outcome = run_drill(rt, alloc, number, ends);
     let status = drill_mode::status(&outcome);

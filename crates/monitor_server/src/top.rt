@@ -4,7 +4,7 @@ ghost use Rattle.std.specs.Prelude.{◌≡◌, false};
 ghost use Rattle.outside.specs.Told.{Rose};
 ghost use Rattle.policy_model.specs.Journal.{has_lost};
 ghost use Rattle.monitor_server.specs.Headline.{StatusHasCause};
-ghost use Rattle.monitor_server.specs.Modes.{AuditMode, ChangesFiles, CheckMode, ChildMode, DrillMode, LeavesRest, PasswordMode, RecoverMode, RenewMode, ServeMode};
+ghost use Rattle.monitor_server.specs.Modes.{AuditMode, ChangesFiles, CheckMode, ChildMode, DrillMode, EnrolMode, LeavesRest, PasswordMode, RecoverMode, RenewMode, ServeMode};
 ghost use Rattle.monitor_server.specs.Whole.{Whole};
 
 use crate::alone::answer;
@@ -69,7 +69,10 @@ fn run_command<
 ///   one that the policy allows after those before it;
 /// - `renew SETUP NAME` takes the first line that `ends` gives as a response of RFC 2243, writes the
 ///   new chain of that user's passwords into the setup's file, and sends to `ends` one line that says
-///   so. No monitor may run with that file meanwhile;
+///   so; `renew SETUP NAME LOG` does so where the file LOG is a durable log without a record. No monitor
+///   may run with that file meanwhile;
+/// - `enrol NAME UID ALGO N SEED` takes the pass phrase from the first line that `ends` gives, and sends to
+///   `ends` the table of an account with its password, to stand behind a setup;
 /// - `drill N` runs four workers in memory through sessions that are made of that number, from 1 to 64,
 ///   by the same run as `serve`, gives their journal and sends its counts to `ends`.
 ///
@@ -105,6 +108,8 @@ pub fn otplogd<
     ensures audit { AuditMode words.now result.status result.detail (F.contents files.new) (E.link ends.old) (E.link ends.new) (Rose (F.read_faults files.old) (F.read_faults files.new)) (Rose (E.faults ends.old) (E.faults ends.new)) }
     // The mode `renew` writes the setup with the new chain, or says why not.
     ensures renew { RenewMode words.now result.status result.detail (F.contents files.old) (F.contents files.new) (E.link ends.old) (E.link ends.new) (Rose (F.read_faults files.old) (F.read_faults files.new)) (Rose (F.replace_faults files.old) (F.replace_faults files.new)) (Rose (E.faults ends.old) (E.faults ends.new)) }
+    // The mode `enrol` prints the account that its words and input spell, or says why not.
+    ensures enrol { EnrolMode words.now result.status (E.link ends.old) (E.link ends.new) (Rose (E.faults ends.old) (E.faults ends.new)) }
     // The mode `drill` runs the drill of its number, gives its journal and tells the journal's counts, or says why not.
     ensures drill { DrillMode words.now result.status result.journal.items (E.link ends.old) (E.link ends.new) (Rose (E.faults ends.old) (E.faults ends.new)) }
     // The mode `recover` writes the setup that the log's lines lead to, and the fresh log, or says why not.

@@ -9,34 +9,38 @@ ghost use Rattle.otp_extended.specs.Commands.{command_of, command_parts, renew_c
 use request_catalogue::Name;
 use std::alloc::{AllocError, Global};
 
-/// A command `renew SETUP NAME`.
+/// A command `renew SETUP NAME` or `renew SETUP NAME LOG`.
 #[derive(Clone, Copy)]
 pub struct RenewCommand<'a> {
     /// The name of the setup's file.
     pub setup: &'a str,
     /// The user whose account is renewed.
     pub user: Name,
+    /// The name of the file of a durable log, which has to have no record.
+    pub log: Option<&'a str>,
 }
 
 /// Reads the words of a command line: the mode's word, and those behind it. `None` exactly where they
-/// are not `renew SETUP NAME`, where `NAME` is a user's name.
+/// are neither `renew SETUP NAME` nor `renew SETUP NAME LOG`, where `NAME` is a user's name.
 pub fn read_renew_command<'a>(mode: &str, further: &[&'a str]) -> Option<RenewCommand<'a>>
     ensures { option_map command_parts result
         ≡ renew_command (mode.now ∷ map (λ word. word.now) further.now) }
 {
     match further {
-        [setup, user] if mode == "renew" => command_of(setup, user),
+        [setup, user] if mode == "renew" => command_of(setup, user, None),
+        [setup, user, log] if mode == "renew" => command_of(setup, user, Some(log)),
         _ => None,
     }
 }
 
 /// The command of these words.
-fn command_of<'a>(setup: &'a str, user: &str) -> Option<RenewCommand<'a>>
-    ensures { option_map command_parts result ≡ command_of setup.now user.now }
+fn command_of<'a>(setup: &'a str, user: &str, log: Option<&'a str>) -> Option<RenewCommand<'a>>
+    ensures { option_map command_parts result
+        ≡ command_of setup.now user.now (option_map (λ word. word.now) log.entry) }
 {
     match Name::of(user.as_bytes()) {
         None => None,
-        Some(user) => Some(RenewCommand { setup, user }),
+        Some(user) => Some(RenewCommand { setup, user, log }),
     }
 }
 

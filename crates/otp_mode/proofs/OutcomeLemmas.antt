@@ -6,19 +6,17 @@ use Rattle.file_front.specs.declared.list.ListError.TheVariants as errors
 use Rattle.file_front.specs.Lists.{IsListFault}
 use Rattle.otp_mode.specs.declared.fault.OtpFault.{OtpFault}
 use Rattle.otp_mode.specs.declared.fault.OtpFault.TheVariants as faults
+use Rattle.otp_mode.specs.declared.fault.PhraseFault.{PhraseFault}
+use Rattle.otp_mode.specs.declared.fault.PhraseFault.TheVariants as phrase_faults
 use Rattle.otp_mode.specs.Outcome.{HasWords, IsOutcome, IsPrinting}
-use Rattle.otp_mode.specs.Faults.{fault_of_list}
+use Rattle.otp_mode.specs.Faults.{fault_of_list, fault_of_phrase}
 use Rattle.otp_mode.specs.Inner.{IsPhraseFault}
 use Rattle.otp_mode.specs.Words.{OtpParts}
 
 -- a phrase that was not received was not printed
-pub IsPrinting-phrase : (parts : OtpParts) (words : Option (List (List ℕ))) (before after : Option Link) (EndsFailed : Type 0) (fault : OtpFault) → IsPhraseFault before after EndsFailed fault → IsPrinting parts words before after EndsFailed (Err fault)
-IsPrinting-phrase parts words before after EndsFailed faults.EndsFailed h = (h.0, inl h.1)
-IsPrinting-phrase parts words before after EndsFailed faults.PhraseRefused h = h
-IsPrinting-phrase parts words before after EndsFailed faults.ReadFailed h = absurd h
-IsPrinting-phrase parts words before after EndsFailed faults.ListMissing h = absurd h
-IsPrinting-phrase parts words before after EndsFailed (faults.ListRefused _) h = absurd h
-IsPrinting-phrase parts words before after EndsFailed faults.OutOfMemory h = absurd h
+pub IsPrinting-phrase : (parts : OtpParts) (words : Option (List (List ℕ))) (before after : Option Link) (EndsFailed : Type 0) (fault : PhraseFault) → IsPhraseFault before after EndsFailed fault → IsPrinting parts words before after EndsFailed (Err (fault_of_phrase fault))
+IsPrinting-phrase parts words before after EndsFailed phrase_faults.EndsFailed h = (h.0, inl h.1)
+IsPrinting-phrase parts words before after EndsFailed phrase_faults.Refused h = h
 
 -- a word list that was not taken ends the mode
 pub IsOutcome-list : (parts : OtpParts) (contents : Option Contents) (before after : Option Link) (ReadFailed EndsFailed : Type 0) (name : List ℕ) (error : ListError) → parts.list ≡ Some name → IsListFault contents name ReadFailed error → after ≡ before → IsOutcome parts contents before after ReadFailed EndsFailed (Err (fault_of_list error))

@@ -4,6 +4,8 @@ use Rattle.file_front.specs.declared.list.ListError.{ListError}
 use Rattle.file_front.specs.declared.list.ListError.TheVariants as list_errors
 use Rattle.otp_mode.specs.declared.fault.OtpFault.{OtpFault}
 use Rattle.otp_mode.specs.declared.fault.OtpFault.TheVariants as faults
+use Rattle.otp_mode.specs.declared.fault.PhraseFault.{PhraseFault}
+use Rattle.otp_mode.specs.declared.fault.PhraseFault.TheVariants as phrase_faults
 
 -- why a word list was not taken
 abbrev pub fault_of_list : ListError → OtpFault
@@ -11,6 +13,11 @@ fault_of_list list_errors.Failed = faults.ReadFailed
 fault_of_list list_errors.OutOfMemory = faults.OutOfMemory
 fault_of_list list_errors.Missing = faults.ListMissing
 fault_of_list (list_errors.Refused fault) = faults.ListRefused fault
+
+-- why no phrase was received
+abbrev pub fault_of_phrase : PhraseFault → OtpFault
+fault_of_phrase phrase_faults.EndsFailed = faults.EndsFailed
+fault_of_phrase phrase_faults.Refused = faults.PhraseRefused
 
 -- the exit status of a program that ends by a fault
 abbrev pub fault_status : OtpFault → ℕ

@@ -1,7 +1,7 @@
 //! Why no password was printed.
 
 ghost use Rattle.std.specs.Prelude.{◌≡◌};
-ghost use Rattle.otp_mode.specs.Faults.{fault_of_list};
+ghost use Rattle.otp_mode.specs.Faults.{fault_of_list, fault_of_phrase};
 
 use file_front::ListError;
 use otp_words::DictFault;
@@ -51,6 +51,36 @@ impl From<ListError> for OtpFault {
             ListError::OutOfMemory => OtpFault::OutOfMemory,
             ListError::Missing => OtpFault::ListMissing,
             ListError::Refused(fault) => OtpFault::ListRefused(fault),
+        }
+    }
+}
+
+/// Why no pass phrase was received.
+#[derive(Clone, Copy, PartialEq, Eq)]
+pub enum PhraseFault {
+    /// The input could not be received.
+    EndsFailed,
+    /// The first line of the input is no pass phrase.
+    Refused,
+}
+
+impl From<Failed> for PhraseFault {
+    ghost use Rattle.otp_mode.specs.declared.fault.PhraseFault.TheVariants.{EndsFailed};
+
+    ghost from_gives = { λ _ fault. fault ≡ EndsFailed };
+
+    fn from(_: Failed) -> Self {
+        PhraseFault::EndsFailed
+    }
+}
+
+impl From<PhraseFault> for OtpFault {
+    ghost from_gives = { λ unread fault. fault ≡ fault_of_phrase unread };
+
+    fn from(fault: PhraseFault) -> Self {
+        match fault {
+            PhraseFault::EndsFailed => OtpFault::EndsFailed,
+            PhraseFault::Refused => OtpFault::PhraseRefused,
         }
     }
 }

@@ -3,11 +3,11 @@
 ghost use Rattle.std.specs.Prelude.{◌≡◌, ◌≤◌, IfOk, option_map};
 ghost use Rattle.outside.specs.Told.{Goes, Rose};
 ghost use Rattle.fixed_list.specs.FixedList.{list_of};
-ghost use Rattle.otp_mode.specs.declared.fault.OtpFault.{OtpFault};
+ghost use Rattle.otp_mode.specs.declared.fault.PhraseFault.{PhraseFault};
 ghost use Rattle.otp_mode.specs.Phrase.{is_phrase, phrase_of};
 ghost use Rattle.otp_mode.specs.Inner.{Accepted, IsPhraseFault};
 
-use crate::fault::OtpFault;
+use crate::fault::PhraseFault;
 use crate::line::{LINE_MAX, first_line, receive_line};
 use fixed_list::FixedList;
 use outside::Stream;
@@ -19,17 +19,22 @@ const PHRASE_MIN: usize = 10;
 /// The most bytes that a pass phrase has.
 const PHRASE_MAX: usize = 63;
 
-/// Receives the first line of the input, and takes the pass phrase from it.
-pub fn read_phrase<E: Stream>(ends: &mut E) -> Result<FixedList<63>, OtpFault>
+/// Receives the first line of the input, and takes the pass phrase from it: 10 to 63 bytes of printable
+/// ASCII. No more than 4,096 bytes are received, and nothing is sent.
+///
+/// # Errors
+///
+/// The input failed, or its first line is no pass phrase.
+pub fn read_phrase<E: Stream>(ends: &mut E) -> Result<FixedList<63>, PhraseFault>
     ensures phrase { IfOk result (λ phrase.
         Goes (Accepted (list_of phrase)) (E.link ends.old) (E.link ends.new)) }
-    ensures fault { (fault : OtpFault) → result ≡ Err fault → IsPhraseFault (E.link ends.old)
+    ensures fault { (fault : PhraseFault) → result ≡ Err fault → IsPhraseFault (E.link ends.old)
         (E.link ends.new) (Rose (E.faults ends.old) (E.faults ends.new)) fault }
     ensures faults { E.faults ends.old ≤ E.faults ends.new }
 {
     let mut buf = [0; LINE_MAX];
     let n = receive_line(ends, &mut buf)?;
-    phrase_in(&buf[..n]).ok_or(OtpFault::PhraseRefused)
+    phrase_in(&buf[..n]).ok_or(PhraseFault::Refused)
 }
 
 /// The pass phrase of an input.

@@ -8,25 +8,58 @@ use otp_words::{DictFault, DictRule};
 use std::{fmt, io};
 
 /// Why the program ends with a status, or what is to be thought of, in one line for the one who called
-/// it: from the report alone, and without memory.
+/// it. It takes no memory.
 #[derive(Clone, Copy)]
-pub struct Complaint {
+pub struct Complaint<'a> {
     /// The exit status.
     pub status: u8,
     /// Which file is missing, or what is wrong with it or with the response.
     pub detail: Detail,
-    /// What the system said where the socket could not be listened at, or a file not be replaced.
-    pub error: Option<io::Error>,
+    /// What it is about: the path of a file, a socket or a program.
+    pub path: Option<&'a str>,
+    /// What the system said.
+    pub cause: Option<io::Error>,
 }
 
-impl fmt::Display for Complaint {
+impl Complaint<'_> {
+    /// A status alone.
+    pub fn plain(status: u8) -> Complaint<'static> {
+        Complaint {
+            status,
+            detail: Detail::Nothing,
+            path: None,
+            cause: None,
+        }
+    }
+}
+
+impl fmt::Display for Complaint<'_> {
     fn fmt<W: fmt::Write>(&self, f: &mut fmt::Formatter<W>) -> fmt::Result {
         f.write_str("otplogd: ")?;
+        if let Some(path) = self.path {
+            write!(f, "{path}: ")?;
+        }
         match self.detail {
-            Detail::Nothing => match self.error {
-                Some(error) => write!(f, "{}: {error}", status_text(self.status)),
-                None => f.write_str(status_text(self.status)),
-            },
+            Detail::Nothing => f.write_str(status_text(self.status))?,
+            detail => write!(f, "{}", DetailText { detail })?,
+        }
+        match self.cause {
+            Some(cause) => write!(f, ": {cause}"),
+            None => Ok(()),
+        }
+    }
+}
+
+/// What is wrong with a file or a response.
+#[derive(Clone, Copy)]
+struct DetailText {
+    detail: Detail,
+}
+
+impl fmt::Display for DetailText {
+    fn fmt<W: fmt::Write>(&self, f: &mut fmt::Formatter<W>) -> fmt::Result {
+        match self.detail {
+            Detail::Nothing => f.write_str("it failed"),
             Detail::FewRequests { requests } => write!(
                 f,
                 "the setup is right, but its {requests} requests are few: a login takes 9, and one more for \
@@ -39,17 +72,19 @@ impl fmt::Display for Complaint {
                 key.word(),
                 rule.word()
             ),
-            Detail::WordsBad(DictFault { line, rule }) => write!(
-                f,
-                "the word list is refused: line {line} {}",
-                list_rule_text(rule)
-            ),
+            Detail::WordsBad(DictFault { line, rule }) => {
+                write!(
+                    f,
+                    "the word list is refused: line {line} {}",
+                    list_rule_text(rule)
+                )
+            }
             Detail::LogNotFresh => {
                 f.write_str(
                     "the durable log is not a fresh one: call otplogd recover SETUP LOG first",
                 )
             }
-            Detail::LogBad { number: 0 } => f.write_str("the durable log is none"),
+            Detail::LogBad { number: 0 } => f.write_str("this is no durable log"),
             Detail::LogBad { number } => {
                 write!(
                     f,
@@ -73,18 +108,14 @@ impl fmt::Display for Complaint {
 /// What a status alone tells.
 fn status_text(status: u8) -> &'static str {
     match status {
-        2 => {
-            "call it as otplogd serve [SETUP [LOG]], otplogd recover SETUP LOG, otplogd check SETUP, \
-            otplogd audit SETUP LOG, otplogd renew SETUP NAME, otplogd otp md5|sha1 N SEED [WORDS] \
-            or otplogd drill N"
-        }
-        3 => "a file could not be read",
+        2 => "an argument is no text: try 'otplogd --help'",
+        3 => "could not be read",
         4 => "a file is not there",
         5 => "a file is refused",
-        6 => "the socket could not be listened at",
+        6 => "can't serve",
         7 => "a line could not be written to the log, or another file has the log's place",
-        8 => "the setup or the durable log could not be replaced",
-        9 => "memory was wanted",
+        8 => "could not be replaced",
+        9 => "out of memory",
         10 => "a worker could not wait for a connection",
         11 => "standard input could not be read, or standard output not be written",
         12 => {
@@ -110,7 +141,7 @@ fn file_text(file: FileKind) -> &'static str {
 /// What a word list has at the line of its first fault.
 fn list_rule_text(rule: DictRule) -> &'static str {
     match rule {
-        DictRule::Count => "is the last, and 2,048 lines are wanted",
+        DictRule::Count => "is the last, and 2,048 lines are needed",
         DictRule::Length => "has not 1 to 4 letters",
         DictRule::Letter => "has another character than a letter",
         DictRule::Twice => "has a word that stands before",

@@ -1,5 +1,6 @@
 //! The durable log that the words of the command line name.
 
+use crate::complaint::Complaint;
 use durable_log::Disk;
 use line_log::LineLog;
 use outside::Word;
@@ -18,16 +19,20 @@ pub(crate) type RunLog = RealLog<LogStderr, HostRuntime>;
 pub(crate) enum LogError {
     /// Memory was wanted.
     OutOfMemory,
-    /// A run or a recovery has the durable log.
+    /// The durable log is in use: by a run, a recovery or a renewal.
     Taken,
 }
 
 impl LogError {
-    /// The exit status.
-    pub(crate) fn status(self) -> u8 {
-        match self {
-            LogError::OutOfMemory => 9,
-            LogError::Taken => 13,
+    /// What is said of words that have no log.
+    pub(crate) fn complaint(self, words: &[Word]) -> Complaint<'_> {
+        match (self, words) {
+            (LogError::OutOfMemory, _) => Complaint::plain(9),
+            (LogError::Taken, [.., log]) => Complaint {
+                path: Some(log.as_str()),
+                ..Complaint::plain(13)
+            },
+            (LogError::Taken, []) => Complaint::plain(13),
         }
     }
 }
@@ -80,12 +85,13 @@ fn log_on_disk(rt: HostRuntime, alloc: Global, name: &Word) -> Result<RunLog, Lo
     })
 }
 
-/// The log of a run, and the file that the words recover from, locked until it is dropped, so that no run
-/// writes to it meanwhile. The log is standard error, but where the words name a durable one.
+/// The log of a run, and the durable one that the words recover from or renew beside, locked until it is
+/// dropped, so that no run writes to it meanwhile. The log is standard error, but where the words serve
+/// with a durable one.
 ///
 /// # Errors
 ///
-/// There isn't the memory, or a run or a recovery has the durable log.
+/// There isn't the memory, or the durable log is in use: by a run, a recovery or a renewal.
 pub(crate) fn logs_of(
     rt: HostRuntime,
     alloc: Global,
@@ -95,6 +101,7 @@ pub(crate) fn logs_of(
     match words {
         [mode, _, name] if mode.as_str() == "serve" => Ok((log_on_disk(rt, alloc, name)?, None)),
         [mode, _, name] if mode.as_str() == "recover" => Ok((plain, lock(&rt, name)?)),
+        [mode, _, _, name] if mode.as_str() == "renew" => Ok((plain, lock(&rt, name)?)),
         _ => Ok((plain, None)),
     }
 }

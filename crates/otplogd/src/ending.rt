@@ -2,8 +2,12 @@
 
 use crate::complaint::Complaint;
 use crate::durable::prompt_stderr;
+use crate::setup_text::setup_text;
+use journal_counts::Counted;
+use monitor_server::Detail;
 use outside_real::{LogStderr, RealPost};
-use std::alloc::Global;
+use policy_model::Event;
+use std::alloc::{AllocError, Global};
 use std::io::Write;
 use std::{fmt, io};
 
@@ -22,6 +26,8 @@ pub(crate) struct RunFaults {
     pub(crate) vault: u64,
     /// Copies of a durable log's lines to standard error.
     pub(crate) dropped: u64,
+    /// Workers for which no thread could be made.
+    pub(crate) thread: u64,
 }
 
 impl RunFaults {
@@ -34,6 +40,7 @@ impl RunFaults {
             connection: 0,
             vault: 0,
             dropped,
+            thread: threadless(posts),
         };
         for post in posts {
             let faults = post.faults();
@@ -54,7 +61,23 @@ impl RunFaults {
             && self.connection == 0
             && self.vault == 0
             && self.dropped == 0
+            && self.thread == 0
     }
+}
+
+/// How many posts served in the thread of one before them: no thread could be made for these.
+fn threadless(posts: &[RealPost<HostRuntime>]) -> u64 {
+    let mut count = 0u64;
+    for (place, post) in posts.iter().enumerate() {
+        if posts
+            .iter()
+            .take(place)
+            .any(|other| other.shares_thread(post))
+        {
+            count = count.saturating_add(1);
+        }
+    }
+    count
 }
 
 impl fmt::Display for RunFaults {
@@ -66,6 +89,7 @@ impl fmt::Display for RunFaults {
             connection,
             vault,
             dropped,
+            thread,
         } = *self;
         write!(
             f,
@@ -73,30 +97,79 @@ impl fmt::Display for RunFaults {
         )?;
         write!(
             f,
-            "connection {connection}, vault {vault}, dropped lines {dropped}"
+            "connection {connection}, vault {vault}, dropped lines {dropped}, thread {thread}"
         )
     }
 }
 
-/// Says on standard error why a run ended, where that isn't with 0, and which faults it had. Where the
-/// log is a durable one, nothing waits for that.
+/// What a run came to.
+#[derive(Clone, Copy)]
+pub(crate) struct RunCounts {
+    sessions: usize,
+    logins: usize,
+    events: usize,
+}
+
+impl RunCounts {
+    /// The counts of a run's journal.
+    pub(crate) fn of(journal: &[Event]) -> RunCounts {
+        RunCounts {
+            sessions: Counted::Sessions.count_in(journal),
+            logins: Counted::Accepted.count_in(journal),
+            events: Counted::Events.count_in(journal),
+        }
+    }
+}
+
+impl fmt::Display for RunCounts {
+    fn fmt<W: fmt::Write>(&self, f: &mut fmt::Formatter<W>) -> fmt::Result {
+        let RunCounts {
+            sessions,
+            logins,
+            events,
+        } = *self;
+        write!(
+            f,
+            "otplogd: ended: sessions {sessions}, logins {logins}, events {events}"
+        )
+    }
+}
+
+/// The line that says what a status means.
+pub(crate) fn complaint_text(
+    rt: &HostRuntime,
+    alloc: Global,
+    complaint: Complaint<'_>,
+) -> Result<String, AllocError> {
+    match (complaint.detail, complaint.path) {
+        (Detail::SetupBad(fault), Some(path)) => setup_text(rt, alloc, path, &fault),
+        _ => format!(in alloc; "{complaint}\n"),
+    }
+}
+
+/// Says on standard error why a run ended, where that isn't with 0, which faults it had, and what it came
+/// to, where its log is a durable one. Nothing waits for that then: standard error is no log.
 pub(crate) fn say_end(
     rt: HostRuntime,
     alloc: Global,
-    complaint: Complaint,
+    complaint: Complaint<'_>,
     faults: RunFaults,
-    is_durable: bool,
+    counts: Option<RunCounts>,
 ) -> io::Result<()> {
-    let mut stderr = match is_durable {
-        true => prompt_stderr(rt, alloc),
-        false => LogStderr::waiting(rt.stderr()),
+    let mut stderr = match counts {
+        Some(_) => prompt_stderr(rt, alloc),
+        None => LogStderr::waiting(rt.stderr()),
     };
     if complaint.status != 0 {
-        let line = format!(in alloc; "{complaint}\n")?;
+        let line = complaint_text(&rt, alloc, complaint)?;
         stderr.write_all(line.as_bytes())?;
     }
     if !faults.is_none() {
         let line = format!(in alloc; "{faults}\n")?;
+        stderr.write_all(line.as_bytes())?;
+    }
+    if let Some(counts) = counts {
+        let line = format!(in alloc; "{counts}\n")?;
         stderr.write_all(line.as_bytes())?;
     }
     Ok(())

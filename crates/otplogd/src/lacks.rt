@@ -25,43 +25,44 @@ pub(crate) fn say_lacks(
 
 /// Says what the setup of this name lacks, if it is a file: a pipe can't be read a second time.
 fn say_lacks_of(rt: HostRuntime, alloc: Global, files: &mut RealFiles<HostRuntime>, name: &Word) {
-    if !is_file(rt, name) {
+    if !is_file(&rt, name) {
         return;
     }
     let Ok(setup) = read_setup_file(alloc, files, name.as_str()) else {
         return;
     };
-    let is_there = is_folder(&rt, setup.vault());
-    say_unless(
-        rt,
-        is_there,
-        "otplogd: the vault is no folder that is there",
-    );
-    let can_run = is_launcher(&rt, setup.launcher());
+    let vault = setup.vault();
+    let is_there = is_folder(&rt, vault);
+    say_unless(rt, is_there, vault, "the vault is no folder that is there");
+    let launcher = setup.launcher();
+    let can_run = is_launcher(&rt, launcher);
     say_unless(
         rt,
         can_run,
-        "otplogd: the launcher is no program that can be run",
+        launcher,
+        "the launcher is no program that can be run",
     );
-    let has_place = has_folder(&rt, setup.socket());
+    let socket = setup.socket();
+    let has_place = has_folder(&rt, socket);
     say_unless(
         rt,
         has_place,
-        "otplogd: the folder of the socket is not there",
+        socket,
+        "the folder of the socket is not there",
     );
 }
 
 /// Whether a file stands at a path.
-fn is_file(rt: HostRuntime, name: &Word) -> bool {
-    match fs::metadata(&rt, name.as_str()) {
+pub(crate) fn is_file(rt: &HostRuntime, name: &Word) -> bool {
+    match fs::metadata(rt, name.as_str()) {
         Ok(found) => found.is_file(),
         Err(_) => false,
     }
 }
 
-/// Says something on standard error, unless all is right.
-fn say_unless(rt: HostRuntime, is_right: bool, what: &str) {
+/// Says on standard error what a path lacks, unless all is right.
+fn say_unless(rt: HostRuntime, is_right: bool, path: &str, what: &str) {
     if !is_right {
-        let _ = rt.eprintln(what);
+        let _ = eprintln!(&rt; "otplogd: {path}: {what}");
     }
 }

@@ -4,27 +4,36 @@
 //! why, and after a run how often the outside failed, if it did.
 #![tactic(auto)]
 
+mod announcing;
 mod complaint;
 mod durable;
 mod ending;
 mod information;
 mod lacks;
+mod seed;
+mod setup_fault;
+mod setup_line;
+mod setup_text;
+mod usage;
 
+use announcing::notice_of;
 use complaint::Complaint;
 use durable::{RunLog, logs_of};
-use ending::{RunFaults, say_end};
+use ending::{RunCounts, RunFaults, complaint_text, say_end};
 use info_hooks::{Hook, Hooks};
 use information::{chain_form, person_form, say_chain, say_person};
 use lacks::say_lacks;
 use monitor_server::{Answer, Detail, Report, otplogd, run_alone};
 use outside::Word;
-use outside_real::{RealEnds, RealFiles, RealPost, RealSite, fill_standard_streams};
+use outside_real::{ListenFailure, RealEnds, RealFiles, RealPost, RealSite, fill_standard_streams};
+use seed::{RANDOM, add_seed};
 use std::alloc::{AllocError, Global};
 use std::env::Args;
 use std::io::ErrorKind;
 use std::process::ExitCode;
 use std::rt::Env;
 use std::{env, io};
+use usage::{answer_help, mistake_text};
 
 #[cfg(test)]
 mod tests;
@@ -35,11 +44,14 @@ const NO_COMMAND: u8 = 2;
 /// The socket could not be listened at.
 const NO_SOCKET: u8 = 6;
 
-/// The setup or the durable log could not be replaced.
-const NOT_REPLACED: u8 = 8;
+/// A line could not be written to the log.
+const NO_LOG: u8 = 7;
 
 /// Memory was wanted before the run began.
 const NO_MEMORY: u8 = 9;
+
+/// A worker could not wait for a connection.
+const NO_WAIT: u8 = 10;
 
 /// A standard stream was closed, and nothing can be opened in its place.
 const NO_STREAM: u8 = 11;
@@ -62,23 +74,105 @@ fn words_given(rt: &HostRuntime) -> Result<Vec<Word>, u8> {
     }
 }
 
+/// The words that are done: those of the command line, with a seed where they want one, or the status
+/// where they can't be had.
+fn words_done(rt: &HostRuntime) -> Result<Vec<Word>, u8> {
+    let mut words = words_given(rt)?;
+    match add_seed(rt, rt.alloc(), &mut words) {
+        Ok(()) => Ok(words),
+        Err(error) => Err(error.status()),
+    }
+}
+
+/// Why there are no words: of the statuses, 3 is about the random bytes of a seed.
+fn of_words(status: u8) -> Complaint<'static> {
+    Complaint {
+        path: match status {
+            3 => Some(RANDOM),
+            _ => None,
+        },
+        ..Complaint::plain(status)
+    }
+}
+
 /// Says why there is no run, and gives the exit status.
-fn complain(rt: &impl Eprint, status: u8) -> ExitCode {
-    let _ = rt.eprintln(Complaint {
-        status,
-        detail: Detail::Nothing,
-        error: None,
-    });
-    ExitCode::from(status)
+fn complain(rt: &impl Eprint, complaint: Complaint<'_>) -> ExitCode {
+    let _ = rt.eprintln(complaint);
+    ExitCode::from(complaint.status)
 }
 
 /// The site of a run. Where the words name a setup, its vault and its launcher have to be there: the plain
-/// one, by which nobody can log in, needs no vault.
+/// one, by which nobody can log in, needs no vault. Where they name a durable log, the site says on standard
+/// error that it listens, which is no log then.
 fn site_of(rt: HostRuntime, alloc: Global, words: &[Word]) -> RealSite<HostRuntime> {
     let site = RealSite::new(rt, alloc);
     match words {
         [_] => site,
-        _ => site.that_looks(),
+        [_, _] => site.that_looks(),
+        [_, setup, ..] => match notice_of(rt, alloc, setup) {
+            Some(notice) => site.that_looks().that_says(notice),
+            None => site.that_looks(),
+        },
+        [] => site,
+    }
+}
+
+/// What a run's status is about, as far as that can be told.
+fn complaint_of<'a>(
+    report: &Report<RealPost<HostRuntime>, RunLog>,
+    words: &'a [Word],
+    files: &'a RealFiles<HostRuntime>,
+    site: &'a RealSite<HostRuntime>,
+) -> Complaint<'a> {
+    let plain = Complaint {
+        status: report.status,
+        detail: report.detail,
+        path: None,
+        cause: None,
+    };
+    match (report.status, words) {
+        (NO_SOCKET, _) => of_listening(plain, site.failure()),
+        (NO_LOG, [_, _, log]) => Complaint {
+            path: Some(log.as_str()),
+            ..plain
+        },
+        (NO_WAIT, _) => Complaint {
+            cause: accept_error(report.posts.as_slice()),
+            ..plain
+        },
+        (NO_LOG | NO_MEMORY, _) => plain,
+        _ => of_files(plain, files),
+    }
+}
+
+/// Why a worker could not wait for a connection: what the system said to the first such one.
+fn accept_error(posts: &[RealPost<HostRuntime>]) -> Option<io::Error> {
+    for post in posts {
+        if let Some(error) = post.accept_error() {
+            return Some(error);
+        }
+    }
+    None
+}
+
+/// A complaint about the file that was read or replaced last.
+fn of_files<'a>(plain: Complaint<'a>, files: &'a RealFiles<HostRuntime>) -> Complaint<'a> {
+    Complaint {
+        path: files.last_path(),
+        cause: files.last_error(),
+        ..plain
+    }
+}
+
+/// A complaint about what a site could not listen with.
+fn of_listening<'a>(plain: Complaint<'a>, failure: Option<&'a ListenFailure>) -> Complaint<'a> {
+    match failure {
+        Some(failure) => Complaint {
+            path: Some(failure.path.as_str()),
+            cause: Some(failure.error),
+            ..plain
+        },
+        None => plain,
     }
 }
 
@@ -87,50 +181,68 @@ fn conclude(
     rt: HostRuntime,
     alloc: Global,
     report: &Report<RealPost<HostRuntime>, RunLog>,
-    error: Option<io::Error>,
+    words: &[Word],
+    complaint: Complaint<'_>,
 ) -> ExitCode {
-    let complaint = Complaint {
-        status: report.status,
-        detail: report.detail,
-        error,
-    };
-    if report.posts.is_empty() {
-        if report.status != 0 {
-            let _ = rt.eprintln(complaint);
-        }
-    } else {
+    if report.status == NO_COMMAND {
+        return refuse(&rt, alloc, words);
+    }
+    if !report.posts.is_empty() {
         let faults = RunFaults::of(report.posts.as_slice(), report.log.dropped());
-        let _ = say_end(rt, alloc, complaint, faults, report.log.is_durable());
+        let run = match report.log.is_durable() {
+            true => Some(RunCounts::of(report.journal.as_slice())),
+            false => None,
+        };
+        let _ = say_end(rt, alloc, complaint, faults, run);
+    } else if report.status != 0 {
+        say(&rt, alloc, complaint);
     }
     ExitCode::from(report.status)
 }
 
-/// What the system said where a run's status is of the socket, or of a setup that could not be replaced.
-fn error_of(
-    status: u8,
-    site: &RealSite<HostRuntime>,
-    files: &RealFiles<HostRuntime>,
-) -> Option<io::Error> {
-    match status {
-        NO_SOCKET => site.listen_error(),
-        NOT_REPLACED => files.replace_error(),
-        _ => None,
+/// Says what is wrong with words that are no command, and gives the exit status.
+fn refuse(rt: &HostRuntime, alloc: Global, words: &[Word]) -> ExitCode {
+    match mistake_text(alloc, words) {
+        Ok(text) => {
+            let _ = rt.eprint(text.as_str());
+        }
+        Err(AllocError) => {
+            let _ = rt.eprintln(Complaint::plain(NO_COMMAND));
+        }
+    }
+    ExitCode::from(NO_COMMAND)
+}
+
+/// Says on standard error what a status means.
+fn say(rt: &HostRuntime, alloc: Global, complaint: Complaint<'_>) {
+    match complaint_text(rt, alloc, complaint) {
+        Ok(text) => {
+            let _ = rt.eprint(text.as_str());
+        }
+        Err(AllocError) => {
+            let _ = rt.eprintln(complaint);
+        }
     }
 }
 
 /// Says what came of words that served nobody: why the status isn't 0, or what is to be thought of.
-fn conclude_alone(rt: &impl Eprint, answer: Answer, files: &RealFiles<HostRuntime>) -> ExitCode {
+fn conclude_alone(
+    rt: &HostRuntime,
+    alloc: Global,
+    answer: Answer,
+    files: &RealFiles<HostRuntime>,
+) -> ExitCode {
     let Answer { status, detail } = answer;
-    if status != 0 || detail != Detail::Nothing {
-        let error = match status {
-            NOT_REPLACED => files.replace_error(),
-            _ => None,
-        };
-        let _ = rt.eprintln(Complaint {
-            status,
-            detail,
-            error,
-        });
+    let plain = Complaint {
+        status,
+        detail,
+        path: None,
+        cause: None,
+    };
+    match (status, detail) {
+        (0, Detail::Nothing) => {}
+        (NO_MEMORY | 11 | 12 | 15, _) => say(rt, alloc, plain),
+        _ => say(rt, alloc, of_files(plain, files)),
     }
     ExitCode::from(status)
 }
@@ -145,33 +257,40 @@ fn answer_alone(
     let mut ends = RealEnds::new(rt.stdin(), rt.stdout());
     let mut files = RealFiles::new(rt, alloc);
     let answer = run_alone(alloc, words, &mut files, &mut ends, information)?;
+    if answer.status == NO_COMMAND {
+        return Some(refuse(&rt, alloc, words));
+    }
+    let status = conclude_alone(&rt, alloc, answer, &files);
     say_lacks(rt, alloc, &mut files, words, answer.status);
-    Some(conclude_alone(&rt, answer, &files))
+    Some(status)
 }
 
 fn main(rt: HostRuntime) -> ExitCode {
     if fill_standard_streams(&rt).is_err() {
-        return complain(&rt, NO_STREAM);
+        return complain(&rt, Complaint::plain(NO_STREAM));
     }
     let alloc = rt.alloc();
-    let words = match words_given(&rt) {
+    let words = match words_done(&rt) {
         Ok(words) => words,
-        Err(status) => return complain(&rt, status),
+        Err(status) => return complain(&rt, of_words(status)),
     };
+    let words = words.as_slice();
+    if let Some(status) = answer_help(&rt, alloc, words) {
+        return status;
+    }
     let hooks = vec![in alloc;
         Hook::new(1, person_form(), say_person),
         Hook::new(2, chain_form(), say_chain),
     ];
     let Ok(hooks) = hooks else {
-        return complain(&rt, NO_MEMORY);
+        return complain(&rt, Complaint::plain(NO_MEMORY));
     };
     let Ok(information) = Hooks::new(hooks) else {
-        return complain(&rt, NO_MEMORY);
+        return complain(&rt, Complaint::plain(NO_MEMORY));
     };
-    let words = words.as_slice();
     let (log, _lock) = match logs_of(rt, alloc, words) {
         Ok(logs) => logs,
-        Err(error) => return complain(&rt, error.status()),
+        Err(error) => return complain(&rt, error.complaint(words)),
     };
     if let Some(status) = answer_alone(rt, alloc, words, &information) {
         return status;
@@ -189,5 +308,6 @@ fn main(rt: HostRuntime) -> ExitCode {
         &mut ends,
         &information,
     );
-    conclude(rt, alloc, &report, error_of(report.status, &site, &files))
+    let complaint = complaint_of(&report, words, &files, &site);
+    conclude(rt, alloc, &report, words, complaint)
 }

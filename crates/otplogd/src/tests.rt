@@ -1,139 +1,88 @@
 use crate::complaint::Complaint;
-use crate::ending::RunFaults;
-use account_file::{SetupFault, SetupKey, SetupRule};
+use crate::ending::{RunCounts, RunFaults};
 use audit_check::AuditWhy;
 use monitor_server::{Detail, FileKind};
 use otp_extended::RenewFault;
 use otp_words::{DictFault, DictRule};
+use std::alloc::{AllocError, Global};
+use std::fmt::Display;
 use std::io;
 use std::test::Fail;
 
+/// Whether a value is written as this line.
+fn is_told(alloc: Global, value: &impl Display, line: &str) -> Result<bool, AllocError> {
+    let text = format!(in alloc; "{value}")?;
+    Ok(text.as_str() == line)
+}
+
 #[test]
-fn each_status_has_its_line(rt: HostRuntime) -> Result<(), Fail> {
-    let twice = SetupFault {
-        key: SetupKey::Uid,
-        rule: SetupRule::Twice,
-        account: 2,
-    };
+fn a_status_alone_has_its_line(rt: HostRuntime) -> Result<(), Fail> {
+    let alloc = rt.alloc();
+    let rows = [
+        (
+            7,
+            "otplogd: a line could not be written to the log, or another file has the log's place",
+        ),
+        (9, "otplogd: out of memory"),
+        (10, "otplogd: a worker could not wait for a connection"),
+        (
+            11,
+            "otplogd: standard input could not be read, or standard output not be written",
+        ),
+    ];
+    for (status, line) in rows {
+        let complaint = Complaint::plain(status);
+        assert!(rt; is_told(alloc, &complaint, line)?);
+    }
+    Ok(())
+}
+
+#[test]
+fn a_detail_has_its_line(rt: HostRuntime) -> Result<(), Fail> {
+    let alloc = rt.alloc();
     let count = DictFault {
         line: 2_047,
         rule: DictRule::Count,
     };
     let rows = [
         (
-            0,
             Detail::FewRequests { requests: 8 },
-            "otplogd: the setup is right, but its 8 requests are few: a login takes 9, and one more for \
+            "otplogd: f: the setup is right, but its 8 requests are few: a login takes 9, and one more for \
             each further piece of the client's lines",
         ),
         (
-            2,
-            Detail::Nothing,
-            "otplogd: call it as otplogd serve [SETUP [LOG]], otplogd recover SETUP LOG, \
-            otplogd check SETUP, otplogd audit SETUP LOG, otplogd renew SETUP NAME, \
-            otplogd otp md5|sha1 N SEED [WORDS] or otplogd drill N",
-        ),
-        (3, Detail::Nothing, "otplogd: a file could not be read"),
-        (
-            4,
-            Detail::Missing {
-                file: FileKind::Setup,
-            },
-            "otplogd: the setup is not there",
-        ),
-        (
-            4,
-            Detail::Missing {
-                file: FileKind::Words,
-            },
-            "otplogd: the word list is not there",
-        ),
-        (
-            4,
             Detail::Missing {
                 file: FileKind::Log,
             },
-            "otplogd: the log is not there",
+            "otplogd: f: the log is not there",
         ),
         (
-            5,
-            Detail::SetupBad(twice),
-            "otplogd: the setup is refused: key uid, rule twice, account 2",
-        ),
-        (
-            5,
             Detail::WordsBad(count),
-            "otplogd: the word list is refused: line 2047 is the last, and 2,048 lines are wanted",
+            "otplogd: f: the word list is refused: line 2047 is the last, and 2,048 lines are needed",
         ),
         (
-            6,
-            Detail::Nothing,
-            "otplogd: the socket could not be listened at",
-        ),
-        (
-            7,
-            Detail::Nothing,
-            "otplogd: a line could not be written to the log, or another file has the log's place",
-        ),
-        (
-            8,
-            Detail::Nothing,
-            "otplogd: the setup or the durable log could not be replaced",
-        ),
-        (9, Detail::Nothing, "otplogd: memory was wanted"),
-        (
-            10,
-            Detail::Nothing,
-            "otplogd: a worker could not wait for a connection",
-        ),
-        (
-            11,
-            Detail::Nothing,
-            "otplogd: standard input could not be read, or standard output not be written",
-        ),
-        (
-            12,
-            Detail::Nothing,
-            "otplogd: the input is refused: a pass phrase is 10 to 63 bytes of printable ASCII, \
-            and a response one of RFC 2243",
-        ),
-        (
-            13,
-            Detail::LogNotFresh,
-            "otplogd: the durable log is not a fresh one: call otplogd recover SETUP LOG first",
-        ),
-        (
-            13,
-            Detail::LogBad { number: 0 },
-            "otplogd: the durable log is none",
-        ),
-        (
-            13,
             Detail::LogBad { number: 7 },
-            "otplogd: the durable log can't be recovered: record 7 is wrong",
+            "otplogd: f: the durable log can't be recovered: record 7 is wrong",
         ),
         (
-            14,
             Detail::AuditNo {
                 line: 7,
                 why: AuditWhy::Event,
             },
-            "otplogd: the log is not legal: line 7 has an event that the policy does not give",
+            "otplogd: f: the log is not legal: line 7 has an event that the policy does not give",
         ),
         (
-            15,
             Detail::RenewBad(RenewFault::NoMatch),
-            "otplogd: the response renews nothing: its current password is not the next one",
+            "otplogd: f: the response renews nothing: its current password is not the next one",
         ),
     ];
-    for (status, detail, line) in rows {
+    for (detail, line) in rows {
         let complaint = Complaint {
-            status,
             detail,
-            error: None,
+            path: Some("f"),
+            ..Complaint::plain(1)
         };
-        let text = format!(in rt.alloc(); "{complaint}")?;
-        assert!(rt; text.as_str() == line);
+        assert!(rt; is_told(alloc, &complaint, line)?);
     }
     Ok(())
 }
@@ -141,13 +90,12 @@ fn each_status_has_its_line(rt: HostRuntime) -> Result<(), Fail> {
 #[test]
 fn what_the_system_said_is_told_too(rt: HostRuntime) -> Result<(), Fail> {
     let complaint = Complaint {
-        status: 6,
-        detail: Detail::Nothing,
-        error: Some(io::Error::other("the vault is not there")),
+        path: Some("/run/otplogd/socket"),
+        cause: Some(io::Error::other("it is taken")),
+        ..Complaint::plain(6)
     };
-    let text = format!(in rt.alloc(); "{complaint}")?;
-    let wanted = "otplogd: the socket could not be listened at: the vault is not there";
-    assert!(rt; text.as_str() == wanted);
+    let line = "otplogd: /run/otplogd/socket: can't serve: it is taken";
+    assert!(rt; is_told(rt.alloc(), &complaint, line)?);
     Ok(())
 }
 
@@ -160,10 +108,17 @@ fn faults_have_one_line(rt: HostRuntime) -> Result<(), Fail> {
         connection: 3,
         vault: 4,
         dropped: 5,
+        thread: 6,
     };
-    let text = format!(in rt.alloc(); "{faults}")?;
-    let wanted =
-        "otplogd: faults: accept 0, start 1, link 2, connection 3, vault 4, dropped lines 5";
-    assert!(rt; text.as_str() == wanted);
+    let line =
+        "otplogd: faults: accept 0, start 1, link 2, connection 3, vault 4, dropped lines 5, thread 6";
+    assert!(rt; is_told(rt.alloc(), &faults, line)?);
+    Ok(())
+}
+
+#[test]
+fn a_run_that_had_no_event_is_told(rt: HostRuntime) -> Result<(), Fail> {
+    let line = "otplogd: ended: sessions 0, logins 0, events 0";
+    assert!(rt; is_told(rt.alloc(), &RunCounts::of(&[]), line)?);
     Ok(())
 }

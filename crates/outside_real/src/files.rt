@@ -25,9 +25,34 @@ pub struct RealFiles<R> {
     alloc: Global,
     reading: Option<Reading>,
     seen: SeenFiles,
-    replace_error: Option<io::Error>,
+    last: LastCall,
     read_faults: u64,
     replace_faults: u64,
+}
+
+/// Which file the last call was about, and why it failed, if it did.
+#[derive(Drop)]
+struct LastCall {
+    path: Option<String>,
+    error: Option<io::Error>,
+}
+
+impl LastCall {
+    /// There was no call.
+    fn none() -> LastCall {
+        LastCall {
+            path: None,
+            error: None,
+        }
+    }
+
+    /// A call at this path.
+    fn at(alloc: Global, path: &str, error: Option<io::Error>) -> LastCall {
+        LastCall {
+            path: String::from_str(alloc, path).ok(),
+            error,
+        }
+    }
 }
 
 impl<R> RealFiles<R> {
@@ -43,15 +68,23 @@ impl<R> RealFiles<R> {
             alloc,
             reading: None,
             seen: SeenFiles::new(alloc),
-            replace_error: None,
+            last: LastCall::none(),
             read_faults: 0,
             replace_faults: 0,
         }
     }
 
-    /// Why the last replacing failed, if it did.
-    pub fn replace_error(&self) -> Option<io::Error> {
-        self.replace_error
+    /// The path of the file that was read or replaced last.
+    pub fn last_path(&self) -> Option<&str> {
+        match &self.last.path {
+            Some(path) => Some(path.as_str()),
+            None => None,
+        }
+    }
+
+    /// Why the last reading or replacing failed, if it did.
+    pub fn last_error(&self) -> Option<io::Error> {
+        self.last.error
     }
 }
 
@@ -72,6 +105,9 @@ impl<R: FileSystem<File = File> + Drop> Files for RealFiles<R> {
         ensures others { replace_faults_of self.new ≡ replace_faults_of self.old }
     {
         let outcome = self.read_piece(name.as_str(), offset, buf);
+        if offset == 0 || outcome.is_err() {
+            self.last = LastCall::at(self.alloc, name.as_str(), outcome.err());
+        }
         counted(&mut self.read_faults, outcome)
     }
 
@@ -124,13 +160,13 @@ impl<R: FileSystem<File = File>> RealFiles<R> {
         Ok(Some(count))
     }
 
-    /// Replaces a file, and keeps why that failed.
+    /// Replaces a file.
     fn replace_known(&mut self, path: &str, bytes: &[u8]) -> io::Result<()>
         ensures read_faults { read_faults_of self.new ≡ read_faults_of self.old }
         ensures replace_faults { replace_faults_of self.new ≡ replace_faults_of self.old }
     {
         let outcome = replace_file(&self.rt, self.alloc, path, self.seen.of(path), bytes);
-        self.replace_error = outcome.err();
+        self.last = LastCall::at(self.alloc, path, outcome.err());
         if outcome.is_ok() {
             self.seen.forget(path);
         }

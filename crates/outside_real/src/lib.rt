@@ -34,6 +34,6 @@ pub use named::{leads_to, open_alone};
 pub use patience::Patience;
 pub use post::RealPost;
 pub use sink::RealSink;
-pub use site::RealSite;
+pub use site::{ListenFailure, Notice, RealSite};
 pub use standard::fill_standard_streams;
 pub use stream::{RealStream, close, launch};

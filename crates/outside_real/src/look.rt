@@ -1,4 +1,4 @@
-use outside::Place;
+use outside::{Place, Word};
 use std::os::unix::fs::MetadataExt;
 use std::path::Path;
 use std::rt::Files;
@@ -16,6 +16,17 @@ pub(crate) fn look_at<R: Files>(rt: &R, place: &Place) -> io::Result<()> {
         return Err(io::Error::other("the launcher is no program that can be run"));
     }
     Ok(())
+}
+
+/// The path of the vault that isn't there, or else of the launcher that can't be run.
+pub(crate) fn lacking_path<'a, R: Files>(rt: &R, place: &'a Place) -> Option<&'a Word> {
+    if !is_folder(rt, place.vault.as_str()) {
+        return Some(&place.vault);
+    }
+    match is_launcher(rt, place.launcher.as_str()) {
+        true => None,
+        false => Some(&place.launcher),
+    }
 }
 
 /// Whether a folder stands at a path.

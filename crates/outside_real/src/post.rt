@@ -21,6 +21,9 @@ use std::process::{Processes, SystemProcess};
 use std::rt::Files;
 use std::time::{Clock, Duration};
 
+/// Where the system tells which thread asks.
+const THREAD: &str = "/proc/thread-self";
+
 /// The clients of one listening Unix socket, the child programs that serve them, and the users'
 /// files.
 #[derive(Drop)]
@@ -35,6 +38,9 @@ pub struct RealPost<R> {
     begun: u64,
     /// Until when its client and its children may keep the post waiting.
     until: u64,
+    accept_error: Option<io::Error>,
+    /// By what the system knows the thread in which the post first waited for a connection.
+    thread: Option<String>,
     faults: Faults,
 }
 
@@ -62,6 +68,8 @@ impl<R> RealPost<R> {
             clock,
             begun: 0,
             until: u64::MAX,
+            accept_error: None,
+            thread: None,
             faults: Faults::none(),
         }
     }
@@ -71,6 +79,19 @@ impl<R> RealPost<R> {
         ensures { result ≡ faults_of self.now }
     {
         self.faults
+    }
+
+    /// Why its last wait for a connection failed, if it did.
+    pub fn accept_error(&self) -> Option<io::Error> {
+        self.accept_error
+    }
+
+    /// Whether it served in the thread in which another post served too.
+    pub fn shares_thread(&self, other: &RealPost<R>) -> bool {
+        match (&self.thread, &other.thread) {
+            (Some(own), Some(others)) => own.as_str() == others.as_str(),
+            _ => false,
+        }
     }
 
     /// How long somebody may keep the post waiting: this long each time, and not beyond the session's
@@ -102,7 +123,13 @@ impl<
         ensures kept { NoneFell (faults_of self.old) (faults_of self.new) }
         ensures at { place_of self.new ≡ place_of self.old }
     {
-        let conn = counted(&mut self.faults.accept, self.seat.accept())?;
+        self.note_thread();
+        let accepted = self.seat.accept();
+        self.accept_error = match &accepted {
+            Ok(_) => None,
+            Err(error) => Some(*error),
+        };
+        let conn = counted(&mut self.faults.accept, accepted)?;
         self.begun = self.clock.now(&self.rt);
         self.until = moment_after(self.begun, self.limits.login);
         Ok(Some(conn))
@@ -217,6 +244,21 @@ impl<
 }
 
 impl<R: Files<File = File>> RealPost<R> {
+    ghost use Rattle.outside_real.specs.RealPost.{faults_of, place_of};
+
+    /// Keeps by what the system knows this thread, where it is the first in which the post waits.
+    fn note_thread(&mut self)
+        ensures faults { faults_of self.new ≡ faults_of self.old }
+        ensures at { place_of self.new ≡ place_of self.old }
+    {
+        if self.thread.is_none() {
+            self.thread = match self.rt.canonicalize(self.alloc, THREAD) {
+                Ok(path) => Some(path.into_string()),
+                Err(_) => None,
+            };
+        }
+    }
+
     /// Reads a user's file.
     fn read_file(&self, uid: u32, name: &Label, offset: u64, buf: &mut [u8]) -> io::Result<usize>
         ensures { IfOk result (λ n. n ≤ length buf.old) }

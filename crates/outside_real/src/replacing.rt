@@ -1,15 +1,19 @@
+use crate::files::fill;
 use crate::look::folder_of;
 use crate::named::Identity;
 use crate::seen::Found;
 use std::alloc::Global;
 use std::fs::{File, Metadata, OpenOptions};
 use std::io::{ErrorKind, Write};
-use std::os::unix::fs::{MetadataExt, OpenOptionsExt, fchown};
+use std::os::unix::fs::{FileExt, MetadataExt, OpenOptionsExt, fchown};
 use std::rt::Files;
 use std::{fs, io};
 
 /// The permissions of a file that is being written: its owner alone may read and write it.
 const OWNER_ALONE: u32 = 0o600;
+
+/// How many bytes may stand before the byte of 0 at which a file is made to end in its place.
+const FRONT_MAX: usize = 64;
 
 /// Why a file is not replaced that was changed since it was read.
 const CHANGED: &str = "it was changed while this was at work, and was left alone";
@@ -56,12 +60,53 @@ fn replace_at<R: Files<File = File>>(
     let new = new.as_str();
     // One that a run left there that was cut off.
     let _ = fs::remove_file(rt, new);
-    let moved = write_and_move(rt, new, path, found, bytes);
-    if moved.is_err() {
-        let _ = fs::remove_file(rt, new);
-        return moved;
+    match write_and_move(rt, new, path, found, bytes) {
+        Ok(()) => flush_folder(rt, path),
+        Err(error) => {
+            let _ = fs::remove_file(rt, new);
+            match error.kind() {
+                ErrorKind::StorageFull | ErrorKind::QuotaExceeded => {
+                    end_in_place(rt, path, found, bytes).map_err(|_| error)
+                }
+                _ => Err(error),
+            }
+        }
     }
-    flush_folder(rt, path)
+}
+
+/// Makes a file end where these bytes do, if it is still as it was found and begins with all of them but
+/// the last, which is 0. That takes no room on a full disk. A durable log is made fresh so: what stands
+/// after its byte of 0 doesn't count, and that one byte is written before the rest is cut off. So after a
+/// stop in between it is the old log or the fresh one.
+fn end_in_place<R: Files<File = File>>(
+    rt: &R,
+    path: &str,
+    found: Option<Found>,
+    bytes: &[u8],
+) -> io::Result<()> {
+    let [front @ .., 0] = bytes else {
+        return Err(io::Error::from(ErrorKind::Unsupported));
+    };
+    let mut options = OpenOptions::new();
+    options.read(true).write(true);
+    let mut file = options.open(rt, path)?;
+    if was_changed(rt, path, found)? || !begins_with(&mut file, front)? {
+        return Err(io::Error::other(CHANGED));
+    }
+    file.write_all_at(&[0], front.len() as u64)?;
+    file.sync_all()?;
+    file.set_len(bytes.len() as u64)?;
+    file.sync_all()
+}
+
+/// Whether a file begins with these bytes.
+fn begins_with(file: &mut File, front: &[u8]) -> io::Result<bool> {
+    let mut piece = [0; FRONT_MAX];
+    let Some(held) = piece.get_mut(..front.len()) else {
+        return Ok(false);
+    };
+    let count = fill(file, held)?;
+    Ok(count == front.len() && *held == *front)
 }
 
 /// The name of a file that is to take a path's place.

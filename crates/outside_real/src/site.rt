@@ -5,13 +5,15 @@ ghost use Rattle.outside_real.specs.RealPost.{IsFreshPost, IsPostAt};
 use crate::clock::PostClock;
 use crate::counted::counted;
 use crate::limits::Limits;
-use crate::look::look_at;
+use crate::log_stderr::LogStderr;
+use crate::look::{lacking_path, look_at};
 use crate::post::RealPost;
 use crate::seat::Seat;
-use outside::{Failed, Place, Site};
+use outside::{Failed, Place, Site, Word};
 use std::alloc::Global;
 use std::fs::File;
 use std::io;
+use std::io::Write;
 use std::net::Net;
 use std::process::{Processes, SystemProcess};
 use std::rt::Files;
@@ -24,8 +26,27 @@ pub struct RealSite<R> {
     alloc: Global,
     limits: Limits,
     looks: bool,
-    listen_error: Option<io::Error>,
+    notice: Option<Notice>,
+    failure: Option<ListenFailure>,
     listen_faults: u64,
+}
+
+/// What is said once a site listens.
+#[derive(Drop)]
+pub struct Notice {
+    /// Where it is said. Whether it takes it doesn't matter.
+    pub stderr: LogStderr,
+    /// The text, with the newline at its end.
+    pub text: String,
+}
+
+/// Why a site could not listen.
+#[derive(Drop)]
+pub struct ListenFailure {
+    /// The path of the socket, or of the vault or the launcher that isn't as it has to be.
+    pub path: Word,
+    /// What the system said.
+    pub error: io::Error,
 }
 
 impl<R> RealSite<R> {
@@ -47,28 +68,31 @@ impl<R> RealSite<R> {
             alloc,
             limits,
             looks: false,
-            listen_error: None,
+            notice: None,
+            failure: None,
             listen_faults: 0,
         }
     }
 
     /// The same site, which listens only where the place's vault is there and its launcher can be run.
-    pub fn that_looks(self) -> RealSite<R>
+    pub fn that_looks(mut self) -> RealSite<R>
         ensures faults { listen_faults_of result ≡ listen_faults_of self }
     {
-        RealSite {
-            rt: self.rt,
-            alloc: self.alloc,
-            limits: self.limits,
-            looks: true,
-            listen_error: self.listen_error,
-            listen_faults: self.listen_faults,
-        }
+        self.looks = true;
+        self
+    }
+
+    /// The same site, which says this once it listens.
+    pub fn that_says(mut self, notice: Notice) -> RealSite<R>
+        ensures faults { listen_faults_of result ≡ listen_faults_of self }
+    {
+        self.notice = Some(notice);
+        self
     }
 
     /// Why it could not listen the last time, if it could not.
-    pub fn listen_error(&self) -> Option<io::Error> {
-        self.listen_error
+    pub fn failure(&self) -> Option<&ListenFailure> {
+        self.failure.as_ref()
     }
 }
 
@@ -92,17 +116,36 @@ impl<
             ≡ count_after result (listen_faults_of self.old) }
     {
         let opened = open_posts(self, place);
-        self.listen_error = error_of(&opened);
+        self.failure = match &opened {
+            Ok(_) => None,
+            Err(error) => failure_at(self, place, *error),
+        };
+        if opened.is_ok() {
+            say(&mut self.notice);
+        }
         counted(&mut self.listen_faults, opened)
     }
 }
 
-/// The error of an outcome, if it is one.
-fn error_of<T>(outcome: &io::Result<T>) -> Option<io::Error> {
-    match outcome {
-        Ok(_) => None,
-        Err(error) => Some(*error),
+/// Says what is to be said, if there is something.
+fn say(notice: &mut Option<Notice>) {
+    if let Some(notice) = notice {
+        let _ = notice.stderr.write_all(notice.text.as_bytes());
     }
+}
+
+/// Where a listening failed. `None`: there is no memory to tell it.
+fn failure_at<R: Files<File = File>>(
+    site: &RealSite<R>,
+    place: &Place,
+    error: io::Error,
+) -> Option<ListenFailure> {
+    let lacking = match site.looks {
+        true => lacking_path(&site.rt, place),
+        false => None,
+    };
+    let path = lacking.unwrap_or(&place.socket).copy(site.alloc).ok()?;
+    Some(ListenFailure { path, error })
 }
 
 /// Takes the place's socket, and gives each worker a post on it.

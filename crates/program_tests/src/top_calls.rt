@@ -451,7 +451,8 @@ audit a b c
 audit -x b
 renew a
 renew a Bob
-renew a bob c";
+renew a Bob c
+renew a bob c d";
 
 /// Whether a report says that the words are no command.
 fn is_no_command(report: &Report<MemPost, MemSink>, ends: &MemStream) -> bool {

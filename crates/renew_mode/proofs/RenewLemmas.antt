@@ -13,9 +13,13 @@ use Rattle.setup_reading.specs.declared.reading.SetupFileError.{SetupFileError}
 use Rattle.setup_reading.specs.declared.reading.SetupFileError.TheVariants as setup_errors
 use Rattle.setup_reading.specs.Read.{IsSetupError, IsSetupIn, judged_setup}
 use Rattle.setup_reading.proofs.ReadLemmas.{IsSetupIn-later}
+use Rattle.otp_extended.specs.Commands.{RenewParts}
 use Rattle.renew_mode.specs.declared.basis.Basis.{Basis}
+use Rattle.renew_mode.specs.declared.error.RenewError.{RenewError}
+use Rattle.renew_mode.specs.declared.error.RenewError.TheVariants as errors
 use Rattle.renew_mode.specs.Errors.{error_of_list, error_of_setup}
-use Rattle.renew_mode.specs.Bases.{HasBasis, IsFileError}
+use Rattle.renew_mode.specs.Bases.{HasBasis, HasFreshLog, IsFileError, IsReady, IsUnready}
+use Rattle.renew_mode.specs.Installing.{IsLogRefused}
 
 -- ---- a setup that is written
 
@@ -35,14 +39,36 @@ HasBasis-read None (Some files) name basis goes spelled listed = absurd goes
 HasBasis-read (Some before) (Some files) name basis goes spelled listed =
     record { spelled = IsSetupIn-later (Some before) (Some files) name basis.setup goes spelled; listed = listed }
 
+-- what files hold of a setup and a word list those hold that are the same
+basis-same : (a b : Contents) (name : List ℕ) (basis : Basis) → ((other : List ℕ) → a other ≡ b other) → HasBasis name basis b → HasBasis name basis a
+basis-same a b name basis same has = record {
+  spelled = ap (option_map judged_setup) (same name) ∙ has.spelled;
+  listed = (has.listed.0, ap list_text (same basis.setup.words) ∙ has.listed.1, has.listed.2);
+}
+
+fresh-same : (a b : Contents) (log : Option (List ℕ)) → ((other : List ℕ) → a other ≡ b other) → HasFreshLog log b → HasFreshLog log a
+fresh-same a b None same fresh = fresh
+fresh-same a b (Some log) same fresh = same log ∙ fresh
+
+-- what was read is there still where the files stay the same
+pub HasBasis-later : (before after : Option Contents) (name : List ℕ) (basis : Basis) → Goes SameFiles before after → IfSome before (HasBasis name basis) → IfSome after (HasBasis name basis)
+HasBasis-later before None name basis goes has = tt
+HasBasis-later None (Some after) name basis goes has = absurd goes
+HasBasis-later (Some before) (Some after) name basis goes has = basis-same after before name basis (λ other. goes.same other) has
+
+-- beside a log that is fresh
+pub IsReady-of : (contents : Option Contents) (parts : RenewParts) (basis : Basis) → IfSome contents (HasBasis parts.setup basis) → IfSome contents (HasFreshLog parts.log) → IfSome contents (IsReady parts basis)
+IsReady-of None parts basis has fresh = tt
+IsReady-of (Some files) parts basis has fresh = record { has = has; fresh = fresh }
+
 -- what the files held before, if they hold it still
-pub HasBasis-before : (before between after : Option Contents) (name : List ℕ) (basis : Basis) (Step : Contents → Contents → Type 0) → Goes SameFiles before between → Goes Step between after → IfSome between (HasBasis name basis) → Goes (λ files _. HasBasis name basis files) before after
-HasBasis-before before between None name basis Step goes step has = tt
-HasBasis-before before None (Some after) name basis Step goes step has = absurd step
-HasBasis-before None (Some between) (Some after) name basis Step goes step has = absurd goes
-HasBasis-before (Some before) (Some between) (Some after) name basis Step goes step has = record {
-  spelled = ap (option_map judged_setup) (sym (goes.same name)) ∙ has.spelled;
-  listed = (has.listed.0, ap list_text (sym (goes.same basis.setup.words)) ∙ has.listed.1, has.listed.2);
+pub IsReady-before : (before between after : Option Contents) (parts : RenewParts) (basis : Basis) (Step : Contents → Contents → Type 0) → Goes SameFiles before between → Goes Step between after → IfSome between (IsReady parts basis) → Goes (λ files _. IsReady parts basis files) before after
+IsReady-before before between None parts basis Step goes step ready = tt
+IsReady-before before None (Some after) parts basis Step goes step ready = absurd step
+IsReady-before None (Some between) (Some after) parts basis Step goes step ready = absurd goes
+IsReady-before (Some before) (Some between) (Some after) parts basis Step goes step ready = record {
+  has = basis-same before between parts.setup basis (λ other. sym (goes.same other)) ready.has;
+  fresh = fresh-same before between parts.log (λ other. sym (goes.same other)) ready.fresh;
 }
 
 -- an error of the setup's file
@@ -61,3 +87,34 @@ IsFileError-list before after name setup first between last list_errors.Missing 
     record { setup = setup; spelled = IsSetupIn-later before after name setup goes spelled; unread = why }
 IsFileError-list before after name setup first between last (list_errors.Refused fault) goes spelled le why =
     record { setup = setup; spelled = IsSetupIn-later before after name setup goes spelled; unread = why }
+
+-- ---- why the input isn't asked for
+
+-- there is no setup or no word list
+pub IsUnready-file : (parts : RenewParts) (contents : Option Contents) (ReadFailed : Type 0) (error : RenewError) → IsFileError contents parts.setup ReadFailed error → IsUnready parts contents ReadFailed error
+IsUnready-file parts contents R errors.ReadFailed why = why
+IsUnready-file parts contents R errors.SetupMissing why = why
+IsUnready-file parts contents R (errors.SetupRefused fault) why = why
+IsUnready-file parts contents R errors.WordsMissing why = why
+IsUnready-file parts contents R (errors.WordsRefused fault) why = why
+IsUnready-file parts contents R errors.OutOfMemory why = tt
+IsUnready-file parts contents R errors.LogNotFresh why = absurd why
+IsUnready-file parts contents R (errors.NoRenewal fault) why = absurd why
+IsUnready-file parts contents R errors.ReplaceFailed why = absurd why
+IsUnready-file parts contents R errors.SendFailed why = absurd why
+
+-- the log is refused, behind a setup and a word list
+pub IsUnready-log : (setup user : List ℕ) (log : Option (List ℕ)) (contents : Option Contents) (basis : Basis) (first between last : ℕ) (error : RenewError) → IfSome contents (HasBasis setup basis) → first ≤ between → IsLogRefused log contents (Rose between last) error → IsUnready (record { setup = setup; user = user; log = log }) contents (Rose first last) error
+IsUnready-log setup user None contents basis first between last error has le refused = absurd refused
+IsUnready-log setup user (Some log) contents basis first between last errors.LogNotFresh has le refused =
+    record { log = log; named = refl; basis = basis; has = has; unfresh = refused }
+IsUnready-log setup user (Some log) contents basis first between last errors.ReadFailed has le refused =
+    Rose-within first between last last le refused (omega arith)
+IsUnready-log setup user (Some log) contents basis first between last errors.OutOfMemory has le refused = tt
+IsUnready-log setup user (Some log) contents basis first between last errors.SetupMissing has le refused = absurd refused
+IsUnready-log setup user (Some log) contents basis first between last (errors.SetupRefused fault) has le refused = absurd refused
+IsUnready-log setup user (Some log) contents basis first between last errors.WordsMissing has le refused = absurd refused
+IsUnready-log setup user (Some log) contents basis first between last (errors.WordsRefused fault) has le refused = absurd refused
+IsUnready-log setup user (Some log) contents basis first between last (errors.NoRenewal fault) has le refused = absurd refused
+IsUnready-log setup user (Some log) contents basis first between last errors.ReplaceFailed has le refused = absurd refused
+IsUnready-log setup user (Some log) contents basis first between last errors.SendFailed has le refused = absurd refused

@@ -18,12 +18,12 @@ use Rattle.renew_mode.specs.declared.error.RenewError.{RenewError}
 use Rattle.renew_mode.specs.declared.error.RenewError.TheVariants as errors
 use Rattle.renew_mode.specs.declared.basis.Basis.{Basis}
 use Rattle.renew_mode.specs.declared.texts.Texts.{Texts}
-use Rattle.renew_mode.specs.Bases.{HasBasis, IsFileError}
+use Rattle.renew_mode.specs.Bases.{IsReady, IsUnready}
 use Rattle.renew_mode.specs.Errors.{may_be_written}
 use Rattle.renew_mode.specs.Installing.{IsInstalling}
 use Rattle.renew_mode.specs.Outcome.{IsOutcome, IsRead, Spares}
 use Rattle.renew_mode.specs.Renewing.{AreTexts, IsMade, IsPut, IsRenewing}
-use Rattle.renew_mode.proofs.RenewLemmas.{HasBasis-before}
+use Rattle.renew_mode.proofs.RenewLemmas.{IsReady-before}
 
 -- ---- files that stayed as they were, and were then written
 
@@ -53,7 +53,7 @@ only-received setup dictionary user renewal before None goes = tt
 only-received setup dictionary user renewal None (Some after) goes = absurd goes
 only-received setup dictionary user renewal (Some before) (Some after) goes = goes.received
 
--- ---- where the setup and the word list were read
+-- ---- where all that a renewal rests on was there
 
 -- what failed of the writing and the sending
 pub IsInstalling-put : {parts : RenewParts} {renewal : Renewal} (R E : Type 0) (texts : Texts) (a c : Option Contents) (between after : Option Link) (error : RenewError) → AreTexts parts renewal texts → IsPut texts a c between after R E (Err error) → IsInstalling parts renewal a c between after R E (Err error)
@@ -66,17 +66,18 @@ IsInstalling-put R E texts a c between after errors.WordsMissing are put = absur
 IsInstalling-put R E texts a c between after (errors.WordsRefused fault) are put = absurd put
 IsInstalling-put R E texts a c between after (errors.NoRenewal fault) are put = absurd put
 IsInstalling-put R E texts a c between after errors.OutOfMemory are put = absurd put
+IsInstalling-put R E texts a c between after errors.LogNotFresh are put = absurd put
 
 -- the input renews nothing
 pub IsRenewing-none : {parts : RenewParts} {basis : Basis} {E : Type 0} (R : Type 0) (user : Name) (contents : Option Contents) (before after : Option Link) (fault : RenewalFault) → name_bytes user ≡ parts.user → renewals.IsOutcome basis.setup basis.dictionary user before after E (Err fault) → IsRenewing parts basis contents contents before after R E (Err (errors.NoRenewal fault))
 IsRenewing-none R user contents before after fault named comes = (record { user = user; named = named; comes = comes }, same-files contents)
 
 -- the same over files that stayed as they were before
-IsRead-later : (parts : RenewParts) (basis : Basis) (R E : Type 0) (Step : Contents → Contents → Type 0) (a b c : Option Contents) (before after : Option Link) (result : Result Renewed RenewError) → Goes SameFiles a b → Goes Step b c → IfSome b (HasBasis parts.setup basis) → IsRenewing parts basis a c before after R E result → IsRead parts a c before after R E result
+IsRead-later : (parts : RenewParts) (basis : Basis) (R E : Type 0) (Step : Contents → Contents → Type 0) (a b c : Option Contents) (before after : Option Link) (result : Result Renewed RenewError) → Goes SameFiles a b → Goes Step b c → IfSome b (IsReady parts basis) → IsRenewing parts basis a c before after R E result → IsRead parts a c before after R E result
 IsRead-later parts basis R E Step a b c before after result goes step has renewing =
-    record { basis = basis; stood = HasBasis-before a b c parts.setup basis Step goes step has; renewing = renewing }
+    record { basis = basis; stood = IsReady-before a b c parts basis Step goes step has; renewing = renewing }
 
-pub IsOutcome-read : (parts : RenewParts) (basis : Basis) (R R' E : Type 0) (a b c : Option Contents) (before after : Option Link) (ReadFailed : Type 0) (result : Result Renewed RenewError) → Goes SameFiles a b → IfSome b (HasBasis parts.setup basis) → (R → R') → IsRenewing parts basis b c before after R E result → IsOutcome parts a c before after ReadFailed R' E result
+pub IsOutcome-read : (parts : RenewParts) (basis : Basis) (R R' E : Type 0) (a b c : Option Contents) (before after : Option Link) (ReadFailed : Type 0) (result : Result Renewed RenewError) → Goes SameFiles a b → IfSome b (IsReady parts basis) → (R → R') → IsRenewing parts basis b c before after R E result → IsOutcome parts a c before after ReadFailed R' E result
 IsOutcome-read parts basis R R' E a b c before after ReadFailed (Ok renewed) goes has r h =
     IsRead-later parts basis R' E (Replaced h.0.file h.0.bytes.items) a b c before after (Ok renewed) goes h.3.0 has (h.0, h.1, h.2, (same-replaced h.0.file h.0.bytes.items a b c goes h.3.0, h.3.1))
 IsOutcome-read parts basis R R' E a b c before after ReadFailed (Err (errors.NoRenewal fault)) goes has r h =
@@ -91,15 +92,17 @@ IsOutcome-read parts basis R R' E a b c before after ReadFailed (Err errors.Setu
 IsOutcome-read parts basis R R' E a b c before after ReadFailed (Err (errors.SetupRefused fault)) goes has r h = absurd h.4
 IsOutcome-read parts basis R R' E a b c before after ReadFailed (Err errors.WordsMissing) goes has r h = absurd h.4
 IsOutcome-read parts basis R R' E a b c before after ReadFailed (Err (errors.WordsRefused fault)) goes has r h = absurd h.4
+IsOutcome-read parts basis R R' E a b c before after ReadFailed (Err errors.LogNotFresh) goes has r h = absurd h.4
 
--- ---- where they were not read
+-- ---- where it was not
 
-pub IsOutcome-unread : (parts : RenewParts) (a b : Option Contents) (link : Option Link) (ReadFailed ReplaceFailed EndsFailed : Type 0) (error : RenewError) → IsFileError b parts.setup ReadFailed error → Goes SameFiles a b → IsOutcome parts a b link link ReadFailed ReplaceFailed EndsFailed (Err error)
+pub IsOutcome-unread : (parts : RenewParts) (a b : Option Contents) (link : Option Link) (ReadFailed ReplaceFailed EndsFailed : Type 0) (error : RenewError) → IsUnready parts b ReadFailed error → Goes SameFiles a b → IsOutcome parts a b link link ReadFailed ReplaceFailed EndsFailed (Err error)
 IsOutcome-unread parts a b link R P E errors.ReadFailed why goes = record { why = why; files = goes; ends = refl }
 IsOutcome-unread parts a b link R P E errors.SetupMissing why goes = record { why = why; files = goes; ends = refl }
 IsOutcome-unread parts a b link R P E (errors.SetupRefused fault) why goes = record { why = why; files = goes; ends = refl }
 IsOutcome-unread parts a b link R P E errors.WordsMissing why goes = record { why = why; files = goes; ends = refl }
 IsOutcome-unread parts a b link R P E (errors.WordsRefused fault) why goes = record { why = why; files = goes; ends = refl }
+IsOutcome-unread parts a b link R P E errors.LogNotFresh why goes = record { why = why; files = goes; ends = refl }
 IsOutcome-unread parts a b link R P E errors.OutOfMemory why goes = (goes, nothing-received link)
 IsOutcome-unread parts a b link R P E (errors.NoRenewal fault) why goes = absurd why
 IsOutcome-unread parts a b link R P E errors.ReplaceFailed why goes = absurd why
@@ -128,6 +131,7 @@ IsRenewing-installed parts basis R E E' user renewal a c before between after (E
 IsRenewing-installed parts basis R E E' user renewal a c before between after (Err (errors.SetupRefused fault)) named comes e h = absurd h.2
 IsRenewing-installed parts basis R E E' user renewal a c before between after (Err errors.WordsMissing) named comes e h = absurd h.2
 IsRenewing-installed parts basis R E E' user renewal a c before between after (Err (errors.WordsRefused fault)) named comes e h = absurd h.2
+IsRenewing-installed parts basis R E E' user renewal a c before between after (Err errors.LogNotFresh) named comes e h = absurd h.2
 IsRenewing-installed parts basis R E E' user renewal a c before between after (Err (errors.NoRenewal fault)) named comes e h = absurd h.2
 
 -- ---- what is written
@@ -162,6 +166,7 @@ IsOutcome-spares parts a b before after R P E (Err errors.SetupMissing) h = same
 IsOutcome-spares parts a b before after R P E (Err (errors.SetupRefused fault)) h = same-spares parts.setup a b h.files
 IsOutcome-spares parts a b before after R P E (Err errors.WordsMissing) h = same-spares parts.setup a b h.files
 IsOutcome-spares parts a b before after R P E (Err (errors.WordsRefused fault)) h = same-spares parts.setup a b h.files
+IsOutcome-spares parts a b before after R P E (Err errors.LogNotFresh) h = same-spares parts.setup a b h.files
 
 pub IsOutcome-unwritten : (parts : RenewParts) (a b : Option Contents) (before after : Option Link) (ReadFailed ReplaceFailed EndsFailed : Type 0) (result : Result Renewed RenewError) → IsOutcome parts a b before after ReadFailed ReplaceFailed EndsFailed result → may_be_written result ≡ false → Goes SameFiles a b
 IsOutcome-unwritten parts a b before after R P E (Ok renewed) h none = absurd cc
@@ -174,3 +179,4 @@ IsOutcome-unwritten parts a b before after R P E (Err errors.SetupMissing) h non
 IsOutcome-unwritten parts a b before after R P E (Err (errors.SetupRefused fault)) h none = h.files
 IsOutcome-unwritten parts a b before after R P E (Err errors.WordsMissing) h none = h.files
 IsOutcome-unwritten parts a b before after R P E (Err (errors.WordsRefused fault)) h none = h.files
+IsOutcome-unwritten parts a b before after R P E (Err errors.LogNotFresh) h none = h.files

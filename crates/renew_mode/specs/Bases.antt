@@ -1,5 +1,5 @@
--- Believed: the setup and the word list of a renewal, or why there are none.
-use Rattle.std.specs.Prelude.{◌≡◌, ℕ, List, Option, Some, Ok}
+-- Believed: the setup, the word list and the log of a renewal, or why it has none.
+use Rattle.std.specs.Prelude.{◌≡◌, ℕ, List, Option, Some, None, Ok, IfSome}
 use Rattle.outside.specs.Files.{Contents}
 use Rattle.policy_model.specs.Settings.{Settings}
 use Rattle.file_front.specs.declared.list.ListError.{ListError}
@@ -8,6 +8,8 @@ use Rattle.file_front.specs.Lists.{IsJudgedSo, IsListFault}
 use Rattle.account_file.specs.Entries.{entries_of}
 use Rattle.setup_reading.specs.declared.reading.SetupFileError.TheVariants as setup_errors
 use Rattle.setup_reading.specs.Read.{IsSetupError, IsSetupIn, setup_in}
+use Rattle.fresh_log.specs.Fresh.{IsFresh}
+use Rattle.otp_extended.specs.Commands.{RenewParts}
 use Rattle.renew_mode.specs.declared.error.RenewError.{RenewError}
 use Rattle.renew_mode.specs.declared.error.RenewError.TheVariants as errors
 use Rattle.renew_mode.specs.declared.basis.Basis.{Basis}
@@ -32,3 +34,27 @@ IsFileError contents name ReadFailed errors.WordsMissing = IsListError contents 
 IsFileError contents name ReadFailed (errors.WordsRefused fault) = IsListError contents name ReadFailed (list_errors.Refused fault)
 IsFileError contents name ReadFailed errors.OutOfMemory = Unit {0}
 IsFileError contents name ReadFailed _ = ⊥
+
+-- the durable log that is named, if one is, is there and has no record
+abbrev pub HasFreshLog : Option (List ℕ) → Contents → Type 0
+HasFreshLog None files = Unit {0}
+HasFreshLog (Some log) files = IsFresh (files log)
+
+-- there is all that a renewal rests on: setup and word list are these, and the log is fresh
+pub record IsReady (parts : RenewParts) (basis : Basis) (files : Contents) : Type 0 where
+  pub has : HasBasis parts.setup basis files
+  pub fresh : HasFreshLog parts.log files
+
+-- where the files tell, there are a setup and its word list, and the log that is named isn't there or has something
+-- else than no record
+pub record IsUnfresh (parts : RenewParts) (contents : Option Contents) : Type 0 where
+  pub log : List ℕ
+  pub named : parts.log ≡ Some log
+  pub basis : Basis
+  pub has : IfSome contents (HasBasis parts.setup basis)
+  pub unfresh : IfSome contents (λ files. IsFresh (files log) → ⊥)
+
+-- why the input wasn't asked for: no setup or no word list was read, or the log isn't fresh
+abbrev pub IsUnready : RenewParts → Option Contents → Type 0 → RenewError → Type 0
+IsUnready parts contents ReadFailed errors.LogNotFresh = IsUnfresh parts contents
+IsUnready parts contents ReadFailed error = IsFileError contents parts.setup ReadFailed error

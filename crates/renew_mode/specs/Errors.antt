@@ -33,6 +33,7 @@ error_status (errors.NoRenewal fault) = fault_status fault
 error_status errors.ReplaceFailed = 8
 error_status errors.OutOfMemory = 9
 error_status errors.SendFailed = 11
+error_status errors.LogNotFresh = 13
 
 -- the exit status of a program that ends by what came of the mode
 abbrev pub status_of : Result Renewed RenewError → ℕ
@@ -46,6 +47,7 @@ ends_before_input (Err errors.SetupMissing) = true
 ends_before_input (Err (errors.SetupRefused fault)) = true
 ends_before_input (Err errors.WordsMissing) = true
 ends_before_input (Err (errors.WordsRefused fault)) = true
+ends_before_input (Err errors.LogNotFresh) = true
 ends_before_input _ = false
 
 -- whether the setup's file may be another than before: it was written, or could not be replaced

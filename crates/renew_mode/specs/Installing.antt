@@ -1,5 +1,6 @@
--- Inner: what came of the writing of a renewal.
-use Rattle.std.specs.Prelude.{◌≡◌, Option, Result, Ok, Err}
+-- Inner: why a log is refused, and what came of the writing of a renewal.
+use Rattle.std.specs.Prelude.{◌≡◌, ℕ, List, Option, Some, IfSome, Result, Ok, Err}
+use Rattle.fresh_log.specs.Fresh.{IsFresh}
 use Rattle.otp_extended.specs.declared.renewal.Renewed.{Renewed}
 use Rattle.otp_extended.specs.declared.run.Renewal.{Renewal}
 use Rattle.otp_extended.specs.Commands.{RenewParts}
@@ -17,3 +18,10 @@ IsInstalling parts renewal old new before after ReplaceFailed EndsFailed (Ok ren
 IsInstalling parts renewal old new before after ReplaceFailed EndsFailed (Err errors.OutOfMemory) = (new ≡ old) × (after ≡ before)
 IsInstalling parts renewal old new before after ReplaceFailed EndsFailed (Err error) =
     (texts : Texts) × AreTexts parts renewal texts × IsPut texts old new before after ReplaceFailed EndsFailed (Err error)
+
+-- why a log is refused: it isn't fresh, its reading failed, or memory was wanted for its name
+abbrev pub IsLogRefused : Option (List ℕ) → Option Contents → Type 0 → RenewError → Type 0
+IsLogRefused (Some log) contents ReadFailed errors.LogNotFresh = IfSome contents (λ files. IsFresh (files log) → ⊥)
+IsLogRefused (Some log) contents ReadFailed errors.ReadFailed = ReadFailed
+IsLogRefused (Some log) contents ReadFailed errors.OutOfMemory = Unit {0}
+IsLogRefused _ contents ReadFailed _ = ⊥

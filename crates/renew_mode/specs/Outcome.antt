@@ -9,19 +9,20 @@ use Rattle.otp_mode.specs.Outcome.{OnlyReceived}
 use Rattle.renew_mode.specs.declared.error.RenewError.{RenewError}
 use Rattle.renew_mode.specs.declared.error.RenewError.TheVariants as errors
 use Rattle.renew_mode.specs.declared.basis.Basis.{Basis}
-use Rattle.renew_mode.specs.Bases.{HasBasis, IsFileError}
+use Rattle.renew_mode.specs.Bases.{IsReady, IsUnready}
 use Rattle.renew_mode.specs.Renewing.{IsRenewing}
 
--- no setup or no word list was read; nothing was received, sent or written
+-- no setup or no word list was read, or the log isn't fresh; nothing was received, sent or written
 pub record IsUnread (parts : RenewParts) (old new : Option Contents) (before after : Option Link) (ReadFailed : Type 0) (error : RenewError) : Type 0 where
-  pub why : IsFileError new parts.setup ReadFailed error
+  pub why : IsUnready parts new ReadFailed error
   pub files : Goes SameFiles old new
   pub ends : after ≡ before
 
--- the files, as they stood before, hold a setup and a word list, on which this came of the input
+-- the files, as they stood before, hold a setup and a word list, on which this came of the input, and the log that is
+-- named is fresh
 pub record IsRead (parts : RenewParts) (old new : Option Contents) (before after : Option Link) (ReplaceFailed EndsFailed : Type 0) (result : Result Renewed RenewError) : Type 0 where
   pub basis : Basis
-  pub stood : Goes (λ files _. HasBasis parts.setup basis files) old new
+  pub stood : Goes (λ files _. IsReady parts basis files) old new
   pub renewing : IsRenewing parts basis old new before after ReplaceFailed EndsFailed result
 
 -- what came of the mode, by what the files and the ends told before and after, and whether a reading or a replacing of a file and a

@@ -1,15 +1,19 @@
 //! What a renewal rests on.
 
-ghost use Rattle.std.specs.Prelude.{◌≡◌, ◌≤◌, Err, IfOk, IfSome};
+ghost use Rattle.std.specs.Prelude.{◌≡◌, ◌≤◌, Err, IfOk, IfSome, OnOk, option_map};
 ghost use Rattle.outside.specs.Files.{SameFiles};
 ghost use Rattle.outside.specs.Told.{Goes, Rose};
+ghost use Rattle.otp_extended.specs.Commands.{command_parts};
 ghost use Rattle.renew_mode.specs.declared.error.RenewError.{RenewError};
-ghost use Rattle.renew_mode.specs.Bases.{HasBasis, IsFileError};
+ghost use Rattle.renew_mode.specs.Bases.{HasBasis, HasFreshLog, IsFileError, IsReady, IsUnready};
+ghost use Rattle.renew_mode.specs.Installing.{IsLogRefused};
 
 use crate::error::RenewError;
 use file_front::read_list;
+use fresh_log::is_fresh;
+use otp_extended::RenewCommand;
 use otp_words::Dictionary;
-use outside::Files;
+use outside::{Failed, Files, Word};
 use policy_model::Setup;
 use setup_reading::read_setup_file;
 use std::alloc::Global;
@@ -21,12 +25,50 @@ pub(crate) struct Basis {
     pub dictionary: Dictionary,
 }
 
-/// Reads the setup of a file, and then the word list that it names.
-pub(crate) fn read_basis<F: Files>(
+/// Reads the setup and the word list, and then sees that the durable log that is named, if one is, has
+/// no record.
+pub(crate) fn make_ready<F: Files>(
     alloc: Global,
+    command: &RenewCommand<'_>,
     files: &mut F,
-    name: &str,
 ) -> Result<Basis, RenewError>
+    ensures ready { IfOk result (λ basis. IfSome (F.contents files.new) (IsReady (command_parts command.now) basis)) }
+    ensures error { (error : RenewError) → result ≡ Err error → IsUnready (command_parts command.now)
+        (F.contents files.new) (Rose (F.read_faults files.old) (F.read_faults files.new)) error }
+    ensures kept { Goes SameFiles (F.contents files.old) (F.contents files.new) }
+    ensures read_faults { F.read_faults files.old ≤ F.read_faults files.new }
+    ensures replace_faults { F.replace_faults files.old ≤ F.replace_faults files.new }
+{
+    let basis = read_basis(alloc, files, command.setup)?;
+    check_log(alloc, command.log, files)?;
+    Ok(basis)
+}
+
+/// Sees that the durable log that is named, if one is, is there and has no record.
+fn check_log<F: Files>(alloc: Global, log: Option<&str>, files: &mut F) -> Result<(), RenewError>
+    ensures fresh { OnOk result (IfSome (F.contents files.new)
+        (HasFreshLog (option_map (λ word. word.now) log.entry))) }
+    ensures error { (error : RenewError) → result ≡ Err error → IsLogRefused (option_map (λ word. word.now) log.entry)
+        (F.contents files.new) (Rose (F.read_faults files.old) (F.read_faults files.new)) error }
+    ensures kept { Goes SameFiles (F.contents files.old) (F.contents files.new) }
+    ensures read_faults { F.read_faults files.old ≤ F.read_faults files.new }
+    ensures replace_faults { F.replace_faults files.old ≤ F.replace_faults files.new }
+{
+    let Some(log) = log else {
+        return Ok(());
+    };
+    let Ok(name) = Word::of(alloc, log.as_bytes()) else {
+        return Err(RenewError::OutOfMemory);
+    };
+    match is_fresh(files, &name) {
+        Ok(true) => Ok(()),
+        Ok(false) => Err(RenewError::LogNotFresh),
+        Err(Failed) => Err(RenewError::ReadFailed),
+    }
+}
+
+/// Reads the setup of a file, and then the word list that it names.
+fn read_basis<F: Files>(alloc: Global, files: &mut F, name: &str) -> Result<Basis, RenewError>
     ensures basis { IfOk result (λ basis. IfSome (F.contents files.new) (HasBasis name.now basis)) }
     ensures error { (error : RenewError) → result ≡ Err error → IsFileError (F.contents files.new)
         name.now (Rose (F.read_faults files.old) (F.read_faults files.new)) error }

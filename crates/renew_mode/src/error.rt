@@ -14,7 +14,7 @@ use std::alloc::AllocError;
 /// Why the mode `renew` renewed no account, or could not tell that it did.
 #[derive(Clone, Copy, PartialEq, Eq, Debug)]
 pub enum RenewError {
-    /// A reading of the setup's file or of the word list's failed.
+    /// A reading of the setup's file, of the word list's or of the log's failed.
     ReadFailed,
     /// There is no file of the setup's name.
     SetupMissing,
@@ -24,6 +24,8 @@ pub enum RenewError {
     WordsMissing,
     /// The word list is refused.
     WordsRefused(DictFault),
+    /// The durable log that was named isn't there, or has something else than no record.
+    LogNotFresh,
     /// The input could not be received, is no response, or renews nothing.
     NoRenewal(RenewalFault),
     /// No memory was found; nothing is written.
@@ -35,7 +37,8 @@ pub enum RenewError {
 }
 
 impl RenewError {
-    /// The exit status of a program that ends by the error: 3, 4, 5, 8, 9, 11, 12 or 15.
+    /// The exit status of a program that ends by the error: 3, 4, 5, 8, 9, 11, 12, 13 or
+    /// 15.
     pub fn status(self) -> u8
         ensures { result ≡ error_status self }
     {
@@ -47,6 +50,7 @@ impl RenewError {
             RenewError::ReplaceFailed => 8,
             RenewError::OutOfMemory => 9,
             RenewError::SendFailed => 11,
+            RenewError::LogNotFresh => 13,
         }
     }
 }

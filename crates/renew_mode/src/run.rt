@@ -9,7 +9,7 @@ ghost use Rattle.renew_mode.specs.Installing.{IsInstalling};
 ghost use Rattle.renew_mode.specs.Outcome.{IsOutcome, Spares};
 ghost use Rattle.renew_mode.specs.Renewing.{IsPut, IsRenewing};
 
-use crate::basis::{Basis, read_basis};
+use crate::basis::{Basis, make_ready};
 use crate::error::RenewError;
 use crate::texts::{Texts, texts_of};
 use otp_extended::{RenewCommand, Renewal, Renewed, receive_renewal};
@@ -17,7 +17,7 @@ use outside::{Files, Stream};
 use std::alloc::Global;
 
 /// The exit status of a program that ends by what came of the mode: 0 for a renewal, else 3, 4, 5, 8,
-/// 9, 11, 12 or 15.
+/// 9, 11, 12, 13 or 15.
 pub fn status(outcome: Result<Renewed, RenewError>) -> u8
     ensures { result ≡ status_of outcome }
 {
@@ -27,16 +27,16 @@ pub fn status(outcome: Result<Renewed, RenewError>) -> u8
     }
 }
 
-/// Runs the mode: reads the setup and then the word list that it names, receives the first line of the
-/// input, and takes it as a response for the user. It replaces the setup's file by one that spells the
-/// setup with that user's new chain, and sends one line that says so. Comments and spacing of the file
-/// are not kept.
+/// Runs the mode: reads the setup and then the word list that it names, sees that the durable log that is
+/// named, if one is, has no record, receives the first line of the input, and takes it as a response for
+/// the user. It replaces the setup's file by one that spells the setup with that user's new chain, and
+/// sends one line that says so. Comments and spacing of the file are not kept.
 ///
 /// # Errors
 ///
-/// The first error, in this order: of the setup, of the word list, of the receiving, of the response, of
-/// the renewal, of memory, of the replacing, of the sending; memory may also be wanted at a file. The
-/// file is replaced only where none of them came before.
+/// The first error, in this order: of the setup, of the word list, of the log, of the receiving, of the
+/// response, of the renewal, of memory, of the replacing, of the sending; memory may also be wanted at a
+/// file. The file is replaced only where none of them came before.
 pub fn run_renew<F: Files, E: Stream>(
     alloc: Global,
     command: &RenewCommand<'_>,
@@ -54,7 +54,7 @@ pub fn run_renew<F: Files, E: Stream>(
     ensures replace_faults { F.replace_faults files.old ≤ F.replace_faults files.new }
     ensures faults { E.faults ends.old ≤ E.faults ends.new }
 {
-    let basis = read_basis(alloc, files, command.setup)?;
+    let basis = make_ready(alloc, command, files)?;
     renew_account(alloc, command, &basis, files, ends)
 }
 

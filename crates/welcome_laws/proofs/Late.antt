@@ -1,6 +1,6 @@
 -- The user's child, up to its welcome.
 use Rattle.std.proofs.Common.{◌≡◌, ℕ, ◌+◌, ◌<◌, ◌≤◌, ◌^◌, Bool, true, false, ◌&&◌, ◌==◌, cond, List, [], ◌∷◌, ◌++◌}
-use Rattle.std.proofs.Common.{length, Option, Some, Result, refl, sym, ap, subst, ◌∙◌, arith, lit<}
+use Rattle.std.proofs.Common.{length, Option, Some, Result, refl, ap, subst, ◌∙◌, arith, lit<}
 use Rattle.std.specs.Prelude.{codes, filter_map, nat_le}
 use Rattle.std.specs.Int.{to_le_bytes, w32}
 use Rattle.std.specs.List.{find, list_all}
@@ -20,7 +20,6 @@ use Rattle.outside.specs.declared.act.Failed.{Failed}
 use Rattle.policy_model.specs.declared.account.Account.{Account}
 use Rattle.policy_model.specs.declared.event.Ask.{Ask}
 use Rattle.policy_model.specs.declared.event.Ask.TheVariants as asks
-use Rattle.policy_model.specs.declared.event.Decision.{Decision}
 use Rattle.policy_model.specs.declared.event.Decision.TheVariants.{Permit}
 use Rattle.policy_model.specs.declared.event.Event.{Event}
 use Rattle.policy_model.specs.declared.event.Why.{Why}
@@ -48,10 +47,10 @@ use Rattle.login_laws.specs.Login.{is_talk}
 use Rattle.login_laws.proofs.Judged.{import_permitted}
 use Rattle.login_laws.proofs.Stages.{IsLogged, import_on, logged}
 use Rattle.login_laws.proofs.Walk.{own_session}
-use Rattle.welcome_laws.proofs.Early.{user_state}
+use Rattle.welcome_laws.proofs.Before.{user_state}
 use Rattle.welcome_laws.proofs.Lines.{state_short}
 use Rattle.welcome_laws.proofs.Meeting.{had, name_short, readable}
-use Rattle.welcome_laws.proofs.Serving.{Now, answer_done, answered_now, next_served, no_acts, says_text, talks}
+use Rattle.welcome_laws.proofs.Serving.{Now, answer_done, answered_now, event_by, next_served, no_acts, says_text, talks}
 
 -- ---- the account's number
 
@@ -150,26 +149,17 @@ module _ (service : Service) (journal : List Event) (worker session : ℕ) (lega
     pub outcome : Result (Unit {0}) Failed
     pub told : welcome.acts ≡ acts.ConnSend (welcome_text account) outcome ∷ []
 
-  event_by : (P : Event → Type 0) (e : Event) (ask : Ask) (d : Decision) → e.ask ≡ ask → e.decision ≡ d
-      → P (record { worker = e.worker; session = e.session; ask = ask; decision = d }) → P e
-  event_by P e ask d is decided h =
-      let spelled : e ≡ record { worker = e.worker; session = e.session; ask = ask; decision = d } = ap
-      (λ (a : Ask). let x : Event = record { worker = e.worker; session = e.session; ask = a; decision = e.decision } in
-      x) is ∙ ap (λ (b : Decision). let x : Event = record
-      { worker = e.worker; session = e.session; ask = ask; decision = b } in x) decided in
-      subst P (sym spelled) h
-
-  pub late : IsSetupInRange service.setup → (user : Name) (asked : ℕ) → account_of service.setup user ≡ Some account
+  pub late : IsSetupInRange service.setup → (user : Name) (asked tried : ℕ) → account_of service.setup user ≡ Some account
       → IsState state → asked + 2 ≤ service.setup.requests → (served : List Step)
       → Now service journal worker session legal none small (User (who_of account)) (state_bytes state)
-      (EndsSession why) final rest unread ended behind (user_state asked)
+      (EndsSession why) final rest unread ended behind (user_state asked tried)
       (IsLogged service.setup journal worker session user) [] served → Told served
   unfolding operations_of
-  late range user asked found in_range room served now =
+  late range user asked tried found in_range room served now =
       let Q = IsLogged service.setup journal worker session user in
       let lasts = logged service.setup journal worker session user in
       let who = who_of account in
-      let s = user_state asked in
+      let s = user_state asked tried in
       let v = next_served service journal worker session legal none small (User (who_of account)) (state_bytes state)
       (EndsSession why) final rest unread ended behind requests.Import s Q [] served lasts now (first_next who) tt
       (lit< tt) in

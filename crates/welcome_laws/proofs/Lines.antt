@@ -1,6 +1,6 @@
 -- The client's lines, as far as they came, and what the child before the login asks behind them.
-use Rattle.std.proofs.Common.{◌≡◌, ℕ, suc, ◌+◌, ◌≤◌, Bool, true, false, ◌&&◌, ◌||◌, cond, List, [], ◌∷◌, ◌++◌, length}
-use Rattle.std.proofs.Common.{take, Option, Some, None, refl, sym, ap, subst, ◌∙◌, arith, inl, inr, ◌⊎◌, lit≤}
+use Rattle.std.proofs.Common.{◌≡◌, ℕ, zero, suc, ◌+◌, ◌<◌, ◌≤◌, ◌^◌, Bool, true, false, ◌&&◌, ◌||◌, cond, List, []}
+use Rattle.std.proofs.Common.{◌∷◌, ◌++◌, length, take, Option, Some, None, refl, sym, ap, subst, ◌∙◌, arith, inl, inr, ◌⊎◌, lit≤}
 use Rattle.std.specs.Prelude.{codes, nat_le, is_some}
 use Rattle.std.specs.Str.Lines.{strip_carriage_return}
 use Rattle.std.specs.Int.{to_le_bytes, w16}
@@ -12,8 +12,8 @@ use Rattle.std.proofs.lemmas.List.{length-append, length-drop}
 use Rattle.std.proofs.lemmas.List.Folds.{prefix_len-append}
 use Rattle.request_catalogue.specs.Catalogue.{RequestValue}
 use Rattle.request_catalogue.specs.Catalogue as requests
-use Rattle.request_catalogue.specs.Replies.{Done}
-use Rattle.request_catalogue.specs.Texts.{is_name, is_typed_reply}
+use Rattle.request_catalogue.specs.Replies.{Denied, Done}
+use Rattle.request_catalogue.specs.Texts.{is_name, is_printable, is_typed_reply}
 use Rattle.otp_hash.specs.Seeds.{is_seed, is_seed_byte}
 use Rattle.otp_hash.specs.declared.chain.Algo.{Algo}
 use Rattle.otp_hash.specs.declared.chain.Algo.TheVariants as algos
@@ -26,9 +26,9 @@ use Rattle.child_protocol.specs.Commands.{terminal_command, text_behind, user_co
 use Rattle.child_protocol.specs.Commands as commands
 use Rattle.child_protocol.specs.Exchanges.{Exchange, client_bytes, front_at, is_challenged, is_finish, texts_of}
 use Rattle.child_protocol.specs.Exchanges.{underway}
-use Rattle.child_protocol.specs.Lines.{HasLines, Line, More, TooLong, behind, behind_line, behind_lines, front_by}
+use Rattle.child_protocol.specs.Lines.{Front, HasLines, Line, More, TooLong, behind, behind_line, behind_lines, front_by}
 use Rattle.child_protocol.specs.Lines.{front_of, line_end}
-use Rattle.child_protocol.specs.Pre.{is_quit, pre_done, pre_first, pre_is_last, pre_next, pre_state, read_more, say}
+use Rattle.child_protocol.specs.Pre.{denied_text, is_quit, pre_denied, pre_done, pre_first, pre_is_last, pre_next, pre_request, pre_state, read_more, say}
 use Rattle.child_protocol.specs.Pre.{state_at, terminal_at, terminal_by, terminal_in}
 use Rattle.child_protocol.proofs.MoreBytes.{HasLines-more, behind_lines-more, front_of-more}
 use Rattle.welcome_laws.specs.Client.{AgreesWith}
@@ -65,14 +65,14 @@ some_end : (o : Option ℕ) → is_some o ≡ true → (end : ℕ) × (o ≡ Som
 some_end None h = absurd cc
 some_end (Some end) h = (end, refl)
 
--- the line behind so many came whole, or more of it is to come, and then what came is less than the lines
+-- the line behind so many came whole, or more of it is to come, and then little of it came
 pub record IsWhole (count : ℕ) (lines bytes : List ℕ) : Type 0 where
   pub whole : HasLines (suc count) bytes
   pub same : front_of (behind_lines count bytes) ≡ front_of (behind_lines count lines)
 
 pub record IsWaiting (count : ℕ) (lines bytes : List ℕ) : Type 0 where
   pub front : front_of (behind_lines count bytes) ≡ More
-  pub few : length bytes ≤ length lines
+  pub few : length (behind_lines count bytes) ≤ 300
 
 pub so_far : (count : ℕ) (lines bytes : List ℕ) → HasLines (suc count) lines
     → ((end : ℕ) → line_end (behind_lines count lines) ≡ Some end → end ≤ 300) → HasLines count bytes
@@ -105,8 +105,7 @@ so_far count lines bytes whole short has (inl shorter) = by_end (line_end (behin
       let late = late_end (behind_lines count bytes) shorter.0 end.0 is (sym (ap line_end behind_is) ∙ end.1) in
       inr (record {
         front = short_front (behind_lines count bytes) is (omega (arith, late, short end.0 end.1));
-        few =
-            omega (arith, ap length shorter.1, length-append bytes shorter.0);
+        few = omega (arith, late, short end.0 end.1);
       })
 
 -- ---- commands
@@ -171,6 +170,34 @@ typed_response line response h = by_terminal (text_behind (codes "term ") line) 
       let l = legal_is (commands.is_terminal text) (commands.Terminal text) (Respond response) h' (λ e. cc) in let e =
       l.1 in absurd cc
 
+terminal_legal : (line text : List ℕ) → pre_command line ≡ commands.Terminal text → commands.is_terminal text ≡ true
+unfolding pre_command
+terminal_legal line text h = by_terminal (text_behind (codes "term ") line) h where
+  by_word : (one two : Bool) → cond one commands.Cancel (cond two commands.Quit commands.Other) ≡ commands.Terminal text
+      → ⊥
+  by_word true two h' = cc
+  by_word false true h' = cc
+  by_word false false h' = cc
+
+  by_response : (o : Option (List ℕ)) → respond_command line o ≡ commands.Terminal text → ⊥
+  by_response None h' = by_word _ _ h'
+  by_response (Some t) h' =
+      let l = legal_is (is_typed_reply t) (Respond t) (commands.Terminal text) h' (λ e. cc) in let e = l.1 in cc
+
+  by_user : (o : Option (List ℕ)) → user_command line o ≡ commands.Terminal text → ⊥
+  by_user None h' = by_response (text_behind (codes "resp ") line) h'
+  by_user (Some t) h' =
+      let l = legal_is (is_name t) (User t) (commands.Terminal text) h' (λ e. cc) in let e = l.1 in cc
+
+  by_terminal : (o : Option (List ℕ)) → terminal_command line o ≡ commands.Terminal text
+      → commands.is_terminal text ≡ true
+  by_terminal None h' = absurd (by_user (text_behind (codes "user ") line) h')
+  by_terminal (Some t) h' =
+      let l = legal_is (commands.is_terminal t) (commands.Terminal t) (commands.Terminal text) h' (λ e. cc) in
+      let e = l.1 in
+      let same : t ≡ text = cc in
+      subst (λ x. commands.is_terminal x ≡ true) same l.0
+
 -- ---- the dialogue
 
 -- what follows a request that was done
@@ -220,60 +247,141 @@ waits_more count challenged bytes history c body w = record {
       ∙ ap (λ o. Some (pre_first (front_of (behind_lines count (bytes ++ c ∷ body))) o)) w.open_is;
 }
 
+-- so many lines were answered, a challenge is open or not, these bytes came, and a text is sent next
+pub record Tells (count : ℕ) (challenged : Bool) (bytes text : List ℕ) (history : List Exchange) : Type 0 where
+  pub texts : texts_of history ≡ suc count
+  pub open_is : is_challenged history ≡ challenged
+  pub came : client_bytes history ≡ bytes
+  pub next : pre_next history ≡ Some (say text)
+
+-- a line that is answered by a text alone
+pub tells_at_once : (count : ℕ) (challenged : Bool) (bytes line text : List ℕ) (history : List Exchange)
+    → Waits count challenged bytes history → front_of (behind_lines count bytes) ≡ Line line
+    → pre_request (pre_command line) challenged ≡ say text → Tells count challenged bytes text history
+tells_at_once count challenged bytes line text history w front answer = record {
+  texts = w.texts;
+  open_is = w.open_is;
+  came = w.came;
+  next = w.next ∙ ap (λ f. Some (pre_first f challenged)) front ∙ ap (λ q. Some q) answer;
+}
+
 abbrev pub challenged_by : List ℕ → List ℕ → List Exchange → List Exchange
 challenged_by name text history = had (requests.Challenge name) (Done text) ∷ history
 
-pub challenged_next : (name text : List ℕ) (history : List Exchange)
-    → pre_next (challenged_by name text history) ≡ Some (say text)
-challenged_next name text history = next_done (requests.Challenge name) text history refl
-
-pub waits_second : (bytes line name text : List ℕ) (history : List Exchange) → Waits 0 false bytes history
-    → front_of bytes ≡ Line line → pre_command line ≡ User name
-    → Waits 1 true bytes (had (say text) (Done []) ∷ challenged_by name text history)
-waits_second bytes line name text history w front command = record {
-  texts = ap (λ n. suc n) w.texts;
+pub tells_challenge : (count : ℕ) (challenged : Bool) (bytes name text : List ℕ) (history : List Exchange)
+    → Waits count challenged bytes history → Tells count true bytes text (challenged_by name text history)
+tells_challenge count challenged bytes name text history w = record {
+  texts = w.texts;
   open_is = refl;
   came = w.came;
+  next = next_done (requests.Challenge name) text history refl;
+}
+
+-- what follows a denial that ends no session
+next_denied : (request : RequestValue) (rule detail : ℕ) (before : List Exchange) → is_finish request ≡ false
+    → nat_le rule 7 ≡ false → pre_next (had request (Denied rule detail) ∷ before) ≡ Some (pre_denied request rule)
+unfolding pre_next
+next_denied request rule detail before un mild =
+    ap (λ b. cond (b || nat_le rule 7) None (Some (pre_denied request rule))) un
+    ∙ ap (λ b. cond b None (Some (pre_denied request rule))) mild
+
+pub tells_held : (count : ℕ) (challenged : Bool) (bytes name : List ℕ) (detail : ℕ) (history : List Exchange)
+    → Waits count challenged bytes history
+    → Tells count challenged bytes (denied_text 12) (had (requests.Challenge name) (Denied 12 detail) ∷ history)
+tells_held count challenged bytes name detail history w = record {
+  texts = w.texts;
+  open_is = w.open_is;
+  came = w.came;
+  next = next_denied (requests.Challenge name) 12 detail history refl refl;
+}
+
+pub tells_wrong : (count : ℕ) (challenged : Bool) (bytes response : List ℕ) (history : List Exchange)
+    → Waits count challenged bytes history
+    → Tells count false bytes (denied_text 16) (had (requests.Reply response) (Denied 16 0) ∷ history)
+tells_wrong count challenged bytes response history w = record {
+  texts = w.texts;
+  open_is = refl;
+  came = w.came;
+  next = next_denied (requests.Reply response) 16 0 history refl refl;
+}
+
+pub tells_cancelled : (count : ℕ) (challenged : Bool) (bytes : List ℕ) (history : List Exchange)
+    → Waits count challenged bytes history
+    → Tells count false bytes (codes "done\n") (had requests.Abandon (Done []) ∷ history)
+tells_cancelled count challenged bytes history w = record {
+  texts = w.texts;
+  open_is = refl;
+  came = w.came;
+  next = next_done requests.Abandon [] history refl;
+}
+
+-- behind its text the next line is looked at, unless the client quits
+pub waits_next : (count : ℕ) (challenged : Bool) (bytes line text : List ℕ) (history : List Exchange)
+    → Tells count challenged bytes text history → front_of (behind_lines count bytes) ≡ Line line
+    → is_quit (pre_command line) ≡ false → Waits (suc count) challenged bytes (had (say text) (Done []) ∷ history)
+waits_next count challenged bytes line text history w front stays = record {
+  texts = ap (λ n. suc n) w.texts;
+  open_is = w.open_is;
+  came = w.came;
   next =
-      next_done (say text) [] (challenged_by name text history) refl
+      next_done (say text) [] history refl
       ∙ ap (λ n. Some (cond (pre_is_last (front_at n (client_bytes history))) requests.Finish
-      (pre_first (front_at (suc n) (client_bytes history)) true))) w.texts
-      ∙ ap (λ b. Some (cond (pre_is_last (front_of b)) requests.Finish (pre_first (front_of (behind_lines 1 b)) true)))
-      w.came
-      ∙ ap (λ f. Some (cond (pre_is_last f) requests.Finish (pre_first (front_of (behind_lines 1 bytes)) true))) front
-      ∙ ap (λ c. Some (cond (is_quit c) requests.Finish (pre_first (front_of (behind_lines 1 bytes)) true))) command;
+      (pre_first (front_at (suc n) (client_bytes history)) (is_challenged history)))) w.texts
+      ∙ ap (λ b. Some (cond (pre_is_last (front_of (behind_lines count b))) requests.Finish
+      (pre_first (front_of (behind_lines (suc count) b)) (is_challenged history)))) w.came
+      ∙ ap (λ f. Some (cond (pre_is_last f) requests.Finish (pre_first (front_of (behind_lines (suc count) bytes))
+      (is_challenged history)))) front
+      ∙ ap (λ b. Some (cond b requests.Finish (pre_first (front_of (behind_lines (suc count) bytes))
+      (is_challenged history)))) stays
+      ∙ ap (λ o. Some (pre_first (front_of (behind_lines (suc count) bytes)) o)) w.open_is;
 }
 
 abbrev pub replied_by : List ℕ → List Exchange → List Exchange
 replied_by text history = had (requests.Reply text) (Done []) ∷ history
 
-pub replied_next : (response : List ℕ) (bytes : List ℕ) (history : List Exchange) → Waits 1 true bytes history
-    → pre_next (replied_by response history) ≡ Some (requests.Export (state_bytes (state_at 2 bytes)))
-replied_next response bytes history w =
+pub replied_next : (count : ℕ) (response : List ℕ) (bytes : List ℕ) (history : List Exchange)
+    → Waits count true bytes history
+    → pre_next (replied_by response history) ≡ Some (requests.Export (state_bytes (state_at (suc count) bytes)))
+replied_next count response bytes history w =
     next_done (requests.Reply response) [] history refl
     ∙ ap (λ n. Some (requests.Export (state_bytes (state_at n (client_bytes history))))) w.texts
-    ∙ ap (λ b. Some (requests.Export (state_bytes (state_at 2 b)))) w.came
+    ∙ ap (λ b. Some (requests.Export (state_bytes (state_at (suc count) b)))) w.came
 
--- the state that is left
-behind_shorter : (bytes : List ℕ) → length (behind_line bytes) ≤ length bytes
+-- ---- the state that is left
+
+pub behind_shorter : (bytes : List ℕ) → length (behind_line bytes) ≤ length bytes
 behind_shorter bytes = by_end (line_end bytes) where
   by_end : (o : Option ℕ) → length (behind o bytes) ≤ length bytes
   by_end None = omega arith
   by_end (Some end) = omega (arith, length-drop (end + 1) bytes)
 
-pub is_state : (bytes line name line' response : List ℕ) → length bytes ≤ 1200 → front_of bytes ≡ Line line
-    → pre_command line ≡ User name → front_of (behind_line bytes) ≡ Line line' → pre_command line' ≡ Respond response
-    → IsState (state_at 2 bytes)
-is_state bytes line name line' response few front command front' command' = record {
-  terminal = subst (λ (t : List ℕ). length t ≤ 64) (sym none) (omega arith);
-  unread = omega (arith, few, behind_shorter bytes, behind_shorter (behind_line bytes));
-  lines = omega arith;
-  bytes = omega (arith, few);
-} where
-  none : terminal_in 2 bytes ≡ []
-  none =
-      ap (λ f. terminal_at f (terminal_in 1 bytes)) front' ∙ ap (λ c. terminal_by c (terminal_in 1 bytes)) command'
-      ∙ ap (λ f. terminal_at f []) front ∙ ap (λ c. terminal_by c []) command
+named_short : (text : List ℕ) → commands.is_terminal text ≡ true → length text ≤ 64
+unfolding commands.is_terminal
+named_short text is =
+    leb-true (length text) 64 (and_parts (nat_le (length text) 64) (list_all is_printable text) is).0
+
+terminal_short : (count : ℕ) (bytes : List ℕ) → length (terminal_in count bytes) ≤ 64
+terminal_short zero bytes = omega arith
+terminal_short (suc count) bytes = by_front (front_of (behind_lines count bytes)) (terminal_short count bytes) where
+  by_command : (line : List ℕ) (c : PreCommand) → pre_command line ≡ c → (before : List ℕ) → length before ≤ 64
+      → length (terminal_by c before) ≤ 64
+  by_command line (commands.Terminal text) is before le = named_short text (terminal_legal line text is)
+  by_command line (User name) is before le = le
+  by_command line (Respond text) is before le = le
+  by_command line commands.Cancel is before le = le
+  by_command line commands.Quit is before le = le
+  by_command line commands.Other is before le = le
+
+  by_front : (f : Front) → length (terminal_in count bytes) ≤ 64
+      → length (terminal_at f (terminal_in count bytes)) ≤ 64
+  by_front More le = le
+  by_front TooLong le = le
+  by_front (Line text) le = by_command text (pre_command text) refl (terminal_in count bytes) le
+
+pub is_state : (count : ℕ) (bytes : List ℕ) → length (behind_lines count bytes) ≤ 4096 → count < 2 ^ 32
+    → length bytes < 2 ^ 32 → IsState (state_at count bytes)
+is_state count bytes held few small =
+    record { terminal = terminal_short count bytes; unread = held; lines = few; bytes = small }
 
 -- it may be exported
 pub state_short : (state : StateValue) → IsState state → length (state_bytes state) ≤ 8192
@@ -295,12 +403,18 @@ state_short state is =
       is.unread,
     )
 
--- ---- the text of a challenge
+-- ---- the text of a denial, and of a challenge
 
 decimal_short : (n : ℕ) → n ≤ 9999 → length (decimal n) ≤ 4
 decimal_short n le =
     subst (λ (ds : List ℕ). length ds ≤ 4) (short_digits-decimal n le)
     (omega (arith, length-drop (leading_zeros n) (four_digits n)))
+
+pub denied_size : (rule : ℕ) → rule ≤ 9999 → (1 ≤ length (denied_text rule)) × (length (denied_text rule) ≤ 16000)
+denied_size rule le =
+    let size : length (denied_text rule) ≡ 7 + length (decimal rule) + 1 = omega
+    (arith, length-append (codes "denied " ++ decimal rule) (codes "\n"), length-append (codes "denied ") (decimal rule))
+    in (omega (arith, size), omega (arith, size, decimal_short rule le))
 
 word_short : (algo : Algo) → length (challenge_word algo) ≤ 8
 word_short algos.Md5 = lit≤ tt

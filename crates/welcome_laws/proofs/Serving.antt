@@ -1,5 +1,5 @@
 -- A shipped child's part of a session, step by step.
-use Rattle.std.proofs.Common.{◌≡◌, ℕ, ◌<◌, ◌^◌, true, false, List, [], ◌∷◌, ◌++◌, length, map, Option, Some, None}
+use Rattle.std.proofs.Common.{◌≡◌, ◌≢◌, ℕ, zero, suc, ◌+◌, ◌<◌, ◌^◌, Bool, arith, true, false, List, [], ◌∷◌, ◌++◌, length, map, Option, Some, None}
 use Rattle.std.proofs.Common.{option_to_list, cond, Result, refl, sym, ap, subst, ◌∙◌, append_assoc}
 use Rattle.std.specs.Prelude.{filter_map, slice_get}
 use Rattle.std.specs.List.{AllByRecursion}
@@ -8,7 +8,8 @@ use Rattle.std.proofs.lemmas.Bool.{false≢true}
 use Rattle.request_catalogue.specs.declared.request.Bad.{Bad}
 use Rattle.request_catalogue.specs.declared.width.Width.TheVariants as widths
 use Rattle.request_catalogue.specs.Catalogue.{IsInRange, RequestValue}
-use Rattle.request_catalogue.specs.Replies.{AnswerValue, Done}
+use Rattle.request_catalogue.specs.Catalogue as requests
+use Rattle.request_catalogue.specs.Replies.{AnswerValue, Denied, Done}
 use Rattle.imsg_frame.specs.Message.{Message, spelling_of}
 use Rattle.imsg_frame.specs.Requests.{request_message}
 use Rattle.outside.specs.declared.act.Act.{Act}
@@ -17,16 +18,17 @@ use Rattle.outside.specs.declared.act.Failed.{Failed}
 use Rattle.policy_model.specs.declared.event.Ask.{Ask}
 use Rattle.policy_model.specs.declared.event.Ask.TheVariants as asks
 use Rattle.policy_model.specs.declared.event.Decision.{Decision}
-use Rattle.policy_model.specs.declared.event.Decision.TheVariants.{Permit}
+use Rattle.policy_model.specs.declared.event.Decision.TheVariants.{Deny, Permit}
 use Rattle.policy_model.specs.declared.event.Event.{Event}
 use Rattle.policy_model.specs.Asks.{ends_session, exports, is_permit, shown_of}
 use Rattle.policy_model.specs.Journal.{Place, has_lost}
 use Rattle.policy_model.specs.Legal.{IsLegal}
 use Rattle.session_laws.specs.Judged.{is_over_phase}
-use Rattle.child_protocol.specs.Exchanges.{Exchange}
+use Rattle.session_laws.proofs.SessionEvents.{count_of-other, count_of-own}
+use Rattle.child_protocol.specs.Exchanges.{Exchange, sends_text, texts_of}
 use Rattle.child_protocol.specs.Frames.{frame_width, request_bytes}
 use Rattle.child_protocol.specs.Pre.{say}
-use Rattle.child_protocol.specs.Says.{Role, next_request}
+use Rattle.child_protocol.specs.Says.{Pre, Role, next_request}
 use Rattle.child_protocol.proofs.Frames.{reads_in}
 use Rattle.service_model.specs.Acts.{AreActsOf, ReadsClock, Receives, Sends, failed_device, operation_of, operations_by}
 use Rattle.service_model.specs.Acts.{operations_of, written_by, written_bytes}
@@ -35,12 +37,13 @@ use Rattle.service_model.specs.Answers.{reply_to}
 use Rattle.service_model.specs.Cases.{message_bytes, outcome_value, reply_bytes}
 use Rattle.service_model.specs.Parts.{EndsSession, EndsSo, GoesOn, HandsOver, IsRequestStep, PartEnd, step_bytes}
 use Rattle.service_model.specs.Places.{Step, step_places}
+use Rattle.service_model.specs.Requests.{Asks}
 use Rattle.service_model.specs.Service.{Service}
 use Rattle.login_laws.specs.Login.{is_talk}
 use Rattle.login_laws.proofs.Judged.{talk_by_frame, talk_permitted}
-use Rattle.login_laws.proofs.Logins.{at_next}
-use Rattle.login_laws.proofs.Stages.{Lasts, Stage, more, quiet, talk_on}
-use Rattle.login_laws.proofs.Walk.{Next, Stands, State, own_session}
+use Rattle.login_laws.proofs.Stages.{Lasts, Stage, event_as, more, quiet, spelled, talk_on}
+use Rattle.login_laws.proofs.Walk.{At, Comes, Next, Stands, State, next_place, not_own, own_session, stays}
+use Rattle.welcome_laws.specs.Welcome.{tells_client, texts_told}
 use Rattle.welcome_laws.proofs.Meeting.{IsReadable, Meets, alike, alone, answered, begins, had, meets, not_alone}
 use Rattle.welcome_laws.proofs.Rounds.{Went}
 
@@ -73,6 +76,46 @@ answer_done service exported session request step ask value message own is permi
       by_ask a never =
           ap (λ (v : AnswerValue). Some v) (outcome (done_body service exported step.place step.acts a value))
 
+-- the answer to a denial, as it is shown
+pub answer_denied : (service : Service) (exported : List ℕ) (session : ℕ) (request : RequestValue) (step : Step)
+    (rule detail : ℕ) → step.message ≡ Some (request_message request) → step.place.event.session ≡ session
+    → shown_of step.place.event.decision ≡ Deny rule detail
+    → answer_to service exported step ≡ spelling_of service.setup.frames
+    (reply_message (request_message request) session (Denied rule detail))
+unfolding reply_to
+answer_denied service exported session request step rule detail message own shown =
+    ap (λ (m : Option Message). option_map_or (λ x. reply_to service exported x step.place step.acts) m []) message
+    ∙ ap (λ (d : Decision). reply_bytes service.setup.frames (request_message request) step.place.event.session
+    (answer_value service exported step.place step.acts d)) shown
+    ∙ ap (λ n. spelling_of service.setup.frames (reply_message (request_message request) n (Denied rule detail))) own
+
+-- a request that writes a text is asked as one that does
+text_asked : (words : List (List ℕ)) (request : RequestValue) (ask : Ask) → Asks words request ask
+    → tells_client ask ≡ sends_text request
+text_asked words requests.Banner ask is = ap tells_client is
+text_asked words (requests.Challenge user) ask is = ap tells_client is.3
+text_asked words (requests.Reply text) ask is = ap tells_client is.3
+text_asked words requests.Abandon ask is = ap tells_client is
+text_asked words (requests.Export state) ask is = ap tells_client is
+text_asked words requests.Import ask is = ap tells_client is
+text_asked words (requests.ReadAt handle offset max) ask is = ap tells_client is
+text_asked words (requests.WriteAt zero offset bytes) ask is = ap tells_client is
+text_asked words (requests.WriteAt (suc handle) offset bytes) ask is = ap tells_client is
+text_asked words (requests.OpenFile mode name) ask is = ap tells_client is.2
+text_asked words (requests.CloseFile handle) ask is = ap tells_client is
+text_asked words (requests.Info number) ask is = ap tells_client is
+text_asked words (requests.Note text) ask is = ap tells_client is.2
+text_asked words requests.Finish ask is = ap tells_client is
+
+one_text : (b : Bool) (n : ℕ) → n + cond b 1 0 ≡ cond b (suc n) n
+one_text true n = omega arith
+one_text false n = omega arith
+
+-- what holds of an event with this ask and this decision
+pub event_by : (P : Event → Type 0) (e : Event) (ask : Ask) (d : Decision) → e.ask ≡ ask → e.decision ≡ d
+    → P (event_as e ask d) → P e
+event_by P e ask d is decided h = subst P (sym (spelled e ask d is decided)) h
+
 -- ---- a part, where it stands
 
 module _ (service : Service) (journal : List Event) (worker session : ℕ) (legal : IsLegal service.setup journal)
@@ -83,10 +126,36 @@ module _ (service : Service) (journal : List Event) (worker session : ℕ) (lega
   abbrev pub left_of : List Step → List Step
   left_of served = served ++ option_to_list final
 
+  -- the session stands so; and its first child has written the texts of these exchanges
+  pub record Standing (s : State) (Q : List Event → Type 0) (history : List Exchange) (before : List Event)
+      : Type 0 where
+    pub at : At service.setup worker session s before
+    pub known : Q before
+    pub told : role ≡ Pre → texts_told before session ≡ texts_of history
+
+  others_stand : (s : State) (Q : List Event → Type 0) (history : List Exchange)
+      → Lasts service.setup journal worker session Q → (before : List Event) (e : Event)
+      → Comes service.setup journal before e → e.worker ≢ worker → Standing s Q history before
+      → Standing s Q history (before ++ e ∷ [])
+  others_stand s Q history lasts before e comes other x = record {
+    at = stays service.setup journal worker session s before e comes other x.at;
+    known = lasts.others s before e x.at comes other x.known;
+    told = λ first. count_of-other before e session (λ y. tells_client y.ask)
+        (not_own service.setup journal worker session s before e x.at comes other) ∙ x.told first;
+  }
+
+  at_standing : (s : State) (Q : List Event → Type 0) (history : List Exchange)
+      → Lasts service.setup journal worker session Q → (before : List Event) (p : Place) (places : List Place)
+      → Standing s Q history before → Stands journal worker before (p ∷ places)
+      → Next service.setup journal worker (Standing s Q history) p places
+  at_standing s Q history lasts before p places x stands =
+      next_place service.setup journal worker legal none (Standing s Q history) (others_stand s Q history lasts) before
+      p places x stands
+
   -- the session stands so, the child has had these exchanges, and these steps are left
   pub record Now (s : State) (Q : List Event → Type 0) (history : List Exchange) (served : List Step) : Type 0 where
     pub before : List Event
-    pub stage : Stage service.setup journal worker session s Q before
+    pub stage : Standing s Q history before
     pub stands : Stands journal worker before (step_places (left_of served) ++ behind)
     pub each : AllByRecursion (IsRequestStep service) (left_of served)
     pub on : AllByRecursion GoesOn served
@@ -102,8 +171,7 @@ module _ (service : Service) (journal : List Event) (worker session : ℕ) (lega
     pub is : IsRequestStep service step
     pub meets : Meets service request step (step_bytes service.setup.frames left ++ (rest ++ unread))
         (step_bytes service.setup.frames (left_of served) ++ (rest ++ unread))
-    pub next : Next service.setup journal worker (Stage service.setup journal worker session s Q) step.place
-        (step_places left ++ behind)
+    pub next : Next service.setup journal worker (Standing s Q history) step.place (step_places left ++ behind)
     pub went : Went role session history (answer_to service exported step ++ answers service exported left)
         (request_bytes request ++ (step_bytes service.setup.frames left ++ (rest ++ unread)))
     pub each : AllByRecursion (IsRequestStep service) left
@@ -146,9 +214,7 @@ module _ (service : Service) (journal : List Event) (worker session : ℕ) (lega
               by_end (EndsSession why) so = not_alone service.setup.frames why rest unread request in_range so same
               by_end HandsOver so = so
         by_final (Some step) is stands each went =
-            let n = at_next service.setup journal worker legal none session s Q lasts now.before step.place behind
-            now.stage
-            stands in
+            let n = at_standing s Q history lasts now.before step.place behind now.stage stands in
             let m = meets service request step (step_bytes service.setup.frames (step ∷ []) ++ (rest ++ unread))
             (rest ++ unread) in_range each.0 (begins role session history (answers service exported (step ∷ []))
             (step_bytes service.setup.frames (step ∷ []) ++ (rest ++ unread)) request went asked few)
@@ -167,8 +233,8 @@ module _ (service : Service) (journal : List Event) (worker session : ℕ) (lega
               last = λ going exported'. (refl, is, refl, (final_served step is going).1);
             }
   next_served request s Q history (step ∷ more) lasts now asked in_range few =
-      let n = at_next service.setup journal worker legal none session s Q lasts now.before step.place
-      (step_places (left_of more) ++ behind) now.stage now.stands in
+      let n = at_standing s Q history lasts now.before step.place (step_places (left_of more) ++ behind) now.stage
+      now.stands in
       let same = append_assoc (message_bytes service.setup.frames step.message)
       (step_bytes service.setup.frames (left_of more)) (rest ++ unread) in
       let m = meets service request step (step_bytes service.setup.frames (left_of (step ∷ more)) ++ (rest ++ unread))
@@ -188,6 +254,19 @@ module _ (service : Service) (journal : List Event) (worker session : ℕ) (lega
         inner = λ going unexported. (more, refl, refl, now.on.1);
         last = λ going exported'. absurd (false≢true (sym now.on.0.unexported ∙ exported'));
       }
+
+  told_on : (request : RequestValue) (answer : AnswerValue) (s : State) (Q : List Event → Type 0)
+      (history : List Exchange) (served : List Step) (v : Served request s Q history served) → role ≡ Pre
+      → texts_told (v.step.place.before ++ v.step.place.event ∷ []) session ≡ texts_of (had request answer ∷ history)
+  told_on request answer s Q history served v first =
+      let p = v.step.place in
+      let n = v.next in
+      let own = own_session service.setup journal worker session s p.before p.event n.holds.at n.comes n.own
+      v.is.request in
+      count_of-own p.before p.event session (λ y. tells_client y.ask) own
+      ∙ ap (λ b. texts_told p.before session + cond b 1 0) (text_asked service.words request p.event.ask v.meets.asks)
+      ∙ ap (λ n. n + cond (sends_text request) 1 0) (n.holds.told first) ∙ one_text (sends_text request)
+      (texts_of history)
 
   -- behind the answer to a request that neither ended the session nor exported
   pub record Behind (s : State) (Q : List Event → Type 0) (history : List Exchange) (served : List Step) (step : Step)
@@ -221,7 +300,7 @@ module _ (service : Service) (journal : List Event) (worker session : ℕ) (lega
         left_is = inner.2;
         now = record {
           before = v.step.place.before ++ v.step.place.event ∷ [];
-          stage = stage;
+          stage = record { at = stage.at; known = stage.known; told = told_on request answer s Q history served v };
           stands = subst (λ steps. Stands journal worker (v.step.place.before ++ v.step.place.event ∷ [])
               (step_places steps ++ behind)) inner.2 v.next.behind;
           each = subst (λ steps. AllByRecursion (IsRequestStep service) steps) inner.2 v.each;

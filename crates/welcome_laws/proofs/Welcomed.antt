@@ -1,5 +1,5 @@
 -- A session that comes to log in is welcomed.
-use Rattle.std.proofs.Common.{◌≡◌, ◌≢◌, ℕ, ◌+◌, ◌<◌, ◌≤◌, ◌^◌, Bool, true, false, ◌&&◌, cond, eqb, List, [], ◌∷◌, ◌++◌}
+use Rattle.std.proofs.Common.{◌≡◌, ◌≢◌, ℕ, ◌+◌, ◌*◌, ◌<◌, ◌≤◌, ◌^◌, Bool, true, false, ◌&&◌, cond, eqb, List, [], ◌∷◌, ◌++◌}
 use Rattle.std.proofs.Common.{length, Option, Some, None, option_to_list, refl, sym, ap, subst, ◌∙◌, append_assoc}
 use Rattle.std.proofs.Common.{arith}
 use Rattle.std.specs.Prelude.{IsSomeAnd, codes, count_by}
@@ -23,14 +23,17 @@ use Rattle.policy_model.specs.declared.event.Why.TheVariants as whys
 use Rattle.policy_model.specs.declared.ranges.TheConstants.{EVENTS_LIMIT}
 use Rattle.policy_model.specs.Asks.{is_begin, is_permit, opens}
 use Rattle.policy_model.specs.Cases.{account_named}
-use Rattle.policy_model.specs.Journal.{Place, has_lost}
+use Rattle.policy_model.specs.Journal.{Place, has_lost, openings_of}
 use Rattle.policy_model.specs.Legal.{IsLegal}
 use Rattle.policy_model.specs.Logins.{verified_user}
-use Rattle.policy_model.specs.Settings.{IsInRange}
+use Rattle.policy_model.specs.Settings.{IsInRange, Settings}
 use Rattle.policy_model.proofs.Legal.{IsLegal-none}
 use Rattle.policy_model.proofs.Runs.{next_session}
-use Rattle.session_laws.proofs.Openings.{openings_few, session_new}
+use Rattle.session_laws.proofs.Openings.{legal_numbered, openings_few, session_new}
 use Rattle.session_laws.proofs.Permits.{found_name}
+use Rattle.session_laws.proofs.SessionEvents.{count_of-new, count_of-own}
+use Rattle.child_protocol.specs.Says.{Pre, User}
+use Rattle.child_protocol.specs.User.{Who}
 use Rattle.state_export.specs.Spelling.{state_bytes}
 use Rattle.service_model.specs.Answers.{answers}
 use Rattle.service_model.specs.Cases.{role_of}
@@ -47,7 +50,8 @@ use Rattle.login_laws.proofs.Logins.{reach}
 use Rattle.login_laws.proofs.Walk.{At, Stands, begun, places_behind, start}
 use Rattle.welcome_laws.specs.Shipped.{IsSaidWhole, IsShipped, role_session, shipped_role}
 use Rattle.welcome_laws.specs.Client.{ClientSays, is_receiving}
-use Rattle.welcome_laws.specs.Welcome.{ComesToLogIn, IsWelcomed, UsersGetIn, first_acts, sitting_session}
+use Rattle.welcome_laws.specs.Welcome.{ComesToLogIn, IsWelcomed, UsersGetIn, first_acts, tells_client, sitting_session}
+use Rattle.welcome_laws.specs.Welcome.{texts_told}
 use Rattle.welcome_laws.proofs.Early.{early}
 use Rattle.welcome_laws.proofs.Late.{late}
 use Rattle.welcome_laws.proofs.Rounds.{Went, said_so}
@@ -107,6 +111,18 @@ flat-append (x ∷ xs) ys =
     ap (λ s. all_steps x ++ s) (flat-append xs ys)
     ∙ sym (append_assoc (all_steps x) (flat_map all_steps xs) (flat_map all_steps ys))
 
+-- a session that was just opened wrote no text
+none_told : (setup : Settings) (before : List Event) (e : Event) → IsLegal setup before
+    → e.session ≡ openings_of before + 1 → e.ask ≡ asks.Begin → texts_told (before ++ e ∷ []) e.session ≡ 0
+none_told setup before e legal number is =
+    count_of-own before e e.session (λ y. tells_client y.ask) refl
+    ∙ ap (λ b. texts_told before e.session + cond b 1 0) (ap tells_client is)
+    ∙ ap (λ n. n + 0) (count_of-new before (openings_of before) e.session (λ y. tells_client y.ask)
+    (legal_numbered setup before legal) (omega (arith, number)))
+
+user_no_pre : {who : Who} → User who ≡ Pre → ⊥
+user_no_pre e = cc
+
 handing : HandsOver ≢ EndsSession whys.LinkFault
 handing same = absurd cc
 
@@ -125,29 +141,31 @@ module _ (service : Service) (journal : List Event) (legal : IsLegal service.set
   by_parts : (sitting : Sitting) (ending : Step) (why : Why) (before : List Event) (more : List Place)
       → ComesToLogIn service journal user account response sitting → is_fault_end (asks.End why) ≡ false
       → sitting_session sitting < 2 ^ 32 → At service.setup worker (sitting_session sitting) start before
+      → texts_told before (sitting_session sitting) ≡ 0
       → (parts : List Part) → sitting.parts ≡ parts → AreParts service why sitting.opening parts
       → AreAnswered service [] parts → AllByRecursion IsShipped parts
       → Stands journal worker before (step_places (flat_map requests_of parts ++ ending ∷ []) ++ more)
       → IsWelcomed journal user account sitting
-  by_parts sitting ending why before more comes sound' small at [] is parts answered shipped stands =
+  by_parts sitting ending why before more comes sound' small at untold [] is parts answered shipped stands =
       absurd (false≢true (sym sound' ∙ ap (λ w. is_fault_end (asks.End w)) parts.1))
-  by_parts sitting ending why before more comes sound' small at (pre ∷ []) is parts answered shipped stands =
+  by_parts sitting ending why before more comes sound' small at untold (pre ∷ []) is parts answered shipped stands =
       let part = ends_first service why pre sound' parts.2 in
       let behind = step_places (ending ∷ []) ++ more in
       let session = sitting_session sitting in
       let client = subst (λ ps. ClientSays comes.lines [] (first_acts ps)) is comes.client in
-      let room = subst (λ ps. count_by is_receiving (first_acts ps) + 8 ≤ service.setup.requests) is comes.few in
+      let room = subst (λ ps. count_by is_receiving (first_acts ps) + 2 * length comes.earlier + 8
+      ≤ service.setup.requests) is comes.few in
       let ended = part.ended (no_link why sound') in
       let there : step_places (flat_map requests_of (pre ∷ []) ++ ending ∷ []) ++ more ≡ step_places (requests_of pre)
       ++ behind = ap (λ steps. step_places (steps ++ ending ∷ []) ++ more) (append-nil (requests_of pre))
       ∙ ap (λ ps. ps ++ more) (places-append (requests_of pre) (ending ∷ []))
       ∙ append_assoc (step_places (requests_of pre)) (step_places (ending ∷ [])) more in
       let r = early service journal worker session legal none small (EndsSession why) pre.final pre.rest pre.unread
-      ended behind range user account response comes.lines comes.are_lines comes.within comes.ready comes.right
-      pre.served
+      ended behind range few user account response comes.lines comes.earlier comes.are_lines comes.are_earlier
+      comes.only comes.within comes.ready comes.right pre.served
       (record {
         before = before;
-        stage = record { at = at; known = tt };
+        stage = record { at = at; known = tt; told = λ first. untold };
         stands = subst
             (λ ps. Stands journal worker before ps) there stands;
         each = part.each;
@@ -157,13 +175,14 @@ module _ (service : Service) (journal : List Event) (legal : IsLegal service.set
       }) client room in
       let not_over : EndsSession why ≡ HandsOver = r.end_is in
       absurd cc
-  by_parts sitting ending why before more comes sound' small at (pre ∷ child ∷ []) is parts answered shipped stands =
+  by_parts sitting ending why before more comes sound' small at untold (pre ∷ child ∷ []) is parts answered shipped stands =
       let change = parts.2 in
       let session = sitting_session sitting in
       let last = step_places (ending ∷ []) ++ more in
       let behind = step_places (requests_of child) ++ last in
       let client = subst (λ ps. ClientSays comes.lines [] (first_acts ps)) is comes.client in
-      let room = subst (λ ps. count_by is_receiving (first_acts ps) + 8 ≤ service.setup.requests) is comes.few in
+      let room = subst (λ ps. count_by is_receiving (first_acts ps) + 2 * length comes.earlier + 8
+      ≤ service.setup.requests) is comes.few in
       let ended = change.first.ended handing in
       let there : step_places (flat_map requests_of (pre ∷ child ∷ []) ++ ending ∷ []) ++ more ≡ step_places
       (requests_of pre) ++ behind =
@@ -175,10 +194,11 @@ module _ (service : Service) (journal : List Event) (legal : IsLegal service.set
       ∙ ap (λ ps. step_places (requests_of pre) ++ ps)
       (append_assoc (step_places (requests_of child)) (step_places (ending ∷ [])) more) in
       let r = early service journal worker session legal none small HandsOver pre.final pre.rest pre.unread ended behind
-      range user account response comes.lines comes.are_lines comes.within comes.ready comes.right pre.served
+      range few user account response comes.lines comes.earlier comes.are_lines comes.are_earlier comes.only
+      comes.within comes.ready comes.right pre.served
       (record {
         before = before;
-        stage = record { at = at; known = tt };
+        stage = record { at = at; known = tt; told = λ first. untold };
         stands = subst
             (λ ps. Stands journal worker before ps) there stands;
         each = change.first.each;
@@ -201,11 +221,11 @@ module _ (service : Service) (journal : List Event) (legal : IsLegal service.set
       let second = subst (λ b. IsPart service b (EndsSession why) child) exported_is change.second in
       let sent = subst (λ b. child.sent ≡ answers service b (requests_of child)) exported_is answered.1.0 in
       let w = late service journal worker session legal none small account r.state why child.final child.rest
-      child.unread (second.ended (no_link why sound')) last range user r.asked found r.in_range
+      child.unread (second.ended (no_link why sound')) last range user r.asked r.tried found r.in_range
       (omega (arith, r.few, room)) child.served
       (record {
         before = r.step.place.before ++ r.step.place.event ∷ [];
-        stage = r.stage;
+        stage = record { at = r.stage.at; known = r.stage.known; told = λ first. absurd (user_no_pre first) };
         stands = r.stands;
         each =
             second.each;
@@ -237,7 +257,7 @@ module _ (service : Service) (journal : List Event) (legal : IsLegal service.set
         told = w.told ∙ ap (λ (n : Name). acts.ConnSend (codes "welcome " ++ name_bytes n ++ codes "\n") w.outcome ∷ [])
             named;
       }
-  by_parts sitting ending why before more comes sound' small at (pre ∷ child ∷ other ∷ others) is parts answered shipped
+  by_parts sitting ending why before more comes sound' small at untold (pre ∷ child ∷ other ∷ others) is parts answered shipped
       stands =
       absurd parts
 
@@ -311,8 +331,9 @@ module _ (service : Service) (journal : List Event) (legal : IsLegal service.set
         (step_places (flat_map requests_of sitting.parts)) ending.place (step_places (flat_map all_steps later))
         (subst (AllByRecursion (λ (p : Place). is_fault_end p.event.ask ≡ false)) split behind.1) in
         let sound' : is_fault_end (asks.End round.0) ≡ false = ap is_fault_end (sym ends.ask) ∙ ended in
+        let untold = none_told service.setup p.before p.event n.holds number is.begins.ask in
         by_parts sitting ending round.0 (p.before ++ p.event ∷ []) (step_places (flat_map all_steps later)) comes sound'
-        small at sitting.parts refl round.2 answered comes.children n.behind
+        small at untold sitting.parts refl round.2 answered comes.children n.behind
 
 pub users_get_in : (service : Service) (journal : List Event) → IsLegal service.setup journal
     → length journal ≤ EVENTS_LIMIT → has_lost journal ≡ false → IsInRange service.setup

@@ -1,7 +1,7 @@
 -- Believed: what has to hold so that a user is welcomed, and what a welcome is.
-use Rattle.std.specs.Prelude.{◌≡◌, ℕ, ◌+◌, ◌≤◌, true, Option, Some, Result}
-use Rattle.std.specs.Prelude.{List, [], ◌∷◌, ◌++◌, codes, count_by}
-use Rattle.std.specs.List.{AllByRecursion}
+use Rattle.std.specs.Prelude.{◌≡◌, ℕ, zero, ◌+◌, ◌*◌, ◌≤◌, Bool, true, false, Option, Some, Result}
+use Rattle.std.specs.Prelude.{List, [], ◌∷◌, ◌++◌, codes, count_by, length}
+use Rattle.std.specs.List.{AllByRecursion, list_any}
 use Rattle.request_catalogue.specs.declared.texts.Name.{Name}
 use Rattle.request_catalogue.specs.TextBytes.{name_bytes}
 use Rattle.otp_words.specs.Candidates.{AreCandidatesOf}
@@ -10,14 +10,20 @@ use Rattle.outside.specs.declared.act.Act.TheVariants as acts
 use Rattle.outside.specs.declared.act.Failed.{Failed}
 use Rattle.outside.specs.declared.act.Role.TheVariants as launched
 use Rattle.policy_model.specs.declared.account.Account.{Account}
+use Rattle.policy_model.specs.declared.event.Ask.{Ask}
+use Rattle.policy_model.specs.declared.event.Ask.TheVariants as asks
 use Rattle.policy_model.specs.declared.event.Event.{Event}
 use Rattle.policy_model.specs.Asks.{accepts, exports, is_permit, moment_of}
+use Rattle.policy_model.specs.Journal.{count_of}
+use Rattle.policy_model.specs.Logins.{account_of, challenged_user}
+use Rattle.policy_model.specs.Settings.{Settings}
+use Rattle.child_protocol.specs.Commands.{PreCommand, Respond, User}
 use Rattle.service_model.specs.Parts.{Part, requests_of}
 use Rattle.service_model.specs.Places.{Step, step_acts}
 use Rattle.service_model.specs.Service.{Service}
 use Rattle.service_model.specs.Sittings.{Sitting}
-use Rattle.login_laws.specs.Login.{CanLogIn, ComesAfter, IsRight, RepliesWithinHold, asks_for}
-use Rattle.welcome_laws.specs.Client.{AreLoginLines, ClientSays, is_receiving}
+use Rattle.login_laws.specs.Login.{CanLogIn, ComesAfter, ComesWithinHold, IsRight, asks_for}
+use Rattle.welcome_laws.specs.Client.{AreEarlier, BeginWith, ClientSays, is_receiving, is_response}
 use Rattle.welcome_laws.specs.Shipped.{IsShipped}
 
 -- the session of a sitting
@@ -29,23 +35,54 @@ abbrev pub first_acts : List Part → List Act
 first_acts [] = []
 first_acts (pre ∷ parts) = step_acts (requests_of pre)
 
--- the shipped children serve a session whose client asks for the user and responds; the setup allows eight asks besides
--- those that the client's bytes take; wherever the session asks for the user, the user can log in by that response, and
--- the reply comes within the hold
+-- an ask is a WRITE to the client
+abbrev pub tells_client : Ask → Bool
+tells_client (asks.WriteAt zero offset len) = true
+tells_client _ = false
+
+-- how many texts a session wrote to its client
+abbrev pub texts_told : List Event → ℕ → ℕ
+texts_told before session = count_of before session (λ e. tells_client e.ask)
+
+-- the session asks for the user when it has written so many texts
+pub record AsksAfter (journal : List Event) (session : ℕ) (user : Name) (texts : ℕ) (before : List Event) (e : Event)
+    : Type 0 where
+  pub comes : ComesAfter journal before e
+  pub own : e.session ≡ session
+  pub asks : asks_for user e.ask ≡ true
+  pub told : texts_told before session ≡ texts
+
+-- the user's account is this, and each accepted REPLY of the session is one for this user
+pub record AcceptsNobodyElse (setup : Settings) (journal : List Event) (session : ℕ) (user : Name) (account : Account)
+    : Type 0 where
+  pub found : account_of setup user ≡ Some account
+  pub only : (before : List Event) (e : Event) → ComesAfter journal before e → e.session ≡ session → accepts e ≡ true
+      → challenged_user before session ≡ Some user
+
+-- the shipped children serve a session whose client says earlier lines, and then asks for the user and responds; the
+-- setup allows eight asks besides two for each earlier line and those that the client's bytes take; no earlier response
+-- logs in another user. Where the session asks for the user when it has written the greeting and a text for each earlier
+-- line, the user can log in by that response; and from then on the reply comes within the hold
 pub record ComesToLogIn (service : Service) (journal : List Event) (user : Name) (account : Account)
     (response : List ℕ) (sitting : Sitting) : Type 0 where
+  pub earlier : List PreCommand
   pub lines : List ℕ
-  pub are_lines : AreLoginLines lines (name_bytes user) response
+  pub are_earlier : AreEarlier service.setup.tries earlier
+  pub are_lines : BeginWith (earlier ++ (User (name_bytes user) ∷ Respond response ∷ [])) lines
   pub children : AllByRecursion IsShipped sitting.parts
   pub client : ClientSays lines [] (first_acts sitting.parts)
-  pub few : count_by is_receiving (first_acts sitting.parts) + 8 ≤ service.setup.requests
-  pub ready : (before : List Event) (e : Event) → ComesAfter journal before e → e.session ≡ sitting_session sitting
-      → asks_for user e.ask ≡ true
+  pub few : count_by is_receiving (first_acts sitting.parts) + 2 * length earlier + 8 ≤ service.setup.requests
+  pub only : list_any is_response earlier ≡ true
+      → AcceptsNobodyElse service.setup journal (sitting_session sitting) user account
+  pub ready : (before : List Event) (e : Event)
+      → AsksAfter journal (sitting_session sitting) user (1 + length earlier) before e
       → CanLogIn service.setup before (sitting_session sitting) user (moment_of e.ask) account
-  pub right : (before : List Event) (e : Event) → ComesAfter journal before e → e.session ≡ sitting_session sitting
-      → asks_for user e.ask ≡ true → (words hex : Option ℕ)
+  pub right : (before : List Event) (e : Event)
+      → AsksAfter journal (sitting_session sitting) user (1 + length earlier) before e → (words hex : Option ℕ)
       → AreCandidatesOf service.words response words hex → IsRight before account words hex
-  pub within : RepliesWithinHold service.setup journal (sitting_session sitting) user
+  pub within : (before : List Event) (e : Event) → ComesAfter journal before e
+      → 1 + length earlier ≤ texts_told before (sitting_session sitting)
+      → ComesWithinHold service.setup before (sitting_session sitting) user e
 
 -- a REPLY of the session was accepted; its first child's part ended with a permitted EXPORT; the child of that user was
 -- served, and the second request of that child was permitted and sent the client `welcome NAME`

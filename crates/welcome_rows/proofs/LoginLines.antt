@@ -1,21 +1,22 @@
 -- The lines of a login.
-use Rattle.std.proofs.Common.{◌≡◌, ℕ, zero, suc, ◌+◌, ◌-◌, ◌≤◌, true, false, not, ◌&&◌, cond, eqb, List}
+use Rattle.std.proofs.Common.{◌≡◌, ◌≢◌, ℕ, zero, suc, ◌+◌, ◌-◌, ◌≤◌, lit≤, true, false, not, ◌&&◌, cond, eqb, List}
 use Rattle.std.proofs.Common.{[], ◌∷◌, ◌++◌}
 use Rattle.std.proofs.Common.{length, take, drop, get_or, Some, refl, sym, ap, subst, ◌∙◌, add-one}
 use Rattle.std.proofs.Common.{append_assoc, arith}
-use Rattle.std.specs.Prelude.{codes, nat_le, is_some}
+use Rattle.std.specs.Prelude.{codes, nat_le}
 use Rattle.std.specs.Char.{is_newline}
-use Rattle.std.specs.List.{list_all, prefix_len}
+use Rattle.std.specs.List.{list_all, list_any, prefix_len}
 use Rattle.std.specs.Str.Lines.{strip_carriage_return}
 use Rattle.std.proofs.lemmas.Bool.{and_from, and_parts, le-leb, leb-true}
 use Rattle.std.proofs.lemmas.Bool.Decides.{nat_tests}
-use Rattle.std.proofs.lemmas.List.{length-append}
+use Rattle.std.proofs.lemmas.List.{append-nil, length-append}
 use Rattle.std.proofs.lemmas.List.Folds.{prefix_len-append}
 use Rattle.request_catalogue.specs.Texts.{begins_name, continues_name, is_name, is_typed, is_typed_reply}
-use Rattle.child_protocol.specs.Commands.{Respond, User, legal, pre_command}
+use Rattle.child_protocol.specs.Commands.{PreCommand, Respond, Terminal, User, is_terminal, legal, pre_command}
 use Rattle.child_protocol.specs.Lines.{Line, TooLong, behind, behind_line, front_by, front_of, line_end}
 use Rattle.child_protocol.specs.Lines.{line_front}
-use Rattle.welcome_laws.specs.Client.{AreLoginLines}
+use Rattle.welcome_laws.specs.Client.{AreEarlier, BeginWith, BeginsWith, is_response}
+use Rattle.welcome_rows.specs.Met.{earlier_of, pair_bytes, said_bytes}
 
 -- ---- typed bytes end no line
 
@@ -76,7 +77,7 @@ first_front text more h short =
 behind_first : (text more : List ℕ) → list_all is_typed text ≡ true → behind_line (text ++ 10 ∷ more) ≡ more
 behind_first text more h = ap (λ o. behind o (text ++ 10 ∷ more)) (first_end text more h) ∙ drop_front text more
 
--- ---- the two
+-- ---- the lines' texts
 
 continues_typed : (c : ℕ) → continues_name c ≡ true → is_typed c ≡ true
 continues_typed c h = grind (arith, nat_tests)
@@ -115,69 +116,79 @@ response_line : (response : List ℕ) → is_typed_reply response ≡ true → p
 unfolding pre_command
 response_line response h = ap (λ b. legal b (Respond response)) h
 
-module _ (name response : List ℕ) (named : is_name name ≡ true) (typed : is_typed_reply response ≡ true) where
-  one : List ℕ
-  one = codes "user " ++ name
+-- bytes that begin with a line, and what stands after it
+record Begins (command : PreCommand) (bytes more : List ℕ) : Type 0 where
+  pub line : BeginsWith command bytes
+  pub behind_is : behind_line bytes ≡ more
 
-  two : List ℕ
-  two = codes "resp " ++ response
+begins : (text more : List ℕ) (command : PreCommand) → list_all is_typed text ≡ true → length text ≤ 300
+    → pre_command text ≡ command → Begins command (text ++ 10 ∷ more) more
+begins text more command typed short is = record {
+  line = record {
+    end = length text;
+    whole = first_end text more typed;
+    short = short;
+    text = text;
+    front = first_front text more typed short;
+    is = is;
+  };
+  behind_is = behind_first text more typed;
+}
 
-  one_typed : (list_all is_typed (codes "user " ++ name) ≡ true) × (length (codes "user " ++ name) ≤ 37)
-  one_typed = let t = name_typed name named in (t.0, omega (arith, t.1))
+-- ---- the lines that a client says
 
-  two_typed : (list_all is_typed (codes "resp " ++ response) ≡ true) × (length (codes "resp " ++ response) ≤ 261)
-  two_typed = let t = reply_typed response typed in (t.0, omega (arith, t.1))
+abbrev Pair : List ℕ → List ℕ → List PreCommand → List PreCommand
+Pair name response commands = User name ∷ Respond response ∷ commands
 
-  both_lines : AreLoginLines ((codes "user " ++ name) ++ 10 ∷ ((codes "resp " ++ response) ++ 10 ∷ [])) name response
-  both_lines = record {
-    whole = ((tt, ap is_some first), ap is_some second);
-    few = omega (
-      arith,
-      one_typed.1,
-      two_typed.1,
-      length-append (codes "user " ++ name) (10 ∷ ((codes "resp " ++
-          response) ++ 10 ∷ [])),
-      length-append (codes "resp " ++ response) (10 ∷ []),
-    );
-    short = λ end is. omega (arith, one_typed.1, same end (sym first ∙ is));
-    short_too = λ end is. omega (arith, two_typed.1, same_too end (sym second ∙ is));
-    first = (
-      codes "user " ++ name,
-      first_front (codes "user " ++ name) ((codes "resp " ++ response) ++ 10 ∷ [])
-          one_typed.0 (omega (arith, one_typed.1)),
-      user_line name named,
-    );
-    second = (
-      codes "resp " ++ response,
-      ap front_of behind_is ∙ first_front (codes "resp " ++ response) []
-          two_typed.0 (omega (arith, two_typed.1)),
-      response_line response typed,
-    );
-  } where
-    first : line_end ((codes "user " ++ name) ++ 10 ∷ ((codes "resp " ++ response) ++ 10 ∷ [])) ≡ Some (length (codes
-        "user " ++ name))
-    first = first_end (codes "user " ++ name) ((codes "resp " ++ response) ++ 10 ∷ []) one_typed.0
+pair_begins : (name response more : List ℕ) (commands : List PreCommand) → is_name name ≡ true
+    → is_typed_reply response ≡ true → BeginWith commands more
+    → BeginWith (Pair name response commands) (pair_bytes name response ++ more)
+pair_begins name response more commands named typed others =
+    let one = codes "user " ++ name in
+    let two = codes "resp " ++ response in
+    let n = name_typed name named in
+    let t = reply_typed response typed in
+    let second = begins two more (Respond response) t.0 (omega (arith, t.1)) (response_line response typed) in
+    let first = begins one (two ++ 10 ∷ more) (User name) n.0 (omega (arith, n.1)) (user_line name named) in
+    subst (BeginWith (Pair name response commands)) (sym (shape name response more)) (
+      first.line,
+      subst (BeginWith (Respond response ∷ commands)) (sym first.behind_is)
+          (second.line, subst (BeginWith commands) (sym second.behind_is) others),
+    ) where
+      shape : (name response more : List ℕ) → pair_bytes name response ++ more ≡ (codes "user " ++ name) ++ 10 ∷ ((codes
+          "resp " ++ response) ++ 10 ∷ more)
+      shape name response more = simp append_assoc
 
-    behind_is : behind_line ((codes "user " ++ name) ++ 10 ∷ ((codes "resp " ++ response) ++ 10 ∷ [])) ≡ (codes
-        "resp " ++ response) ++ 10 ∷ []
-    behind_is = behind_first (codes "user " ++ name) ((codes "resp " ++ response) ++ 10 ∷ []) one_typed.0
+terminal_line : pre_command (codes "term vt220") ≡ Terminal (codes "vt220")
+unfolding pre_command is_terminal
+terminal_line = refl
 
-    second : line_end (behind_line ((codes "user " ++ name) ++ 10 ∷ ((codes "resp " ++ response) ++ 10 ∷ []))) ≡ Some
-        (length (codes "resp " ++ response))
-    second = ap line_end behind_is ∙ first_end (codes "resp " ++ response) [] two_typed.0
+one_pair : (name response : List ℕ) → is_name name ≡ true → is_typed_reply response ≡ true
+    → BeginWith (Pair name response []) (pair_bytes name response)
+one_pair name response named typed =
+    subst (BeginWith (Pair name response [])) (append-nil (pair_bytes name response))
+    (pair_begins name response [] [] named typed tt)
 
-    same : (end : ℕ) → Some (length (codes "user " ++ name)) ≡ Some end → length (codes "user " ++ name) ≡ end
-    same end e = cc
+-- all lines that are said, as they are made
+pub said_lines : (name mistyped response : List ℕ) → is_name name ≡ true → is_typed_reply response ≡ true
+    → (mistyped ≢ [] → is_typed_reply mistyped ≡ true)
+    → BeginWith (earlier_of name mistyped ++ (User name ∷ Respond response ∷ [])) (said_bytes name mistyped response)
+said_lines name [] response named typed typed_too = one_pair name response named typed
+said_lines name (c ∷ cs) response named typed typed_too =
+    let pair = pair_begins name (c ∷ cs) (pair_bytes name response) (Pair name response []) named (typed_too (λ e. cc))
+    (one_pair name response named typed) in
+    let more = pair_bytes name (c ∷ cs) ++ pair_bytes name response in
+    let first = begins (codes "term vt220") more (Terminal (codes "vt220")) refl (lit≤ tt) terminal_line in
+    subst (BeginWith (Terminal (codes "vt220") ∷ Pair name (c ∷ cs) (Pair name response [])))
+    (sym (append_assoc (codes "term vt220\n") (pair_bytes name (c ∷ cs)) (pair_bytes name response)))
+    (first.line, subst (BeginWith (Pair name (c ∷ cs) (Pair name response []))) (sym first.behind_is) pair)
 
-    same_too : (end : ℕ) → Some (length (codes "resp " ++ response)) ≡ Some end
-        → length (codes "resp " ++ response) ≡ end
-    same_too end e = cc
+-- and so they may come before a login, where the setup allows two tries
+pub earlier_lines : (name mistyped : List ℕ) (tries : ℕ) → 1 ≤ tries → (mistyped ≢ [] → 2 ≤ tries)
+    → AreEarlier tries (earlier_of name mistyped)
+earlier_lines name [] tries some two = record { stays = refl; closed = refl; tried = some }
+earlier_lines name (c ∷ cs) tries some two = record { stays = refl; closed = refl; tried = two (λ e. cc) }
 
--- the lines as they are made, part by part
-pub made_lines : (name response : List ℕ) → is_name name ≡ true → is_typed_reply response ≡ true
-    → AreLoginLines ((((codes "user " ++ name) ++ codes "\nresp ") ++ response) ++ codes "\n") name response
-made_lines name response named typed = subst (λ lines. AreLoginLines lines name response) (sym shape) (both_lines name
-    response named typed) where
-      shape : (((codes "user " ++ name) ++ codes "\nresp ") ++ response) ++ codes "\n" ≡ (codes "user " ++ name) ++ 10 ∷
-          ((codes "resp " ++ response) ++ 10 ∷ [])
-      shape = simp append_assoc
+pub has_response : (name mistyped : List ℕ) → list_any is_response (earlier_of name mistyped) ≡ true → mistyped ≢ []
+has_response name [] h = absurd cc
+has_response name (c ∷ cs) h = λ e. cc

@@ -1,21 +1,27 @@
 -- A session whose run meets all that is decided comes to log in, and so is welcomed.
-use Rattle.std.proofs.Common.{◌≡◌, ℕ, ◌+◌, Bool, true, false, ◌||◌, cond, List, [], ◌∷◌, ◌++◌, length, map}
+use Rattle.std.proofs.Common.{◌≡◌, ℕ, ◌+◌, ◌<◌, Bool, true, false, ◌||◌, cond, List, [], ◌∷◌, ◌++◌, length, map, take, get_or}
 use Rattle.std.proofs.Common.{filter}
 use Rattle.std.proofs.Common.{Option, Some, None, refl, sym, ap, subst, ◌∙◌, arith, count_by}
 use Rattle.std.specs.Prelude.{◌==◌, IfOk, IfSome, IsSome, Result, Ok, Err, slice_get}
 use Rattle.std.specs.List.{AllByRecursion, flat_map, list_any}
 use Rattle.std.proofs.lemmas.Bool.{or_parts}
-use Rattle.std.proofs.lemmas.List.{append-nil}
+use Rattle.std.proofs.Math.ListN.{get_or-append}
+use Rattle.std.proofs.Math.Seq.{get_or-append_seam}
+use Rattle.std.proofs.lemmas.List.{append-nil, length-append, take-append-le, take_at}
 use Rattle.request_catalogue.specs.declared.texts.Name.{Name}
+use Rattle.request_catalogue.specs.TextBytes.{name_bytes}
 use Rattle.outside.specs.declared.act.Act.{Act}
 use Rattle.outside.specs.declared.act.Talk.{Talk}
 use Rattle.outside.specs.declared.memory.post.MemPost.{MemPost}
 use Rattle.outside.specs.MemPost.{scene_of}
 use Rattle.outside.specs.Scene.{Scene, bytes_at, came_count, is_coming}
 use Rattle.policy_model.specs.declared.event.Event.{Event}
-use Rattle.policy_model.specs.Asks.{moment_of}
+use Rattle.policy_model.specs.Asks.{accepts, moment_of}
 use Rattle.policy_model.specs.Journal.{Place, places_after}
-use Rattle.policy_model.specs.Settings.{IsInRange}
+use Rattle.policy_model.specs.Legal.{IsLegal, IsNext}
+use Rattle.policy_model.specs.Logins.{challenged_user}
+use Rattle.policy_model.specs.Settings.{IsInRange, Settings}
+use Rattle.session_laws.proofs.Settling.{accepts_next}
 use Rattle.service_model.specs.Ends.{is_fault_end, is_keeper_end, is_link_end, is_lost_end}
 use Rattle.service_model.specs.Parts.{Part}
 use Rattle.service_model.specs.Places.{step_acts}
@@ -29,12 +35,16 @@ use Rattle.service_model.proofs.Stories.{all_came}
 use Rattle.monitor_run.specs.Headline.{JournalIsLegal}
 use Rattle.welcome_laws.specs.Client.{ClientSays, is_receiving}
 use Rattle.welcome_laws.specs.Shipped.{IsSaidWhole, IsShipped, role_session, shipped_role}
-use Rattle.welcome_laws.specs.Welcome.{ComesToLogIn, sitting_session}
+use Rattle.welcome_laws.specs.Welcome.{AsksAfter, ComesToLogIn, sitting_session}
+use Rattle.login_laws.specs.Login.{ComesAfter}
 use Rattle.welcome_laws.proofs.Welcomed.{users_get_in}
 use Rattle.welcome_rows.specs.declared.serving.Visit.{Visit}
-use Rattle.welcome_rows.specs.Met.{IsMetInActs, IsMetInJournal, IsShippedTalk}
+use Rattle.welcome_rows.specs.Met.{IsMetInActs, IsMetInJournal, IsShippedTalk, asks_for_other, earlier_of, said_bytes}
+use Rattle.welcome_rows.specs.Met.{stands_in_way}
 use Rattle.welcome_rows.specs.Shown.{GetsIn, HasServed, planned}
 use Rattle.welcome_rows.proofs.Acts.{client_of_first, few_of_first}
+use Rattle.welcome_rows.proofs.Asked.{challenged_only, free_before, holder_own}
+use Rattle.welcome_rows.proofs.LoginLines.{earlier_lines, has_response, said_lines}
 use Rattle.welcome_rows.proofs.Readiness.{can_log_in, is_right}
 
 -- ---- one connection, one session
@@ -106,13 +116,39 @@ all_whole service journal worker sittings are sound =
     all_answered service sittings are.each
     (ap (count_by (λ p. is_link_end p.event.ask)) (sym are.places) ∙ none_failed worker [] journal sound)
 
+-- ---- who is accepted
+
+front_next : (setup : Settings) (journal before : List Event) (e : Event) → IsLegal setup journal
+    → ComesAfter journal before e → IsLegal setup before × IsNext setup before e
+front_next setup journal before e legal comes =
+    let rest = comes.rest in
+    let whole = subst (IsLegal setup) comes.parts legal in
+    let within : length before < length (before ++ e ∷ rest) = omega (arith, length-append before (e ∷ rest)) in (
+      λ k d lt. subst (λ (x : Event). IsNext setup (take k before) x) (get_or-append before (e ∷ rest) d k lt)
+          (subst (λ (l : List Event). IsNext setup l (get_or (before ++ e ∷ rest) k d))
+          (take-append-le k before (e ∷ rest) (omega (arith, lt))) (whole k d (omega (arith, lt, within)))),
+      subst (λ (x : Event). IsNext setup before x) (get_or-append_seam before e rest e)
+          (subst (λ (l : List Event). IsNext setup l (get_or (before ++ e ∷ rest) (length before) e))
+          (take_at before (e ∷ rest) (length before) refl) (whole (length before) e within)),
+    )
+
+accepted_only : (setup : Settings) (journal : List Event) → IsLegal setup journal → (user : Name) (session : ℕ)
+    (before : List Event) (e : Event) → ComesAfter journal before e → e.session ≡ session → accepts e ≡ true
+    → list_any (λ y. asks_for_other user y.ask) before ≡ false → challenged_user before session ≡ Some user
+accepted_only setup journal legal user session before e comes own accepted free =
+    let both = front_next setup journal before e legal comes in
+    let a = accepts_next setup before e both.0 both.1 accepted in
+    let is : challenged_user before session ≡ Some a.user = subst (λ (n : ℕ). challenged_user before n ≡ Some a.user) own
+    a.challenged in
+    is ∙ ap (λ (u : Name). Some u) (challenged_only user a.user session before free is)
+
 -- ---- all of it
 
-module _ (service : Service) (journal : List Event) (worker : ℕ) (user : Name) (response : List ℕ) (entry : List ℕ
+module _ (service : Service) (journal : List Event) (worker : ℕ) (user : Name) (mistyped response : List ℕ) (entry : List ℕ
     × List ℕ)
     (in_range : IsInRange service.setup) (legal : JournalIsLegal service.setup journal)
-    (journal_met : IsMetInJournal service.setup journal user response) where
-  meets : (scene : Scene) → IsMetInActs service.setup.requests user response entry scene.acts scene.talks
+    (journal_met : IsMetInJournal service.setup journal user mistyped response) where
+  meets : (scene : Scene) → IsMetInActs service.setup user mistyped response entry scene.acts scene.talks
       → scene.plan ≡ entry ∷ [] → (last : LastAccept) (sitting : Sitting)
       → AreSittingsOf service journal worker (sitting ∷ []) → IsStory (sitting ∷ []) last scene
       → GetsIn service journal worker user response
@@ -131,26 +167,48 @@ module _ (service : Service) (journal : List Event) (worker : ℕ) (user : Name)
     talks : scene.talks ≡ map talk_of sitting.parts
     talks = story.talks ∙ ap (map talk_of) (append-nil sitting.parts)
 
+    free_of : (before : List Event) (e : Event)
+        → AsksAfter journal (sitting_session sitting) user (1 + length (earlier_of (name_bytes user) mistyped)) before e
+        → list_any (stands_in_way user (sitting_session sitting)) before ≡ false
+    free_of before e asks =
+        subst (λ (n : ℕ). list_any (stands_in_way user n) before ≡ false) asks.own
+        (journal_met.alone before e asks.comes asks.asks)
+
+    only_user : (before : List Event) (e : Event) → ComesAfter journal before e → e.session ≡ sitting_session sitting
+        → accepts e ≡ true → list_any (λ y. asks_for_other user y.ask) journal ≡ false
+        → challenged_user before (sitting_session sitting) ≡ Some user
+    only_user before e comes own accepted none =
+        accepted_only service.setup journal legal.legal user (sitting_session sitting) before e comes own accepted
+        (free_before user journal before e none comes)
+
     comes : ComesToLogIn service journal user journal_met.ready.account response sitting
     comes = record {
-      lines = acts_met.lines;
-      are_lines = acts_met.are_lines;
+      earlier = earlier_of (name_bytes user) mistyped;
+      lines = said_bytes (name_bytes user) mistyped response;
+      are_earlier = earlier_lines (name_bytes user) mistyped service.setup.tries in_range.tries.0 acts_met.tries;
+      are_lines = said_lines (name_bytes user) mistyped response user.legal acts_met.typed acts_met.typed_too;
       children = all_shipped entry sitting.parts (subst (AllByRecursion (IsShippedTalk entry)) talks acts_met.shipped)
           (subst (λ (plan : List (List ℕ × List ℕ)). AllByRecursion (λ (part : Part). part.taken ++ part.unread ≡
           bytes_at part.role plan 1) sitting.parts)
           plan story.planned.0);
-      client = client_of_first service.setup acts_met.lines sitting last are.each.0.begins
-          (subst (ClientSays acts_met.lines []) story.acts acts_met.client);
+      client = client_of_first service.setup (said_bytes (name_bytes user) mistyped response) sitting last
+          are.each.0.begins (subst (ClientSays (said_bytes (name_bytes user) mistyped response) []) story.acts
+          acts_met.client);
       few = omega (arith, acts_met.few, few_of_first sitting last, ap (count_by is_receiving) story.acts);
-      ready = λ before e comes own asking. can_log_in service.setup user response before journal_met.ready
-          (journal_met.first before e comes asking) (sitting_session sitting) (moment_of e.ask);
-      right = λ before e comes own asking words hex spelled. is_right service.setup user response before
-          journal_met.ready
-          (journal_met.first before e comes asking) service.words words hex spelled;
-      within = journal_met.within (sitting_session sitting);
+      only = λ some. record {
+        found = journal_met.ready.found;
+        only = λ before e comes own accepted. only_user before e comes own accepted
+            (journal_met.only (has_response (name_bytes user) mistyped some));
+      };
+      ready = λ before e asks. can_log_in service.setup user response before journal_met.ready
+          (sitting_session sitting) (free_of before e asks) (moment_of e.ask);
+      right = λ before e asks words hex spelled. is_right service.setup user response before journal_met.ready
+          (sitting_session sitting) (free_of before e asks) service.words words hex spelled;
+      within = λ before e comes told held away asking. absurd (away (sym (holder_own user e.session before
+          (journal_met.alone before e comes asking) (sitting_session sitting) held)));
     }
 
-  gets_in_by : (scene : Scene) → IsMetInActs service.setup.requests user response entry scene.acts scene.talks
+  gets_in_by : (scene : Scene) → IsMetInActs service.setup user mistyped response entry scene.acts scene.talks
       → scene.plan ≡ entry ∷ [] → (sittings : List Sitting) (last : LastAccept)
       → AreSittingsOf service journal worker sittings → IsStory sittings last scene
       → GetsIn service journal worker user response
@@ -163,8 +221,8 @@ module _ (service : Service) (journal : List Event) (worker : ℕ) (user : Name)
 pub shown : (service : Service) (visits : List Visit) (journal : List Event) (posts : List MemPost)
     → HasServed service visits journal posts → (worker : ℕ) (visit : Visit) (post : MemPost)
     → slice_get visits worker ≡ Some visit → slice_get posts worker ≡ Some post
-    → IsMetInJournal service.setup journal visit.user visit.response → (acts : List Act) (talks : List Talk)
-    → IsMetInActs service.setup.requests visit.user visit.response (planned visit.script) acts talks
+    → IsMetInJournal service.setup journal visit.user visit.mistyped visit.response → (acts : List Act) (talks : List Talk)
+    → IsMetInActs service.setup visit.user visit.mistyped visit.response (planned visit.script) acts talks
     → IsSome (scene_of post) → IfSome (scene_of post) (λ s. acts ≡ s.acts)
     → IfSome (scene_of post) (λ s. talks ≡ s.talks)
     → GetsIn service journal worker visit.user visit.response
@@ -180,11 +238,11 @@ shown service visits journal posts served worker visit post visits_at posts_at j
           visit.response
       by_scene None some told spoke held plan = absurd cc
       by_scene (Some scene) some told spoke held plan =
-          gets_in_by service journal worker visit.user visit.response (planned visit.script) served.in_range
+          gets_in_by service journal worker visit.user visit.mistyped visit.response (planned visit.script) served.in_range
           served.legal journal_met scene
-          (subst (λ (ts : List Talk). IsMetInActs service.setup.requests visit.user visit.response (planned
+          (subst (λ (ts : List Talk). IsMetInActs service.setup visit.user visit.mistyped visit.response (planned
           visit.script) scene.acts ts) spoke
-          (subst (λ (done : List Act). IsMetInActs service.setup.requests visit.user visit.response (planned
+          (subst (λ (done : List Act). IsMetInActs service.setup visit.user visit.mistyped visit.response (planned
           visit.script) done talks) told acts_met))
           plan held.0 held.1 held.2 held.3
 

@@ -1,22 +1,22 @@
--- A user whose account is ready, before anybody asks for the user.
+-- A user whose account is ready, before the session that asks for the user alone.
 use Rattle.std.proofs.Common.{◌≡◌, ℕ, ◌-◌, Bool, true, false, not, ◌||◌, cond, eqb, List, [], ◌∷◌, length}
-use Rattle.std.proofs.Common.{Option, Some, arith, drop, get_or, refl, sym, ap, subst, ◌∙◌, ◌+◌, ◌<◌}
+use Rattle.std.proofs.Common.{Option, None, Some, arith, drop, get_or, refl, sym, ap, subst, ◌∙◌, ◌+◌, ◌<◌}
 use Rattle.std.specs.List.{find, list_any}
-use Rattle.std.specs.Option.{option_to_list}
-use Rattle.std.proofs.lemmas.Bool.{and_from}
+use Rattle.std.specs.Option.{option_map_or, option_to_list}
+use Rattle.std.proofs.lemmas.Bool.{and_from, eq-eqb}
 use Rattle.std.proofs.lemmas.List.{drop_more}
 use Rattle.std.proofs.lemmas.List.Folds.{list_any-append}
 use Rattle.request_catalogue.specs.declared.texts.Name.{Name}
 use Rattle.otp_words.specs.Candidates.{AreCandidatesOf}
 use Rattle.policy_model.specs.declared.account.Account.{Account}
 use Rattle.policy_model.specs.declared.event.Event.{Event}
-use Rattle.policy_model.specs.Logins.{current_sequence, is_live, replies_of}
+use Rattle.policy_model.specs.Logins.{current_sequence, holder_of, is_live, replies_of}
 use Rattle.policy_model.specs.Settings.{Settings}
 use Rattle.policy_model.specs.Verdict.{is_next_password}
 use Rattle.session_laws.proofs.Permits.{found_name}
-use Rattle.login_laws.specs.Login.{CanLogIn, IsRight, asks_for}
-use Rattle.welcome_rows.specs.Met.{CanBeReady}
-use Rattle.welcome_rows.proofs.Asked.{unheld, unreplied_for}
+use Rattle.login_laws.specs.Login.{CanLogIn, IsRight}
+use Rattle.welcome_rows.specs.Met.{CanBeReady, stands_in_way}
+use Rattle.welcome_rows.proofs.Asked.{holder_own, unreplied_for}
 
 -- the account at which a search through a list stops
 pub found_in : (test : Account → Bool) (xs ys : List Account) (i : ℕ) (x : Account) → ys ≡ xs
@@ -28,13 +28,14 @@ found_in test xs ys i x same so_far within is passes =
     ∙ ap (λ b. cond b (Some x) (find test (drop (i + 1) xs))) passes
 
 module _ (setup : Settings) (user : Name) (response : List ℕ) (before : List Event)
-    (ready : CanBeReady setup user response) (none : list_any (λ e. asks_for user e.ask) before ≡ false) where
+    (ready : CanBeReady setup user response) (session : ℕ)
+    (alone : list_any (stands_in_way user session) before ≡ false) where
   account : Account
   account = ready.account
 
   unreplied : replies_of before ready.account.name ≡ []
   unreplied = subst (λ (name : Name). replies_of before name ≡ []) (sym (found_name setup user ready.account
-      ready.found)) (unreplied_for user before none)
+      ready.found)) (unreplied_for user session before alone)
 
   none_gone : ready.account.sequence - 0 ≡ ready.account.sequence
   none_gone = omega arith
@@ -45,8 +46,15 @@ module _ (setup : Settings) (user : Name) (response : List ℕ) (before : List E
       (ap (λ (replies : List ℕ). not (eqb (ready.account.sequence - length replies) 0)) unreplied
       ∙ ap (λ n. not (eqb n 0)) none_gone ∙ ap not ready.ready.left)
 
-  pub can_log_in : (session now : ℕ) → CanLogIn setup before session user now ready.account
-  can_log_in session now = record { found = ready.found; live = live; free = rw (unheld user before none) }
+  not_other : option_map_or (λ holder. not (eqb holder session)) (holder_of before user) false ≡ false
+  not_other = by (holder_of before user) (holder_own user session before alone) where
+    by : (o : Option ℕ) → ((holder : ℕ) → o ≡ Some holder → holder ≡ session)
+        → option_map_or (λ holder. not (eqb holder session)) o false ≡ false
+    by None own = refl
+    by (Some holder) own = ap not (eq-eqb holder session (own holder refl))
+
+  pub can_log_in : (now : ℕ) → CanLogIn setup before session user now ready.account
+  can_log_in now = record { found = ready.found; live = live; free = rw not_other refl }
 
   next : is_next_password before ready.account ready.ready.password ≡ true
   next = rw unreplied (and_from _ _ ready.ready.next (ap (λ b. not (b || false)) ready.ready.fresh))

@@ -1,15 +1,19 @@
 //! What the acts of a post show of the client.
 
-ghost use Rattle.std.specs.Prelude.{◌≡◌, ◌≤◌, ◌<◌, ◌+◌, ◌++◌, true, ℕ, List, [], ◌∷◌, IfOk, count_by, length};
+ghost use Rattle.std.specs.Prelude.{◌≡◌, ◌≤◌, ◌<◌, ◌+◌, ◌*◌, ◌++◌, true, ℕ, List, [], ◌∷◌, IfOk, count_by, length};
 ghost use Rattle.outside.specs.declared.act.Act.{Act};
 ghost use Rattle.outside.specs.Scene.{came_count, is_coming};
 ghost use Rattle.welcome_laws.specs.Client.{AgreesWith, ClientSays, is_receiving};
+ghost use Rattle.welcome_rows.specs.Met.{earlier_of};
 
 use outside::{Accepted, Act};
 use std::alloc::{AllocError, Global};
 
 /// How many requests a login makes besides those that wait for bytes of the client.
 const BESIDES: usize = 8;
+
+/// How many requests the lines before a login take, where a client says them.
+const EARLIER: usize = 6;
 
 /// How often bytes of the client were waited for.
 fn receivings(acts: &[Act]) -> usize
@@ -26,10 +30,16 @@ fn is_receiving(act: &Act) -> bool
 }
 
 /// Whether a session with so many requests may wait for the client's bytes as often as it did.
-pub fn are_few(requests: u32, acts: &[Act]) -> bool
-    ensures { result ≡ true → count_by is_receiving acts.now + 8 ≤ requests }
+pub fn are_few(requests: u32, mistyped: &[u8], acts: &[Act]) -> bool
+    ensures { result ≡ true → (name : List ℕ)
+        → count_by is_receiving acts.now + 2 * length (earlier_of name mistyped.now) + 8 ≤ requests }
 {
-    receivings(acts).saturating_add(BESIDES) <= requests as usize
+    let besides = if mistyped.is_empty() {
+        BESIDES
+    } else {
+        BESIDES + EARLIER
+    };
+    receivings(acts).saturating_add(besides) <= requests as usize
 }
 
 /// How many connections came.

@@ -15,8 +15,8 @@ mod user;
 
 pub use client::{are_few, client_says, comings};
 pub use house::House;
-pub use journal::{asks_once, is_whole};
-pub use lines::login_lines;
+pub use journal::{asks_alone, asks_only, is_whole};
+pub use lines::{are_typed, login_lines};
 pub use login::{log_in, visit_of};
 pub use serving::{Served, Visit, serve};
 pub use shipped::are_shipped;

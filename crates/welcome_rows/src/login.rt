@@ -17,7 +17,8 @@ use std::thread::Threads;
 /// The most requests and replies of a login.
 const TURNS: u32 = 500;
 
-/// The visit of a user of this number, whose children were sent nothing yet.
+/// The visit of a user of this number, whose children were sent nothing yet, and whose client says nothing
+/// before its login.
 ///
 /// # Errors
 ///
@@ -36,6 +37,7 @@ pub fn visit_of(
     };
     Ok(Visit {
         user,
+        mistyped: Bytes::of(alloc, b"")?,
         response: Bytes::of(alloc, response)?,
         script: Script {
             client: Bytes::of(alloc, client)?,

@@ -21,6 +21,8 @@ const ROOM: usize = 400;
 #[derive(Drop)]
 pub struct Visit {
     pub user: Name,
+    /// The response that the client says first, after a terminal, or nothing.
+    pub mistyped: Bytes,
     /// The next password, in 16 digits.
     pub response: Bytes,
     /// What the client and the children send.

@@ -6,22 +6,24 @@ ghost use Rattle.welcome_rows.specs.Shown.{GetsIn, HasServed, planned, service_b
 
 use crate::client::{are_few, client_says, comings};
 use crate::house::House;
-use crate::journal::{asks_once, is_whole};
-use crate::lines::login_lines;
+use crate::journal::{asks_alone, asks_only, is_whole};
+use crate::lines::{are_typed, login_lines};
 use crate::serving::{Served, Visit};
 use crate::shipped::are_shipped;
 use crate::user::can_log_in;
 use outside::{Act, Talk};
-use policy_model::Event;
-use request_catalogue::is_typed_reply;
+use policy_model::{Event, Setup};
 use std::alloc::{AllocError, Global};
 
 /// Whether a journal meets the premises of a visit's login.
 pub fn is_met_in_journal(house: &House, journal: &[Event], visit: &Visit) -> bool
     ensures { result ≡ true
-        → IsMetInJournal house.now.setup journal.now visit.now.user visit.now.response }
+        → IsMetInJournal house.now.setup journal.now visit.now.user visit.now.mistyped visit.now.response }
 {
-    if !is_whole(journal) || !asks_once(&visit.user, journal) {
+    if !is_whole(journal) || !asks_alone(&visit.user, journal) {
+        return false;
+    }
+    if !asks_only(&visit.user, visit.mistyped.as_slice(), journal) {
         return false;
     }
     can_log_in(
@@ -32,25 +34,28 @@ pub fn is_met_in_journal(house: &House, journal: &[Event], visit: &Visit) -> boo
     )
 }
 
-/// Whether the acts and the talks of a post meet the premises of a visit's login, by a setup with so many
-/// requests.
+/// Whether the acts and the talks of a post meet the premises of a visit's login.
 ///
 /// # Errors
 ///
 /// There isn't the memory.
 pub fn is_met_in_acts(
     alloc: Global,
-    requests: u32,
+    setup: &Setup,
     visit: &Visit,
     acts: &[Act],
     talks: &[Talk],
 ) -> Result<bool, AllocError>
-    ensures { IfOk result (λ yes. yes ≡ true → IsMetInActs requests visit.now.user visit.now.response
-        (planned visit.now.script) acts.now talks.now) }
+    ensures { IfOk result (λ yes. yes ≡ true → IsMetInActs setup.now visit.now.user visit.now.mistyped
+        visit.now.response (planned visit.now.script) acts.now talks.now) }
 {
+    let mistyped = visit.mistyped.as_slice();
     let response = visit.response.as_slice();
-    let lines = login_lines(alloc, &visit.user, response)?;
-    if !is_typed_reply(response) || comings(acts) != 1 || !are_few(requests, acts) {
+    let lines = login_lines(alloc, &visit.user, mistyped, response)?;
+    if !are_typed(setup.parts().tries, mistyped, response) || comings(acts) != 1 {
+        return Ok(false);
+    }
+    if !are_few(setup.requests(), mistyped, acts) {
         return Ok(false);
     }
     Ok(client_says(alloc, &lines, acts)? && are_shipped(alloc, &visit.script, talks)?)
@@ -80,11 +85,5 @@ pub fn gets_in(
     if !post.tells() || !is_met_in_journal(house, &served.journal, visit) {
         return Ok(false);
     }
-    is_met_in_acts(
-        alloc,
-        house.setup.requests(),
-        visit,
-        post.acts(),
-        post.talks(),
-    )
+    is_met_in_acts(alloc, &house.setup, visit, post.acts(), post.talks())
 }

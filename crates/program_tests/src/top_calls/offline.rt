@@ -112,8 +112,25 @@ const LEGAL: Told = Told {
     sent: "yes 7\n",
 };
 
-const STEPS: [Told; 4] = [
+/// The words that enrol carol, whose password at 99 is that of RFC 2289, appendix C.
+const ENROLLED: Told = Told {
+    line: "enrol carol 1002 sha1 99 TeSt",
+    input: "This is a test.\n",
+    status: 0,
+    detail: Detail::Nothing,
+    sent: "\n[[account]]\nalgorithm = \"sha1\"\nenabled = true\ngrants = []\nname = \"carol\"\n\
+        password = \"87fec7768b73ccf9\"\nseed = \"test\"\nsequence = 99\nuid = 1002\n",
+};
+
+const STEPS: [Told; 7] = [
     LEGAL,
+    Told {
+        line: "renew setup alice log",
+        status: 13,
+        detail: Detail::LogNotFresh,
+        sent: "",
+        ..RENEWED
+    },
     RENEWED,
     Told {
         status: 15,
@@ -130,10 +147,18 @@ const STEPS: [Told; 4] = [
         sent: "no 3 event\n",
         ..LEGAL
     },
+    ENROLLED,
+    Told {
+        input: "short\n",
+        status: 12,
+        sent: "",
+        ..ENROLLED
+    },
 ];
 
-/// The log is legal for the setup with which it began. Alice is renewed by the same password, and the
-/// response is spent. By the new setup the log ends at her first challenge, of another number.
+/// The log is legal for the setup with which it began. It is no fresh one, so nothing is renewed beside
+/// it. Without it alice is renewed by the same password, and the response is spent. By the new setup the
+/// log ends at her first challenge, of another number. Carol is enrolled by a phrase, and by no other line.
 #[test]
 fn a_log_is_audited_and_an_account_renewed(rt: HostRuntime) -> Result<(), Fault> {
     let hooks = no_hooks(rt.alloc())?;

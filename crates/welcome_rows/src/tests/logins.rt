@@ -8,6 +8,7 @@ use crate::serving::Visit;
 use crate::showing::gets_in;
 use account_file::read_setup;
 use otp_words::Dictionary;
+use outside::Bytes;
 use request_catalogue::Name;
 use service_play::{ONE, setup_with};
 use std::alloc::Global;
@@ -47,6 +48,22 @@ const BOB: &[u8] = b"user bob
 resp bb9e 6ae1 979d 8ff4
 quit
 ";
+
+/// What bob's client says that names a terminal and mistypes the response first.
+const BOB_AGAIN: &[u8] = b"term vt220
+user bob
+resp bb9e 6ae1 979d 8ff5
+user bob
+resp bb9e 6ae1 979d 8ff4
+quit
+";
+
+/// Bob, whose client says so.
+fn bob_again(alloc: Global) -> Result<Visit, Fault> {
+    let mut visit = bob(alloc, BOB_AGAIN)?;
+    visit.mistyped = Bytes::of(alloc, b"bb9e 6ae1 979d 8ff5")?;
+    Ok(visit)
+}
 
 /// Alice, who logs in.
 fn alice(alloc: Global) -> Result<Visit, Fault> {
@@ -91,6 +108,20 @@ pub(super) fn bob_gets_in<R: Threads + Wait + Sync>(
     all_get_in(rt, alloc, &house, &mut visits, piece)
 }
 
+/// Whether bob gets in after a mistyped response, by a setup that begins with these lines.
+fn bob_gets_in_again<R: Threads + Wait + Sync>(
+    rt: &R,
+    alloc: Global,
+    lines: &str,
+    piece: usize,
+) -> Result<bool, Fault>
+    requires { 1 ≤ piece }
+{
+    let house = house_of(alloc, lines)?;
+    let mut visits = vec![in alloc; bob_again(alloc)?]?;
+    all_get_in(rt, alloc, &house, &mut visits, piece)
+}
+
 /// Whether bob and alice get in beside one another.
 fn both_get_in<R: Threads + Wait + Sync>(rt: &R, alloc: Global) -> Result<bool, Fault> {
     let house = house_of(alloc, "workers = 2\nrequests = 64")?;
@@ -123,6 +154,18 @@ fn bob_can_get_in_byte_by_byte(rt: HostRuntime) -> Result<(), Fault> {
 #[test]
 fn bob_can_get_in_byte_by_byte_by_wide_frames(rt: HostRuntime) -> Result<(), Fault> {
     assert!(&rt; bob_gets_in(&rt, rt.alloc(), WIDE, 1)?);
+    Ok(())
+}
+
+#[test]
+fn bob_can_get_in_after_a_mistyped_response(rt: HostRuntime) -> Result<(), Fault> {
+    assert!(&rt; bob_gets_in_again(&rt, rt.alloc(), ONE, 4_096)?);
+    Ok(())
+}
+
+#[test]
+fn bob_can_get_in_after_a_mistyped_response_in_pieces(rt: HostRuntime) -> Result<(), Fault> {
+    assert!(&rt; bob_gets_in_again(&rt, rt.alloc(), ONE, 7)?);
     Ok(())
 }
 

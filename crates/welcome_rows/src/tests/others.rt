@@ -25,8 +25,8 @@ fn a_client_who_says_another_response_misses_one(rt: HostRuntime) -> Result<(), 
 }
 
 #[test]
-fn a_client_who_asks_for_a_terminal_first_misses_one(rt: HostRuntime) -> Result<(), Fault> {
-    let client = b"term vt220\nuser bob\nresp bb9e 6ae1 979d 8ff4\nquit\n";
+fn a_client_who_leaves_a_challenge_open_misses_one(rt: HostRuntime) -> Result<(), Fault> {
+    let client = b"user alice\nuser bob\nresp bb9e 6ae1 979d 8ff4\nquit\n";
     assert!(&rt; !is_shown(&rt, rt.alloc(), client)?);
     Ok(())
 }

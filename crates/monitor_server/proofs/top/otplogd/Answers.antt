@@ -24,6 +24,9 @@ returns-clause-renew g c = c.run_command.ensures.whole.renew
 pub returns-clause-recover : goal.returns-clause-recover
 returns-clause-recover g c = c.run_command.ensures.whole.recover
 
+pub returns-clause-enrol : goal.returns-clause-enrol
+returns-clause-enrol g c = c.run_command.ensures.whole.enrol
+
 pub returns-clause-leaves : goal.returns-clause-leaves
 returns-clause-leaves g c = c.run_command.ensures.whole.leaves
 

@@ -1,12 +1,12 @@
-use Rattle.std.proofs.Common.{◌≡◌, List, ℕ, Option, Some, length, refl, sym, subst, true}
+use Rattle.std.proofs.Common.{◌≡◌, List, Option, Some, length, refl, sym, subst, true}
 use Rattle.std.specs.Prelude.{IfSome, slice_get}
 use Rattle.std.proofs.lemmas.Option.{slice_get_read}
 use Rattle.outside.specs.declared.memory.post.MemPost.{MemPost}
 use Rattle.policy_model.specs.declared.event.Event.{Event}
 use Rattle.service_model.specs.Service.{Service}
 use Rattle.welcome_rows.specs.declared.serving.Visit.{Visit}
-use Rattle.welcome_rows.specs.Met.{IsMetInActs, IsMetInJournal}
-use Rattle.welcome_rows.specs.Shown.{GetsIn, planned, service_by}
+use Rattle.welcome_rows.specs.Met.{IsMetInJournal}
+use Rattle.welcome_rows.specs.Shown.{GetsIn, service_by}
 use Rattle.welcome_rows.proofs.Meets.{carried, shown}
 use Rattle.welcome_rows.proofs.showing.gets_in.Goals as goal
 
@@ -29,15 +29,12 @@ returns c =
     (length c.deref.result.now) worker post refl p.3.0 p.1 in
     let post_at : slice_get posts worker ≡ Some post = subst (λ (ps : List MemPost). slice_get ps worker ≡ Some post)
     c.deref.ensures.value found in
-    let journal_met : IsMetInJournal service.setup journal visit.user visit.response = subst
-    (λ (events : List Event). IsMetInJournal c.args.house.now.setup events visit.user visit.response)
+    let journal_met : IsMetInJournal service.setup journal visit.user visit.mistyped visit.response = subst
+    (λ (events : List Event). IsMetInJournal c.args.house.now.setup events visit.user visit.mistyped visit.response)
     c.deref-else-not-tells.ensures.value (c.is_met_in_journal.ensures met) in
     carried c.is_met_in_acts.result
     (λ acts_met. subst (λ (o : Option Visit). IfSome o (λ visit. GetsIn service journal worker visit.user
     visit.response))
     (sym visit_at) (shown service visits journal posts c.requires worker visit post visit_at post_at journal_met
-    c.acts.result.now c.talks.result.now
-    (subst (λ (n : ℕ). IsMetInActs n visit.user visit.response (planned visit.script) c.acts.result.now
-    c.talks.result.now)
-    c.requests.ensures.value acts_met) (c.tells.ensures.0 some) c.acts.ensures.acts c.talks.ensures))
+    c.acts.result.now c.talks.result.now acts_met (c.tells.ensures.0 some) c.acts.ensures.acts c.talks.ensures))
     c.is_met_in_acts.ensures

@@ -1,0 +1,86 @@
+-- A phrase was received, and then something of its account's text sent.
+use Rattle.std.proofs.Common.{◌≡◌, ℕ, List, [], Option, Some, None, Err, take, append-nil, inl, inr, subst, sym, ◌≤◌, arith}
+use Rattle.outside.specs.Link.{Exchanged, Link, SendsPart}
+use Rattle.outside.specs.Told.{Goes, Rose, next_count}
+use Rattle.outside.proofs.Exchanges.{Exchanged-then}
+use Rattle.outside.proofs.Told.{Goes-then}
+use Rattle.otp_mode.specs.declared.fault.PhraseFault.{PhraseFault}
+use Rattle.otp_mode.specs.declared.fault.PhraseFault.TheVariants as phrase_faults
+use Rattle.otp_mode.specs.Inner.{Accepted, IsPhraseFault}
+use Rattle.enrol_mode.specs.declared.fault.EnrolFault.TheVariants as faults
+use Rattle.enrol_mode.specs.Accounts.{IsEnrolText}
+use Rattle.enrol_mode.specs.Faults.{fault_of_phrase}
+use Rattle.enrol_mode.specs.Outcome.{IsOutcome, OnlyTook, Printed, PrintedPart, TookPhrase}
+use Rattle.enrol_mode.specs.Words.{EnrolParts}
+
+took : (phrase sent : List ℕ) (a b c : Link) → Accepted phrase a b → Exchanged [] sent b c → TookPhrase phrase sent a c
+took phrase sent a b c got passed = record {
+  accepted = got.accepted;
+  received = got.received;
+  few = got.few;
+  passed = subst (λ (r : List ℕ). Exchanged r sent a c) (append-nil got.received)
+      (Exchanged-then got.received [] [] sent a b c got.passed passed);
+}
+
+-- the text of a phrase, under other names
+pub spelled : (parts : EnrolParts) (phrase phrase' text text' : List ℕ) → phrase ≡ phrase' → text' ≡ text
+    → IsEnrolText parts phrase text → IsEnrolText parts phrase' text'
+spelled parts phrase phrase' text text' same same_text spells =
+    subst (λ (p : List ℕ). IsEnrolText parts p text') same (subst (IsEnrolText parts phrase) (sym same_text) spells)
+
+-- a count that rose behind others
+pub rose_after : (a b c : ℕ) → a ≤ b → c ≡ next_count b → Rose a c
+rose_after a b c low is = record { rose = omega (arith, low, is) }
+
+-- the whole text
+pub outcome-printed : (parts : EnrolParts) (phrase text : List ℕ) (before between after : Option Link)
+    → IsEnrolText parts phrase text → Goes (Accepted phrase) before between → Goes (Exchanged [] text) between after
+    → Goes (Printed parts) before after
+outcome-printed parts phrase text before between after spells =
+    Goes-then (Accepted phrase) (Exchanged [] text) (Printed parts)
+    (λ a b c got passed. record {
+      phrase = phrase;
+      text = text;
+      spells = spells;
+      took = took phrase text a b c got
+          passed;
+    }) before between after
+
+-- a part of it
+pub outcome-part : (parts : EnrolParts) (phrase text : List ℕ) (before between after : Option Link)
+    → IsEnrolText parts phrase text → Goes (Accepted phrase) before between → SendsPart text between after
+    → Goes (PrintedPart parts) before after
+outcome-part parts phrase text before between after spells got sent =
+    Goes-then (Accepted phrase) (Exchanged [] (take sent.0 text)) (PrintedPart parts)
+    (λ a b c got passed. record {
+      phrase = phrase;
+      text = text;
+      spells = spells;
+      count = sent.0;
+      took = took phrase
+          (take sent.0 text) a b c got passed;
+    }) before between after got sent.1
+
+-- nothing
+pub outcome-took : (phrase : List ℕ) (before after : Option Link) → Goes (Accepted phrase) before after
+    → Goes OnlyTook before after
+outcome-took phrase before None got = tt
+outcome-took phrase None (Some after) got = got
+outcome-took phrase (Some before) (Some after) got =
+    record {
+      phrase = phrase;
+      took = record {
+        accepted = got.accepted;
+        received = got.received;
+        few = got.few;
+        passed =
+            got.passed;
+      };
+    }
+
+-- no phrase
+pub outcome-phrase : (parts : EnrolParts) (before after : Option Link) (EndsFailed : Type 0) (fault : PhraseFault)
+    → IsPhraseFault before after EndsFailed fault
+    → IsOutcome parts before after EndsFailed (Err (fault_of_phrase fault))
+outcome-phrase parts before after EndsFailed phrase_faults.EndsFailed h = (h.0, inl h.1)
+outcome-phrase parts before after EndsFailed phrase_faults.Refused h = h

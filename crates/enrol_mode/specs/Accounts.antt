@@ -1,0 +1,26 @@
+-- Believed: the account of a new user, and what is printed of it.
+use Rattle.std.specs.Prelude.{◌≡◌, ℕ, true, List, []}
+use Rattle.otp_hash.specs.Hashing.{chain_of}
+use Rattle.policy_model.specs.declared.account.Account.{Account}
+use Rattle.account_file.specs.Entries.{AccountEntry, account_entry}
+use Rattle.account_writer.specs.Written.{IsTextOf}
+use Rattle.enrol_mode.specs.Words.{EnrolParts}
+
+-- what a setup's file says of the account that the parts ask for, of this phrase
+abbrev pub new_entry : EnrolParts → List ℕ → AccountEntry
+new_entry parts phrase = record {
+  name = parts.name;
+  uid = parts.uid;
+  algo = parts.algo;
+  seed = parts.seed;
+  sequence = parts.number;
+  password = chain_of parts.algo parts.seed phrase parts.number;
+  enabled = true;
+  grants = [];
+}
+
+-- this text spells that account alone, and with it a setup behind whose file it stands
+pub record IsEnrolText (parts : EnrolParts) (phrase text : List ℕ) : Type 0 where
+  pub account : Account
+  pub entry : account_entry account ≡ new_entry parts phrase
+  pub spells : IsTextOf account text
