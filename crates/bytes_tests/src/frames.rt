@@ -66,7 +66,7 @@ fn right_lengths(rt: HostRuntime) -> Result<(), Fail> {
     ] {
         let mut reader = reader_of(rt.alloc(), width)?;
         reader.feed(&header([0x10, 0, 0, 0]));
-        assert!(rt; matches!(reader.next(), Next::Frame(frame) if frame.body.is_empty()));
+        assert!(rt; matches!(reader.next(), Next::Frame(frame) if frame.len == 16));
         assert!(rt; matches!(reader.next(), Next::NotYet));
 
         reader.feed(&header(bytes));
@@ -76,8 +76,8 @@ fn right_lengths(rt: HostRuntime) -> Result<(), Fail> {
         }
         assert!(rt; reader.room() == 0);
         assert!(rt; reader.feed(&[5]) == 0);
-        let len = width.body_max();
-        assert!(rt; matches!(reader.next(), Next::Frame(frame) if frame.body.len() == len));
+        let len = width.frame_max() as u32;
+        assert!(rt; matches!(reader.next(), Next::Frame(frame) if frame.len == len));
         assert!(rt; reader.held() == 0);
     }
     Ok(())
@@ -130,15 +130,19 @@ fn room_comes_with_each_frame(rt: HostRuntime) -> Result<(), Fail> {
     for width in WIDTHS {
         let mut reader = Reader::new(rt.alloc(), width, 40)?;
         let finish = &STREAM[30..];
+        assert!(rt; reader.ring().capacity() == 40);
         assert!(rt; reader.feed(finish) + reader.feed(finish) == 32);
-        assert!(rt; matches!(reader.next(), Next::Frame(frame) if frame.header.kind == 13));
+        assert!(rt; matches!(reader.next(), Next::Frame(header) if header.kind == 13));
         assert!(rt; reader.held() == 16);
+        assert!(rt; reader.ring().len() == 32);
         let note = [
             12, 0, 0, 0, 24, 0, 0, 0, 0, 0, 0, 0, 0, 0, 0, 0, 1, 2, 3, 4, 5, 6, 7, 8,
         ];
         assert!(rt; reader.feed(&note) == 24);
-        assert!(rt; matches!(reader.next(), Next::Frame(frame) if frame.header.kind == 13));
-        assert!(rt; matches!(reader.next(), Next::Frame(frame) if frame.body == &note[16..]));
+        assert!(rt; reader.ring().len() == 40);
+        assert!(rt; matches!(reader.next(), Next::Frame(header) if header.kind == 13));
+        assert!(rt; matches!(reader.next(), Next::Frame(header) if header.kind == 12));
+        assert!(rt; &*reader.contiguous() == note.as_slice());
         assert!(rt; reader.feed(&[0; 50]) == 40);
     }
     Ok(())

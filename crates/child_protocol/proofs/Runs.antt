@@ -1,11 +1,11 @@
 -- The run of a child over its link.
 use Rattle.std.proofs.Common.{◌≡◌, inl, inr, ℕ, suc, ◌+◌, ◌≤◌, List, [], ◌∷◌, ◌++◌, length, take, drop, append_assoc, append-nil, length-append, refl, sym, ap, subst, ◌∙◌, arith, Option, Some, None, Ok, Err}
 use Rattle.std.proofs.Math.Seq.{take-append_seam}
-use Rattle.imsg_frame.specs.Message.{Message, IsMessage, message_of, spelling_of}
+use Rattle.imsg_frame.specs.Message.{Message, IsMessage, spelling_of}
 use Rattle.imsg_frame.specs.Cut.{IsPartialFront, IsBadFront}
 use Rattle.imsg_frame.specs.Held.{Held}
-use Rattle.imsg_frame.specs.Answer.{AfterNext, IsAnswer, IsFrameOf}
-use Rattle.imsg_frame.specs.declared.frame.Frame.{Frame}
+use Rattle.imsg_frame.specs.Answer.{AfterNext, HasLenOf, IsAnswer, IsFrameOf, given_as, rested}
+use Rattle.imsg_frame.specs.declared.header.Header.{Header}
 use Rattle.imsg_frame.specs.declared.reader.Next.{Next}
 use Rattle.imsg_frame.specs.declared.reader.Next.TheVariants as next
 use Rattle.outside.specs.Link.{Exchanged, Link, SendsPart}
@@ -26,27 +26,28 @@ use Rattle.child_protocol.specs.declared.run.ChildEnd.TheVariants as ends
 use Rattle.child_protocol.proofs.Replies.{exchanges_of-push}
 
 -- what stands in front of a reader
-pub front_right : (width : Width) (max : ℕ) (bytes : List ℕ) (answer : Next) (frame : Frame) → answer ≡ next.Frame frame → width ≡ frame_width → max ≡ 16384 → IsAnswer width max bytes answer → IsMessage frame_width 16384 (message_of frame)
-front_right width max bytes answer frame is narrow limit tells =
-    let given : IsFrameOf (message_of frame) answer = subst (IsFrameOf (message_of frame)) (sym is) refl in
-    subst (λ w. IsMessage w 16384 (message_of frame)) narrow (subst (λ m. IsMessage width m (message_of frame)) limit ((tells.frame (message_of frame)).0 given).right)
+pub front_right : (width : Width) (max : ℕ) (bytes given : List ℕ) (answer : Next) (header : Header) → answer ≡ next.Frame header → width ≡ frame_width → max ≡ 16384 → IsAnswer width max bytes given answer → IsMessage frame_width 16384 (given_as header given)
+front_right width max bytes given answer header is narrow limit tells =
+    let message = given_as header given in
+    let in_front : IsFrameOf message given answer = subst (IsFrameOf message given) (sym is) refl in
+    subst (λ w. IsMessage w 16384 message) narrow (subst (λ m. IsMessage width m message) limit ((tells.frame message).0 in_front).right)
 
-pub front_taken : (old new : Held) (answer : Next) (frame : Frame) → answer ≡ next.Frame frame → old.width ≡ frame_width → AfterNext old answer new → old.bytes ≡ spelling_of frame_width (message_of frame) ++ new.bytes
-front_taken old new answer frame is narrow after =
-    let taken : AfterNext old (next.Frame frame) new = subst (λ a. AfterNext old a new) is after in
-    subst (λ w. old.bytes ≡ spelling_of w (message_of frame) ++ new.bytes) narrow taken.bytes
+pub front_taken : (old new : Held) (answer : Next) (header : Header) → answer ≡ next.Frame header → old.width ≡ frame_width → AfterNext old answer new → old.bytes ≡ spelling_of frame_width (given_as header new.given) ++ new.bytes
+front_taken old new answer header is narrow after =
+    let taken : AfterNext old (next.Frame header) new = subst (λ a. AfterNext old a new) is after in
+    subst (λ w. old.bytes ≡ spelling_of w (given_as header new.given) ++ new.bytes) narrow taken.bytes
 
-pub nothing_taken : (old new : Held) (answer : Next) → answer ≡ next.NotYet → AfterNext old answer new → new ≡ old
+pub frame_len : (answer : Next) (header : Header) (len : ℕ) → answer ≡ next.Frame header → HasLenOf answer len → (16 ≤ header.len) × (header.len ≡ len)
+frame_len answer header len is has = subst (λ a. HasLenOf a len) is has
+
+pub nothing_taken : (old new : Held) (answer : Next) → answer ≡ next.NotYet → AfterNext old answer new → new ≡ rested old
 nothing_taken old new answer is after = subst (λ a. AfterNext old a new) is after
 
-pub nothing_bad : (old new : Held) (answer : Next) (len : ℕ) → answer ≡ next.Bad len → AfterNext old answer new → new ≡ old
-nothing_bad old new answer len is after = subst (λ a. AfterNext old a new) is after
+pub bad_front : (width : Width) (max len : ℕ) (bytes given : List ℕ) (answer : Next) → answer ≡ next.Bad len → width ≡ frame_width → max ≡ 16384 → IsAnswer width max bytes given answer → IsBadFront frame_width 16384 bytes len
+bad_front width max len bytes given answer is narrow limit tells = subst (λ w. IsBadFront w 16384 bytes len) narrow (subst (λ m. IsBadFront width m bytes len) limit ((tells.bad len).0 is))
 
-pub bad_front : (width : Width) (max len : ℕ) (bytes : List ℕ) (answer : Next) → answer ≡ next.Bad len → width ≡ frame_width → max ≡ 16384 → IsAnswer width max bytes answer → IsBadFront frame_width 16384 bytes len
-bad_front width max len bytes answer is narrow limit tells = subst (λ w. IsBadFront w 16384 bytes len) narrow (subst (λ m. IsBadFront width m bytes len) limit ((tells.bad len).0 is))
-
-pub partial_front : (width : Width) (max : ℕ) (bytes : List ℕ) (answer : Next) → answer ≡ next.NotYet → width ≡ frame_width → max ≡ 16384 → IsAnswer width max bytes answer → IsPartialFront frame_width 16384 bytes
-partial_front width max bytes answer is narrow limit tells = subst (λ w. IsPartialFront w 16384 bytes) narrow (subst (λ m. IsPartialFront width m bytes) limit (tells.not_yet.0 is))
+pub partial_front : (width : Width) (max : ℕ) (bytes given : List ℕ) (answer : Next) → answer ≡ next.NotYet → width ≡ frame_width → max ≡ 16384 → IsAnswer width max bytes given answer → IsPartialFront frame_width 16384 bytes
+partial_front width max bytes given answer is narrow limit tells = subst (λ w. IsPartialFront w 16384 bytes) narrow (subst (λ m. IsPartialFront width m bytes) limit (tells.not_yet.0 is))
 
 -- a count that went up by one rose
 pub counted : (before after : ℕ) → after ≡ next_count before → Rose before after

@@ -11,7 +11,7 @@ ghost use Rattle.child_protocol.specs.Runs.{Brings, HasRun, Hears, Receives};
 
 use crate::child_core::ChildCore;
 use crate::turn::Turn;
-use imsg_frame::{Next, Reader};
+use imsg_frame::{Frame, Next, Reader};
 use outside::{Failed, Stream};
 
 /// How many bytes are received at a time.
@@ -88,7 +88,10 @@ fn hear<C: ChildCore, E: Stream>(
 {
     loop {
         match reader.next() {
-            Next::Frame(frame) => return Ok(core.take(&frame, out)),
+            Next::Frame(header) => {
+                let bytes: &[u8] = reader.contiguous();
+                return Ok(core.take(&Frame::in_front(header, bytes), out));
+            }
             Next::NotYet => {
                 if let Some(end) = receive(link, reader) {
                     return Err(end);

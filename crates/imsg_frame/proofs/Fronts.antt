@@ -3,21 +3,20 @@ use Rattle.std.proofs.Common.{◌≡◌, ℕ, ◌+◌, ◌<◌, ◌≤◌, ◌^�
 use Rattle.std.proofs.Common.{◌⊎◌}
 use Rattle.std.specs.List.{between}
 use Rattle.std.specs.Int.{w16, w32, from_le_bytes}
-use Rattle.std.proofs.lemmas.List.{length-append, append_cancel_left, drop-append-le, take-append-le, length-drop, take-append-drop}
+use Rattle.std.proofs.lemmas.List.{length-append, append_cancel_left, drop-append-le, take-append-le, length-drop, take-append-drop, take-take}
 use Rattle.std.proofs.lemmas.Bool.{cases_lt}
 use Rattle.std.proofs.lemmas.List.Edits.{length-between}
 use Rattle.request_catalogue.specs.declared.width.Width.{Width}
 use Rattle.request_catalogue.specs.declared.width.Width.TheVariants as widths
 use Rattle.request_catalogue.specs.Widths.{frame_max}
 use Rattle.imsg_frame.specs.declared.header.Header.{Header}
-use Rattle.imsg_frame.specs.declared.frame.Frame.{Frame}
 use Rattle.imsg_frame.specs.declared.reader.Next.{Next}
 use Rattle.imsg_frame.specs.declared.reader.Next.TheVariants as next
-use Rattle.imsg_frame.specs.Message.{Message, message_of, header_bytes, spelling_of, composed_of, FitsFields, IsMessage}
+use Rattle.imsg_frame.specs.Message.{Message, header_bytes, spelling_of, composed_of, FitsFields, IsMessage}
 use Rattle.imsg_frame.specs.Held.{Held}
 use Rattle.imsg_frame.specs.Fields.{length_field}
 use Rattle.imsg_frame.specs.Cut.{IsWholeFront, IsPartialFront, IsBadFront, IsShortFront}
-use Rattle.imsg_frame.specs.Answer.{IsFrameOf, IsAnswer, AfterNext, ReadsBack}
+use Rattle.imsg_frame.specs.Answer.{IsFrameOf, IsAnswer, AfterNext, ReadsBack, given_as}
 use Rattle.imsg_frame.proofs.Spelling.{length-spelling_of, length_field-header_bytes, length_field-spelling_of, one_message}
 use Rattle.imsg_frame.proofs.Arrays.{three_parts}
 
@@ -75,22 +74,22 @@ IsBadFront-append width max bytes more len b =
 
 -- ---- the answers
 
-pub answer_frame : (width : Width) (max : ℕ) (bytes : List ℕ) (f : Frame) → IsWholeFront width max bytes (message_of f) → IsAnswer width max bytes (next.Frame f)
-answer_frame width max bytes f w = record {
-  frame = λ m. (λ e. subst (λ (n : Message). IsWholeFront width max bytes n) e w, λ v. (one_message width max max (message_of f) m w.front.0 v.front.0 w.right v.right (sym w.front.1 ∙ v.front.1)).0);
-  not_yet = (λ e. absurd cc, λ p. absurd (whole_not_partial width max bytes (message_of f) w p));
-  bad = λ len. (λ e. absurd cc, λ b. absurd (whole_not_bad width max bytes (message_of f) len w b));
+pub answer_frame : (width : Width) (max : ℕ) (bytes given : List ℕ) (h : Header) → IsWholeFront width max bytes (given_as h given) → IsAnswer width max bytes given (next.Frame h)
+answer_frame width max bytes given h w = record {
+  frame = λ m. (λ e. subst (λ (n : Message). IsWholeFront width max bytes n) e w, λ v. (one_message width max max (given_as h given) m w.front.0 v.front.0 w.right v.right (sym w.front.1 ∙ v.front.1)).0);
+  not_yet = (λ e. absurd cc, λ p. absurd (whole_not_partial width max bytes (given_as h given) w p));
+  bad = λ len. (λ e. absurd cc, λ b. absurd (whole_not_bad width max bytes (given_as h given) len w b));
 }
 
-pub answer_not_yet : (width : Width) (max : ℕ) (bytes : List ℕ) → IsPartialFront width max bytes → IsAnswer width max bytes next.NotYet
-answer_not_yet width max bytes p = record {
+pub answer_not_yet : (width : Width) (max : ℕ) (bytes given : List ℕ) → IsPartialFront width max bytes → IsAnswer width max bytes given next.NotYet
+answer_not_yet width max bytes given p = record {
   frame = λ m. (λ e. absurd e, λ w. whole_not_partial width max bytes m w p);
   not_yet = (λ _. p, λ _. refl);
   bad = λ len. (λ e. absurd cc, λ b. absurd (partial_not_bad width max bytes len p b));
 }
 
-pub answer_bad : (width : Width) (max : ℕ) (bytes : List ℕ) (len : ℕ) → IsBadFront width max bytes len → IsAnswer width max bytes (next.Bad len)
-answer_bad width max bytes len b = record {
+pub answer_bad : (width : Width) (max : ℕ) (bytes given : List ℕ) (len : ℕ) → IsBadFront width max bytes len → IsAnswer width max bytes given (next.Bad len)
+answer_bad width max bytes given len b = record {
   frame = λ m. (λ e. absurd e, λ w. whole_not_bad width max bytes m len w b);
   not_yet = (λ e. absurd cc, λ p. absurd (partial_not_bad width max bytes len p b));
   bad = λ n. (λ e. let same : len ≡ n = cc in subst (λ (k : ℕ). IsBadFront width max bytes k) same b, λ other. ap next.Bad (sym b.field ∙ other.field));
@@ -103,22 +102,24 @@ pub FitsFields-composed : (width : Width) (kind peerid pid : ℕ) (body : List �
 FitsFields-composed widths.Narrow kind peerid pid body k e p within = record { kind = k; len = omega arith; flags = lit< tt; peerid = e; pid = p }
 FitsFields-composed widths.Wide kind peerid pid body k e p within = record { kind = k; len = omega arith; flags = lit< tt; peerid = e; pid = p }
 
-after_frame : (width : Width) (max : ℕ) (m : Message) (rest : List ℕ) (answer : Next) (after : Held) → IsFrameOf m answer → AfterNext (record { width = width; max = max; bytes = spelling_of width m ++ rest }) answer after → after ≡ record { width = width; max = max; bytes = rest }
-after_frame width max m rest (next.Frame f) after e a =
+after_frame : (width : Width) (max : ℕ) (m : Message) (rest before : List ℕ) (answer : Next) (after : Held) → IsFrameOf m after.given answer → AfterNext (record { width = width; max = max; given = before; bytes = spelling_of width m ++ rest }) answer after → after ≡ record { width = width; max = max; given = spelling_of width m; bytes = rest }
+after_frame width max m rest before (next.Frame h) after e a =
     let behind : spelling_of width m ++ rest ≡ spelling_of width m ++ after.bytes = subst (λ (n : Message). spelling_of width m ++ rest ≡ spelling_of width n ++ after.bytes) e a.bytes in
     let bytes : after.bytes ≡ rest = sym (append_cancel_left (spelling_of width m) rest after.bytes behind) in
-    let same_width = a.width in
-    let same_max = a.max in
-    rw (← same_width, ← same_max, ← bytes) refl
-after_frame width max m rest next.NotYet after e a = absurd e
-after_frame width max m rest (next.Bad len) after e a = absurd e
+    let given : after.given ≡ spelling_of width m = a.given ∙ ap (spelling_of width) e in
+    ap (λ (w : Width). record { width = w; max = after.max; given = after.given; bytes = after.bytes }) a.width
+    ∙ ap (λ (n : ℕ). record { width = width; max = n; given = after.given; bytes = after.bytes }) a.max
+    ∙ ap (λ (g : List ℕ). record { width = width; max = max; given = g; bytes = after.bytes }) given
+    ∙ ap (λ (b : List ℕ). record { width = width; max = max; given = spelling_of width m; bytes = b }) bytes
+after_frame width max m rest before next.NotYet after e a = absurd e
+after_frame width max m rest before (next.Bad len) after e a = absurd e
 
 pub reads_back : ReadsBack
-reads_back width max kind peerid pid body rest answer after fits_kind fits_peerid fits_pid within high is_answer goes =
+reads_back width max kind peerid pid body rest before answer after fits_kind fits_peerid fits_pid within high is_answer goes =
     let m : Message = composed_of kind peerid pid body in
     let right : IsMessage width max m = record { fields = FitsFields-composed width kind peerid pid body fits_kind fits_peerid fits_pid (omega arith); len = refl; within = within } in
-    let is_frame : IsFrameOf m answer = (is_answer.frame m).1 (record { right = right; front = (rest, refl) }) in
-    (is_frame, after_frame width max m rest answer after is_frame goes)
+    let is_frame : IsFrameOf m after.given answer = (is_answer.frame m).1 (record { right = right; front = (rest, refl) }) in
+    (is_frame, after_frame width max m rest before answer after is_frame goes)
 
 -- ---- what a header tells of the bytes that it was read from
 
@@ -149,6 +150,12 @@ Parts-from_header width max bytes h body rest e fits low high whole body_is rest
   right = record { fields = fits; len = omega (arith, ap length body_is, length-between bytes 16 h.len whole); within = high };
   is = three_parts 16 h.len bytes low ∙ rw (← e, ← body_is, ← rest_is) refl;
 }
+
+-- the front of a header's length is the spelling of the message that it has
+pub spelled : (width : Width) (bytes : List ℕ) (h : Header) → header_bytes width h ≡ take 16 bytes → 16 ≤ h.len → take h.len bytes ≡ spelling_of width (given_as h (take h.len bytes))
+unfolding spelling_of
+spelled width bytes h e low =
+    sym (take-append-drop 16 (take h.len bytes)) ∙ ap (λ (front : List ℕ). front ++ drop 16 (take h.len bytes)) (take-take 16 h.len bytes low ∙ sym e)
 
 -- a length that isn't right
 pub wrong_len : (len max : ℕ) → ((16 ≤ len) × (len ≤ max) → ⊥) → (len < 16) ⊎ (max < len)

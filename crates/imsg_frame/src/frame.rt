@@ -1,7 +1,8 @@
-ghost use Rattle.std.specs.Prelude.{◌≡◌, IfOk};
+ghost use Rattle.std.specs.Prelude.{◌≡◌, ◌≤◌, ◌++◌, ℕ, List, IfOk, length};
+ghost use Rattle.imsg_frame.specs.Answer.{given_as};
 ghost use Rattle.imsg_frame.specs.Message.{message_of, owned_message_of};
 
-use crate::header::Header;
+use crate::header::{HEADER_LEN, Header};
 use std::alloc::{AllocError, Global};
 
 /// A frame, whose body stays where the reader holds it.
@@ -18,6 +19,20 @@ pub struct OwnedFrame {
     pub header: Header,
     /// The bytes behind the header, `header.len` less 16 of them.
     pub body: Vec<u8>,
+}
+
+impl<'a> Frame<'a> {
+    /// The frame of this header, whose bytes, header and body, `bytes` begins with.
+    pub fn in_front(header: Header, bytes: &'a [u8]) -> Frame<'a>
+        requires low { 16 ≤ header.len }
+        requires within { header.len ≤ length bytes.now }
+        ensures { (frame rest : List ℕ) → bytes.now ≡ frame ++ rest → header.len ≡ length frame → message_of result ≡ given_as header frame }
+    {
+        Frame {
+            header,
+            body: &bytes[HEADER_LEN..header.len as usize],
+        }
+    }
 }
 
 impl Frame<'_> {

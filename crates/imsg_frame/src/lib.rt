@@ -12,7 +12,7 @@
 //! ```text
 //! loop {
 //!     match reader.next() {
-//!         Next::Frame(frame) => use(frame.header, frame.body),
+//!         Next::Frame(header) => use(Frame::in_front(header, reader.contiguous())),
 //!         Next::NotYet => receive at most reader.room() bytes, and reader.feed(them),
 //!         Next::Bad { len } => end: the stream can't be read any further,
 //!     }

@@ -1,13 +1,26 @@
 ghost use Rattle.std.specs.Prelude.{◌≡◌, ◌<◌, ◌≤◌, ◌++◌, ℕ, List, length, drop, OnOk, IfOk};
 ghost use Rattle.std.specs.List.{flat_map};
 
-use crate::frame::OwnedFrame;
+use crate::frame::{Frame, OwnedFrame};
+use crate::header::Header;
 use crate::reader::{Next, Reader};
 use std::alloc::{AllocError, Global};
 
 impl Reader {
-    ghost use Rattle.imsg_frame.specs.Message.{Message, messages_in};
+    ghost use Rattle.imsg_frame.specs.Answer.{given_as};
+    ghost use Rattle.imsg_frame.specs.Message.{Message, messages_in, owned_message_of};
     ghost use Rattle.imsg_frame.specs.Cut.{IsLongestCut, IsLastFront, IsPartialFront, IsStop, AddsCut};
+
+    // The frame given last, with a body of its own.
+    fn owned(&mut self, alloc: Global, header: Header) -> Result<OwnedFrame, AllocError>
+        requires low { 16 ≤ header.len }
+        requires len { header.len ≡ length self.old.given }
+        ensures owned { IfOk result (λ owned. owned_message_of owned ≡ given_as header self.old.given) }
+        ensures same { self.new ≡ self.old }
+    {
+        let bytes: &[u8] = self.contiguous();
+        Frame::in_front(header, bytes).to_owned(alloc)
+    }
 
     /// Takes each whole frame that is held, and adds it to `frames`.
     ///
@@ -29,8 +42,8 @@ impl Reader {
         ensures width { self.new.width ≡ self.old.width }
         ensures max { self.new.max ≡ self.old.max }
     {
-        while let Next::Frame(frame) = self.next() {
-            frames.push(frame.to_owned(alloc)?)?;
+        while let Next::Frame(header) = self.next() {
+            frames.push(self.owned(alloc, header)?)?;
         }
         Ok(())
     }

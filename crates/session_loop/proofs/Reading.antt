@@ -1,12 +1,12 @@
 -- What the reader's answers say of a session's bytes, and that each turn leaves less to do.
 use Rattle.std.proofs.Common.{◌≡◌, ℕ, ◌+◌, ◌<◌, ◌≤◌, List, ◌++◌, Option, refl, sym, ap, subst, ◌∙◌, arith}
-use Rattle.imsg_frame.specs.Answer.{AfterNext, IsAnswer, IsFrameOf}
+use Rattle.imsg_frame.specs.Answer.{AfterNext, HasLenOf, IsAnswer, IsFrameOf, given_as, rested}
 use Rattle.imsg_frame.specs.Cut.{IsBadFront, IsPartialFront}
-use Rattle.imsg_frame.specs.declared.frame.Frame.{Frame}
+use Rattle.imsg_frame.specs.declared.header.Header.{Header}
 use Rattle.imsg_frame.specs.declared.reader.Next.{Next}
 use Rattle.imsg_frame.specs.declared.reader.Next.TheVariants as next
 use Rattle.imsg_frame.specs.Held.{Held}
-use Rattle.imsg_frame.specs.Message.{IsMessage, message_of, spelling_of}
+use Rattle.imsg_frame.specs.Message.{IsMessage, spelling_of}
 use Rattle.outside.specs.Link.{Link}
 use Rattle.policy_model.specs.declared.event.Event.{Event}
 use Rattle.policy_model.specs.Journal.{ask_count}
@@ -23,32 +23,36 @@ use Rattle.session_turns.specs.Joins.{KeepsRights, Rights}
 use Rattle.session_loop.specs.Child.{Advances, EndsWithin, IsForSessions, IsStillReading, Receives, SpendsOn}
 
 -- the message of a frame that was given stood in front, and what follows it is held
-pub front_right : (width : Width) (reader : Held) (answer : Next) (frame : Frame) → answer ≡ next.Frame frame → IsForSessions width reader → IsAnswer reader.width reader.max reader.bytes answer → IsMessage width (frame_max width) (message_of frame)
-front_right width reader answer frame is frames tells =
-    let given : IsFrameOf (message_of frame) answer = subst (IsFrameOf (message_of frame)) (sym is) refl in
-    subst (λ x. IsMessage x (frame_max width) (message_of frame)) frames.right (subst (λ m. IsMessage reader.width m (message_of frame)) frames.max ((tells.frame (message_of frame)).0 given).right)
+pub front_right : (width : Width) (reader : Held) (given : List ℕ) (answer : Next) (header : Header) → answer ≡ next.Frame header → IsForSessions width reader → IsAnswer reader.width reader.max reader.bytes given answer → IsMessage width (frame_max width) (given_as header given)
+front_right width reader given answer header is frames tells =
+    let message = given_as header given in
+    let in_front : IsFrameOf message given answer = subst (IsFrameOf message given) (sym is) refl in
+    subst (λ x. IsMessage x (frame_max width) message) frames.right (subst (λ m. IsMessage reader.width m message) frames.max ((tells.frame message).0 in_front).right)
 
-pub front_taken : (width : Width) (old new : Held) (answer : Next) (frame : Frame) → answer ≡ next.Frame frame → IsForSessions width old → AfterNext old answer new → old.bytes ≡ spelling_of width (message_of frame) ++ new.bytes
-front_taken width old new answer frame is frames after =
-    let taken : AfterNext old (next.Frame frame) new = subst (λ a. AfterNext old a new) is after in
-    taken.bytes ∙ ap (λ x. spelling_of x (message_of frame) ++ new.bytes) frames.right
+pub front_taken : (width : Width) (old new : Held) (answer : Next) (header : Header) → answer ≡ next.Frame header → IsForSessions width old → AfterNext old answer new → old.bytes ≡ spelling_of width (given_as header new.given) ++ new.bytes
+front_taken width old new answer header is frames after =
+    let taken : AfterNext old (next.Frame header) new = subst (λ a. AfterNext old a new) is after in
+    taken.bytes ∙ ap (λ x. spelling_of x (given_as header new.given) ++ new.bytes) frames.right
+
+pub frame_len : (answer : Next) (header : Header) (len : ℕ) → answer ≡ next.Frame header → HasLenOf answer len → (16 ≤ header.len) × (header.len ≡ len)
+frame_len answer header len is has = subst (λ a. HasLenOf a len) is has
 
 -- the reader is still for sessions
 pub frames_kept : (width : Width) (old new : Held) (answer : Next) → AfterNext old answer new → IsForSessions width old → IsForSessions width new
-frames_kept width old new (next.Frame frame) after frames = record { right = after.width ∙ frames.right; max = after.max ∙ frames.max }
+frames_kept width old new (next.Frame header) after frames = record { right = after.width ∙ frames.right; max = after.max ∙ frames.max }
 frames_kept width old new next.NotYet after frames = record { right = ap (λ r. r.width) after ∙ frames.right; max = ap (λ r. r.max) after ∙ frames.max }
 frames_kept width old new (next.Bad len) after frames = record { right = ap (λ r. r.width) after ∙ frames.right; max = ap (λ r. r.max) after ∙ frames.max }
 
-pub nothing_taken : (old new : Held) (answer : Next) → answer ≡ next.NotYet → AfterNext old answer new → new ≡ old
+pub nothing_taken : (old new : Held) (answer : Next) → answer ≡ next.NotYet → AfterNext old answer new → new ≡ rested old
 nothing_taken old new answer is after = subst (λ a. AfterNext old a new) is after
 
-pub bad_front : (width : Width) (reader : Held) (len : ℕ) (answer : Next) → answer ≡ next.Bad len → IsForSessions width reader → IsAnswer reader.width reader.max reader.bytes answer → IsBadFront width (frame_max width) reader.bytes len
-bad_front width reader len answer is frames tells =
+pub bad_front : (width : Width) (reader : Held) (given : List ℕ) (len : ℕ) (answer : Next) → answer ≡ next.Bad len → IsForSessions width reader → IsAnswer reader.width reader.max reader.bytes given answer → IsBadFront width (frame_max width) reader.bytes len
+bad_front width reader given len answer is frames tells =
     subst (λ x. IsBadFront x (frame_max width) reader.bytes len) frames.right (subst (λ m. IsBadFront reader.width m reader.bytes len) frames.max ((tells.bad len).0 is))
 
 -- less than a frame stands in front
-pub partial_front : (width : Width) (reader same : Held) (answer : Next) → answer ≡ next.NotYet → same ≡ reader → IsForSessions width reader → IsAnswer reader.width reader.max reader.bytes answer → IsPartialFront same.width (frame_max same.width) same.bytes
-partial_front width reader same answer is kept frames tells =
+pub partial_front : (width : Width) (reader same : Held) (given : List ℕ) (answer : Next) → answer ≡ next.NotYet → same ≡ rested reader → IsForSessions width reader → IsAnswer reader.width reader.max reader.bytes given answer → IsPartialFront same.width (frame_max same.width) same.bytes
+partial_front width reader same given answer is kept frames tells =
     subst (λ r. IsPartialFront r.width (frame_max r.width) r.bytes) (sym kept)
     (subst (λ x. IsPartialFront reader.width (frame_max x) reader.bytes) (sym frames.right) (subst (λ m. IsPartialFront reader.width m reader.bytes) frames.max (tells.not_yet.0 is)))
 

@@ -12,7 +12,7 @@ ghost use Rattle.session_asking.specs.Serving.{IsProperTurn, moment, whose};
 ghost use Rattle.session_loop.specs.Child.{Advances, IsForSessions, IsStillReading, KeepsState, PartTaken, Receives, SpendsOn, TurnTaken, ends_part};
 
 use child_keeper::LiveChild;
-use imsg_frame::{Next, Reader};
+use imsg_frame::{Frame, Next, Reader};
 use outside::{Failed, Post};
 use policy_model::Why;
 use session_asking::{Live, Replies, Texts, Turn, serve_message};
@@ -86,7 +86,11 @@ fn serve_turn<A: Turns, P: Post, L: LiveChild, T: Texts>(
     ensures kept { NoneFell (P.faults post.old) (P.faults post.new) }
 {
     match reader.next() {
-        Next::Frame(message) => serve_message(turns, post, live, &message, replies),
+        Next::Frame(header) => {
+            let bytes: &[u8] = reader.contiguous();
+            let message = Frame::in_front(header, bytes);
+            serve_message(turns, post, live, &message, replies)
+        }
         Next::NotYet => receive(&mut live.child, reader),
         Next::Bad { len } => Turn::Ends {
             why: Why::BadFrame { len },

@@ -3,8 +3,8 @@ use Rattle.child_protocol.specs.Frames.{frame_width}
 use Rattle.child_protocol.specs.Runs.{Receives}
 use Rattle.child_protocol.proofs.run.hear.Given as goal
 
-abbrev pub invariant-loop-frame : goal.invariant-loop-frame
-invariant-loop-frame g l = record {
+abbrev pub invariant-loop-header : goal.invariant-loop-header
+invariant-loop-header g l = record {
   core : l.core ≡ l.fn.core;
   out : l.out ≡ l.fn.out;
   width : l.reader.width ≡ frame_width;
@@ -15,5 +15,5 @@ invariant-loop-frame g l = record {
   role : g.E.Stream.role l.link ≡ g.E.Stream.role l.fn.link;
 }
 
-abbrev pub decreases-loop-frame : goal.decreases-loop-frame
-decreases-loop-frame g l = 16384 - length l.reader.bytes
+abbrev pub decreases-loop-header : goal.decreases-loop-header
+decreases-loop-header g l = 16384 - length l.reader.bytes

@@ -1,50 +1,69 @@
-use Rattle.std.proofs.Common.{◌≡◌, ℕ, ◌+◌, ◌<◌, ◌≤◌, List, length, refl, ap, arith, inl, inr}
-use Rattle.std.specs.List.{between}
-use Rattle.std.proofs.lemmas.List.Edits.{length-between}
+use Rattle.std.proofs.Common.{◌<◌, ◌≤◌, length, take, drop, refl, sym, ap, ◌∙◌, arith, inl, inr}
+use Rattle.std.proofs.lemmas.Slice.{between_is}
 use Rattle.imsg_frame.specs.Cut.{IsPartialFront}
-use Rattle.imsg_frame.proofs.Fronts.{partial_has_room, answer_not_yet, answer_bad, answer_frame, wrong_len, not_whole, IsBadFront-from_header, IsShortFront-from_header, Parts-from_header}
-use Rattle.imsg_frame.proofs.Arrays.{between-behind, between-between}
+use Rattle.imsg_frame.specs.Held.{Held}
+use Rattle.imsg_frame.proofs.Arrays.{all_held}
+use Rattle.imsg_frame.proofs.Fronts.{answer_not_yet, answer_bad, answer_frame, wrong_len, not_whole, IsBadFront-from_header, IsShortFront-from_header, Parts-from_header, spelled}
 use Rattle.imsg_frame.proofs.reader.Reader.next.Goals as goal
 
-pub returns-then-held-lt-HEADER_LEN : goal.returns-then-held-lt-HEADER_LEN
-returns-then-held-lt-HEADER_LEN c =
+pub returns-then-held-lt-HEADER_LEN-clause-answer : goal.returns-then-held-lt-HEADER_LEN-clause-answer
+returns-then-held-lt-HEADER_LEN-clause-answer c =
     let s = c.self.inside in
-    let short : length (between s.start s.end s.bytes.items) < 16 = rw c.deref.ensures.value at c.if-held-lt-HEADER_LEN.true in
-    rw (← c.self.view_is) ((refl, λ _. tt, refl), record { answer = answer_not_yet _ _ _ (inl short); room = λ _. partial_has_room c.self.inside.width _ _ c.self.invariant.low (inl short); after_borrow = tt })
+    let held = all_held s.given s.ring.items c.args.self.now.bytes (ap (λ (h : Held). h.given) c.self.view_is ∙ c.leave.ensures.given) (ap (λ (h : Held). h.bytes) c.self.view_is ∙ c.leave.ensures.bytes) in
+    answer_not_yet _ _ _ _ (inl (omega (arith, ap length held, c.len-held.ensures.len, c.if-held-lt-HEADER_LEN.true)))
 
-pub returns-then-not-is_right_len : goal.returns-then-not-is_right_len
-returns-then-not-is_right_len c =
+pub returns-then-not-is_right_len-clause-answer : goal.returns-then-not-is_right_len-clause-answer
+returns-then-not-is_right_len-clause-answer c =
     let s = c.self.inside in
-    let h = c.from_front-header.ensures in
-    let header = rw c.deref.ensures.value at h.bytes in
-    let long : 16 ≤ length (between s.start s.end s.bytes.items) = rw c.deref.ensures.value at c.if-held-lt-HEADER_LEN.false in
-    let wrong = wrong_len _ s.max (λ right. let yes = c.is_right_len-then-not-is_right_len.ensures.1 right in absurd cc) in
+    let h = c.front_header-header.ensures in
+    let held = all_held s.given s.ring.items c.args.self.now.bytes (ap (λ (h : Held). h.given) c.self.view_is ∙ c.leave.ensures.given) (ap (λ (h : Held). h.bytes) c.self.view_is ∙ c.leave.ensures.bytes) in
+    let width = ap (λ (h : Held). h.width) c.self.view_is ∙ c.leave.ensures.width in
+    let max = ap (λ (h : Held). h.max) c.self.view_is ∙ c.leave.ensures.max in
+    let long : 16 ≤ length s.ring.items = omega (arith, c.len-held.ensures.len, c.if-held-lt-HEADER_LEN.false) in
+    let right = c.is_right_len-then-not-is_right_len.ensures.1 in
+    let wrong = wrong_len _ s.ring.capacity (λ is. let yes = right (is.0, omega (arith, is.1, c.capacity.ensures.capacity)) in absurd cc) in
+    let bad = IsBadFront-from_header s.width s.ring.capacity s.ring.items c.front_header-header.result long h.bytes h.fields wrong in
     let told = c.told_len.ensures in
-    let bad = IsBadFront-from_header s.width s.max (between s.start s.end s.bytes.items) c.from_front-header.result long header h.fields wrong in
-    rw (← c.self.view_is) ((refl, λ _. tt, refl), record { answer = rw told (answer_bad _ _ _ _ bad); room = λ e. absurd cc; after_borrow = tt })
+    rw (← held, ← width, ← max, told) (answer_bad _ _ _ _ _ bad)
 
-pub returns-then-is_right_len : goal.returns-then-is_right_len
-returns-then-is_right_len c =
+pub returns-then-is_right_len-clause-answer : goal.returns-then-is_right_len-clause-answer
+returns-then-is_right_len-clause-answer c =
     let s = c.self.inside in
-    let h = c.from_front-header.ensures in
-    let header = rw c.deref.ensures.value at h.bytes in
+    let h = c.front_header-header.ensures in
+    let held = all_held s.given s.ring.items c.args.self.now.bytes (ap (λ (h : Held). h.given) c.self.view_is ∙ c.leave.ensures.given) (ap (λ (h : Held). h.bytes) c.self.view_is ∙ c.leave.ensures.bytes) in
+    let width = ap (λ (h : Held). h.width) c.self.view_is ∙ c.leave.ensures.width in
+    let max = ap (λ (h : Held). h.max) c.self.view_is ∙ c.leave.ensures.max in
     let right = c.is_right_len-then-not-is_right_len.ensures.0 c.if-is_right_len.true in
-    let short : length (between s.start s.end s.bytes.items) < c.from_front-header.result.len = rw c.deref.ensures.value at (not_whole _ _ right.0 (λ whole. let yes = c.is_right_len.ensures.1 whole in absurd cc)) in
-    let partial : IsPartialFront s.width s.max (between s.start s.end s.bytes.items) = inr (IsShortFront-from_header _ _ _ _ header h.fields right.0 right.1 short) in
-    rw (← c.self.view_is) ((refl, λ _. tt, refl), record { answer = answer_not_yet _ _ _ partial; room = λ _. partial_has_room c.self.inside.width _ _ c.self.invariant.low partial; after_borrow = tt })
+    let whole = c.is_right_len.ensures.1 in
+    let less = not_whole _ _ right.0 (λ is. let yes = whole is in absurd cc) in
+    let short : length s.ring.items < c.front_header-header.result.len = omega (arith, c.len-held.ensures.len, less) in
+    let partial : IsPartialFront s.width s.ring.capacity s.ring.items = inr (IsShortFront-from_header _ _ _ _ h.bytes h.fields right.0 (omega (arith, right.1, c.capacity.ensures.capacity)) short) in
+    rw (← held, ← width, ← max) (answer_not_yet _ _ _ _ partial)
 
-pub returns : goal.returns
-returns c =
+pub returns-clause-answer : goal.returns-clause-answer
+returns-clause-answer c =
     let s = c.self.inside in
-    let h = c.from_front-header.ensures in
-    let f = c.from_front-header.result in
-    let header = rw c.deref.ensures.value at h.bytes in
-    let bytes : List ℕ = between s.start s.end s.bytes.items in
+    let h = c.front_header-header.ensures in
+    let f = c.front_header-header.result in
+    let held = all_held s.given s.ring.items c.args.self.now.bytes (ap (λ (h : Held). h.given) c.self.view_is ∙ c.leave.ensures.given) (ap (λ (h : Held). h.bytes) c.self.view_is ∙ c.leave.ensures.bytes) in
+    let width = ap (λ (h : Held). h.width) c.self.view_is ∙ c.leave.ensures.width in
+    let max = ap (λ (h : Held). h.max) c.self.view_is ∙ c.leave.ensures.max in
     let right = c.is_right_len.ensures.0 c.if-not-is_right_len.false in
-    let whole : f.len ≤ length bytes = rw c.deref.ensures.value at right.1 in
-    let all = length-between s.bytes.items s.start s.end (omega (arith, ap length c.deref.ensures.value, c.self.invariant.within_len)) in
-    let fits : s.start + f.len ≤ s.end = omega (arith, whole, c.self.invariant.ordered, all) in
-    let within : f.len ≤ s.max = omega (arith, fits, c.self.invariant.within_max) in
-    let body : between (s.start + 16) (s.start + f.len) c.deref-2.result.now ≡ between 16 f.len bytes = rw c.deref-2.ensures.value (between-between s.start s.end 16 f.len s.bytes.items fits) in
-    let parts = Parts-from_header s.width s.max bytes f (between (s.start + 16) (s.start + f.len) c.deref-2.result.now) (between (s.start + f.len) s.end s.bytes.items) header h.fields right.0 within whole body (between-behind s.start s.end f.len s.bytes.items) in
-    rw (← c.self.view_is) ((refl, λ _. tt, record { width = refl; max = refl; bytes = parts.is }), record { answer = answer_frame _ _ _ _ (record { right = parts.right; front = (_, parts.is) }); room = λ e. absurd cc; after_borrow = tt })
+    let whole : f.len ≤ length s.ring.items = omega (arith, right.1, c.len-held.ensures.len) in
+    let within : f.len ≤ s.ring.capacity = omega (arith, whole, c.self.invariant.within) in
+    let parts = Parts-from_header s.width s.ring.capacity s.ring.items f (drop 16 (take f.len s.ring.items)) (drop f.len s.ring.items) h.bytes h.fields right.0 within whole (sym (between_is s.ring.items 16 f.len)) refl in
+    rw (← held, ← width, ← max) (answer_frame _ _ _ _ _ (record { right = parts.right; front = (_, parts.is) }))
+
+pub returns-clause-after : goal.returns-clause-after
+returns-clause-after c =
+    let s = c.self.inside in
+    let h = c.front_header-header.ensures in
+    let f = c.front_header-header.result in
+    let held = all_held s.given s.ring.items c.args.self.now.bytes (ap (λ (h : Held). h.given) c.self.view_is ∙ c.leave.ensures.given) (ap (λ (h : Held). h.bytes) c.self.view_is ∙ c.leave.ensures.bytes) in
+    let width = ap (λ (h : Held). h.width) c.self.view_is ∙ c.leave.ensures.width in
+    let max = ap (λ (h : Held). h.max) c.self.view_is ∙ c.leave.ensures.max in
+    let right = c.is_right_len.ensures.0 c.if-not-is_right_len.false in
+    let whole : f.len ≤ length s.ring.items = omega (arith, right.1, c.len-held.ensures.len) in
+    let within : f.len ≤ s.ring.capacity = omega (arith, whole, c.self.invariant.within) in
+    let parts = Parts-from_header s.width s.ring.capacity s.ring.items f (drop 16 (take f.len s.ring.items)) (drop f.len s.ring.items) h.bytes h.fields right.0 within whole (sym (between_is s.ring.items 16 f.len)) refl in
+    rw (← held, ← width) (record { width = refl; max = max; given = spelled s.width s.ring.items f h.bytes right.0; bytes = parts.is })
