@@ -12,8 +12,10 @@ use Rattle.setup_reading.proofs.ReadLemmas.{IsSetupIn-later}
 use Rattle.audit_check.specs.declared.answer.Audit.{Audit}
 use Rattle.audit_mode.specs.declared.error.AuditError.{AuditError}
 use Rattle.audit_mode.specs.declared.error.AuditError.TheVariants as errors
-use Rattle.audit_mode.specs.Outcome.{IsAnswered, IsAnswerOf, IsFileError, IsLogError, IsOnlyAnswer, IsOutcome, error_of_setup}
+use Rattle.audit_mode.specs.Outcome.{IsAnswered, IsAnswerOf, IsAnswerOfBytes, IsFileError, IsLogError, IsOnlyAnswer, IsOutcome, error_of_setup}
+use Rattle.audit_mode.specs.Texts.{IsAuditedText}
 use Rattle.audit_mode.specs.Words.{AuditParts}
+use Rattle.audit_mode.proofs.TextLemmas.{one_text, text_of_image}
 
 -- ---- the log
 
@@ -29,16 +31,26 @@ missing-log items found (Some files) name none read = go (files name) (sym (ap (
   go None e = refl
   go (Some bytes) e = absurd cc
 
+-- what is said of the front's text is said of the log
+pub answer-of-text : (bytes text : List ℕ) (setup : Settings) (answer : Audit) → IsAuditedText bytes text → IsOnlyAnswer setup text answer → IsAnswerOfBytes setup bytes answer
+answer-of-text bytes text setup answer is only = record {
+  text = text;
+  audited = is;
+  one = λ other also. one_text bytes text other is also;
+  recovered = λ records has. text_of_image bytes text records is has;
+  answered = only;
+}
+
 -- what is said of the front is said of the log
-pub answer-of-front : {A : Type 0} (items : A → List ℕ) (found : Option A) (bytes : A) (front : List ℕ) (contents : Option Contents) (name : List ℕ) (setup : Settings) (answer : Audit) → found ≡ Some bytes → front ≡ items bytes → IsFrontOf items found contents name → IsOnlyAnswer setup front answer → IfSome contents (λ files. IsAnswerOf setup (files name) answer)
-answer-of-front items found bytes front None name setup answer there is read only = tt
-answer-of-front items found bytes front (Some files) name setup answer there is read only =
-    go (files name) (ap Some is ∙ sym (ap (option_map items) there) ∙ read) where
-      go : (file : Option (List ℕ)) → Some front ≡ option_map (take 268435457) file → IsAnswerOf setup file answer
+pub answer-of-front : {A : Type 0} (items : A → List ℕ) (found : Option A) (bytes : A) (contents : Option Contents) (name : List ℕ) (setup : Settings) (answer : Audit) → found ≡ Some bytes → IsFrontOf items found contents name → IsAnswerOfBytes setup (items bytes) answer → IfSome contents (λ files. IsAnswerOf setup (files name) answer)
+answer-of-front items found bytes None name setup answer there read said = tt
+answer-of-front items found bytes (Some files) name setup answer there read said =
+    go (files name) (sym (ap (option_map items) there) ∙ read) where
+      go : (file : Option (List ℕ)) → Some (items bytes) ≡ option_map (take 268435457) file → IsAnswerOf setup file answer
       go None e = absurd cc
       go (Some text) e =
-          let same : front ≡ take 268435457 text = cc in
-          subst (λ t. IsOnlyAnswer setup t answer) same only
+          let same : items bytes ≡ take 268435457 text = cc in
+          subst (λ t. IsAnswerOfBytes setup t answer) same said
 
 -- ---- the setup and the log
 

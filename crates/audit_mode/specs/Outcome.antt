@@ -1,5 +1,6 @@
 -- Believed: what the mode `audit` came to, and why.
 use Rattle.std.specs.Prelude.{◌≡◌, ℕ, Bool, true, false, List, [], length, take, Option, Some, None, Result, Ok, Err, IfSome}
+use Rattle.std.specs.List.{concat}
 use Rattle.outside.specs.Files.{Contents}
 use Rattle.outside.specs.Link.{Exchanged, Link, SendsPart}
 use Rattle.outside.specs.Told.{Goes}
@@ -12,6 +13,7 @@ use Rattle.setup_reading.specs.declared.reading.SetupFileError.{SetupFileError}
 use Rattle.setup_reading.specs.declared.reading.SetupFileError.TheVariants as setup_errors
 use Rattle.setup_reading.specs.Read.{IsSetupError, IsSetupIn}
 use Rattle.decision_log.specs.Log.{log_text}
+use Rattle.durable_log.specs.Records.{HasRecords}
 use Rattle.audit_check.specs.declared.answer.Audit.{Audit}
 use Rattle.audit_check.specs.declared.answer.Audit.TheVariants.{Yes, No}
 use Rattle.audit_check.specs.Said.{IsAnswer}
@@ -19,9 +21,10 @@ use Rattle.audit_check.specs.Written.{IsJournalOf}
 use Rattle.audit_mode.specs.declared.error.AuditError.{AuditError}
 use Rattle.audit_mode.specs.declared.error.AuditError.TheVariants as errors
 use Rattle.audit_mode.specs.Lines.{answer_line}
+use Rattle.audit_mode.specs.Texts.{IsAuditedText}
 use Rattle.audit_mode.specs.Words.{AuditParts}
 
--- the text of a log: the first 268,435,457 bytes of its file
+-- what counts of the file of a log: its first 268,435,457 bytes
 abbrev pub log_front : List ℕ → List ℕ
 log_front bytes = take 268435457 bytes
 
@@ -31,10 +34,18 @@ pub record IsOnlyAnswer (setup : Settings) (text : List ℕ) (answer : Audit) : 
   pub exact : (other : Audit) → IsAnswer setup text other → answer ≡ other
   pub runs : (journal : List Event) → IsJournalOf setup journal → text ≡ log_text journal → answer ≡ Yes (length (kept_events journal))
 
+-- the same of the one text that a file with these bytes has: where recovery finds records in them, their lines
+pub record IsAnswerOfBytes (setup : Settings) (bytes : List ℕ) (answer : Audit) : Type 0 where
+  pub text : List ℕ
+  pub audited : IsAuditedText bytes text
+  pub one : (other : List ℕ) → IsAuditedText bytes other → text ≡ other
+  pub recovered : (records : List (List ℕ)) → HasRecords bytes records → text ≡ concat records
+  pub answered : IsOnlyAnswer setup text answer
+
 -- the same of the log in a file, which is there
 abbrev pub IsAnswerOf : Settings → Option (List ℕ) → Audit → Type 0
 IsAnswerOf setup None answer = ⊥
-IsAnswerOf setup (Some bytes) answer = IsOnlyAnswer setup (log_front bytes) answer
+IsAnswerOf setup (Some bytes) answer = IsAnswerOfBytes setup (log_front bytes) answer
 
 -- the files, where they tell what stands in them, spell a setup, and this is said of the log
 pub record IsAnswered (contents : Option Contents) (parts : AuditParts) (answer : Audit) : Type 0 where

@@ -7,6 +7,7 @@ mod command;
 mod error;
 mod line;
 mod run;
+mod text;
 
 pub use command::{AuditCommand, read_audit_command};
 pub use error::AuditError;

@@ -10,6 +10,7 @@ ghost use Rattle.audit_mode.specs.Outcome.{IsAnswered, IsAnswerOf, IsFileError, 
 use crate::command::AuditCommand;
 use crate::error::AuditError;
 use crate::line::answer_line;
+use crate::text::audited_text;
 use audit_check::{Audit, audit};
 use file_front::read_front;
 use outside::{Files, Stream};
@@ -41,8 +42,9 @@ fn answer_status(answer: Audit) -> u8
     }
 }
 
-/// Runs the mode: reads the setup and then the log, of which the first 268,435,457 bytes count, and
-/// sends one line that says whether the log is legal.
+/// Runs the mode: reads the setup and then the log, of whose file the first 268,435,457 bytes count,
+/// and sends one line that says whether the log is legal. Of a file that begins with `OTJ1` the log is
+/// the lines of its records.
 ///
 /// # Errors
 ///
@@ -101,8 +103,9 @@ fn audit_log<F: Files>(
     ensures read_faults { F.read_faults files.old ≤ F.read_faults files.new }
     ensures replace_faults { F.replace_faults files.old ≤ F.replace_faults files.new }
 {
-    let Some(text) = read_front(alloc, files, name, LOG_MAX)? else {
+    let Some(bytes) = read_front(alloc, files, name, LOG_MAX)? else {
         return Err(AuditError::LogMissing);
     };
+    let text = audited_text(alloc, bytes)?;
     Ok(audit(alloc, setup, text.as_slice())?)
 }

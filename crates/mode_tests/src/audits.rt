@@ -1,7 +1,8 @@
 use account_file::{SetupFault, SetupKey, SetupRule};
 use audit_check::{Audit, AuditWhy};
 use audit_mode::*;
-use outside::{Bytes, CallKind, Fail, MemFiles, MemStream, Word};
+use durable_log::{JournalLog, MemDisk};
+use outside::{Bytes, CallKind, Fail, MemFiles, MemStream, Sink, Word};
 use std::alloc::{AllocError, Global};
 use std::test::Fail as Fault;
 
@@ -109,21 +110,25 @@ const CUT: &str = "1 w0 s1 open permit\n2 w0 s1 write 0 0 2 permit\n3 w0 ";
 /// What a file holds where it isn't there.
 const NONE: &str = "none";
 
-/// A file of this text, of another name where it isn't there.
-fn file(alloc: Global, name: &str, text: &str) -> Result<(Word, Bytes), AllocError> {
-    let name = if text == NONE { NONE } else { name };
-    let word = Word::of(alloc, name.as_bytes())?;
-    Ok((word, Bytes::of(alloc, text.as_bytes())?))
+/// The durable log without a record.
+const FRESH: [u8; 5] = *b"OTJ1\x00";
+
+/// A file of these bytes, of another name where it isn't there.
+fn file(alloc: Global, name: &str, bytes: &[u8]) -> Result<(Word, Bytes), AllocError> {
+    let there = bytes != NONE.as_bytes();
+    let word = Word::of(alloc, if there { name } else { NONE }.as_bytes())?;
+    Ok((word, Bytes::of(alloc, bytes)?))
 }
 
 /// What came of the mode over the files `setup` and `log`, and what it sent.
 fn audited(
     alloc: Global,
     setup: &str,
-    log: &str,
+    log: &[u8],
     fails: &[Fail],
 ) -> Result<(Result<Audit, AuditError>, Bytes), AllocError> {
-    let pairs = vec![in alloc; file(alloc, "setup", setup)?, file(alloc, "log", log)?]?;
+    let setup = file(alloc, "setup", setup.as_bytes())?;
+    let pairs = vec![in alloc; setup, file(alloc, "log", log)?]?;
     let mut files = MemFiles::new(alloc, pairs.as_slice(), fails)?;
     let mut ends = MemStream::new(alloc, b"", &[1], fails)?;
     let command = AuditCommand {
@@ -134,8 +139,30 @@ fn audited(
     Ok((outcome, Bytes::of(alloc, ends.sent())?))
 }
 
+/// Whether the bytes of a log are answered by a status and a line.
+fn answers(alloc: Global, setup: &str, log: &[u8], told: (u8, &str)) -> Result<bool, AllocError> {
+    let (outcome, sent) = audited(alloc, setup, log, &[])?;
+    Ok(status(outcome) == told.0 && sent.as_slice() == told.1.as_bytes())
+}
+
+/// What the disk of a durable log has once each line of a text was appended; nothing where an append
+/// failed.
+fn durable(alloc: Global, text: &str) -> Result<Vec<u8>, AllocError> {
+    let mut log = JournalLog::new(MemDisk::new(alloc, &FRESH, &[])?);
+    let mut whole = true;
+    for line in text.split_inclusive('\n') {
+        whole &= log.append(line.as_bytes()).is_ok();
+    }
+    let disk = log.disk();
+    let calls = disk.calls();
+    if !whole || !disk.tells() {
+        return Ok(Vec::new(alloc));
+    }
+    disk.image(alloc, calls, 0)
+}
+
 /// Whether a log with another line in the place of one, or without it where the other is empty, is
-/// answered by a status and a line.
+/// answered by a status and a line, as a text and as a durable log.
 fn tells(
     alloc: Global,
     setup: &str,
@@ -147,8 +174,62 @@ fn tells(
     for (i, old) in log.split_inclusive('\n').enumerate() {
         text.push_str(if i + 1 == other.0 { other.1 } else { old })?;
     }
-    let (outcome, sent) = audited(alloc, setup, text.as_str(), &[])?;
-    Ok(status(outcome) == told.0 && sent.as_slice() == told.1.as_bytes())
+    let log = durable(alloc, text.as_str())?;
+    Ok(
+        log.starts_with(b"OTJ1")
+            && answers(alloc, setup, log.as_slice(), told)?
+            && answers(alloc, setup, text.as_bytes(), told)?,
+    )
+}
+
+#[test]
+fn the_durable_log_of_a_login(rt: HostRuntime) -> Result<(), Fault> {
+    let alloc = rt.alloc();
+    let mut log = durable(alloc, LOGIN)?;
+    assert!(rt; log.starts_with(b"OTJ1\x01\x14\x001 w0 s1 open permit\n\x01"));
+    assert!(rt; answers(alloc, ONE_WORKER, log.as_slice(), (0, "yes 21\n"))?);
+    assert!(rt; answers(alloc, ONE_WORKER, &FRESH, (0, "yes 0\n"))?);
+    // What a crash left after the closed gate doesn't count.
+    log.extend_from_slice(b"\x1f\x0022 w0 s2 open")?;
+    assert!(rt; answers(alloc, ONE_WORKER, log.as_slice(), (0, "yes 21\n"))?);
+    Ok(())
+}
+
+#[test]
+fn a_durable_log_with_a_record_that_is_no_line(rt: HostRuntime) -> Result<(), Fault> {
+    let log = b"OTJ1\x01\x14\x001 w0 s1 open permit\n\x01\x02\x00x\n\x00";
+    assert!(rt; answers(rt.alloc(), ONE_WORKER, log, (14, "no 2 text\n"))?);
+    Ok(())
+}
+
+#[test]
+fn a_durable_log_that_is_cut_short(rt: HostRuntime) -> Result<(), Fault> {
+    let alloc = rt.alloc();
+    let two = b"OTJ1\x01\x14\x001 w0 s1 open permit\n\x01\x16\x002 w0 s1 banner permit\n\x00";
+    assert!(rt; answers(alloc, ONE_WORKER, two, (0, "yes 2\n"))?);
+    let ends: [(usize, &str); 7] = [
+        (4, "yes 0\n"),
+        (5, "yes 0\n"),
+        (26, "yes 0\n"),
+        (27, "yes 1\n"),
+        (29, "yes 1\n"),
+        (51, "yes 1\n"),
+        (52, "yes 2\n"),
+    ];
+    for (end, told) in ends {
+        let (front, _) = two.split_at_checked(end).unwrap_or((two, &[]));
+        assert!(rt; answers(alloc, ONE_WORKER, front, (0, told))?);
+    }
+    Ok(())
+}
+
+#[test]
+fn what_does_not_begin_so_is_a_text(rt: HostRuntime) -> Result<(), Fault> {
+    let alloc = rt.alloc();
+    assert!(rt; answers(alloc, ONE_WORKER, b"OTJ", (14, "no 1 text\n"))?);
+    assert!(rt; answers(alloc, ONE_WORKER, b"OTJ2\x00", (14, "no 1 text\n"))?);
+    assert!(rt; answers(alloc, ONE_WORKER, b"\nOTJ1\x00", (14, "no 1 text\n"))?);
+    Ok(())
 }
 
 #[test]
@@ -194,7 +275,7 @@ fn ends_by(
     fails: &[Fail],
     error: AuditError,
 ) -> Result<bool, AllocError> {
-    let (outcome, sent) = audited(alloc, setup, log, fails)?;
+    let (outcome, sent) = audited(alloc, setup, log.as_bytes(), fails)?;
     Ok(outcome == Err(error) && sent.as_slice().is_empty())
 }
 
@@ -232,7 +313,7 @@ fn calls_that_fail(rt: HostRuntime) -> Result<(), Fault> {
         number: 1,
         sent: 5,
     };
-    let (outcome, sent) = audited(alloc, PLAIN, CUT, &[fail])?;
+    let (outcome, sent) = audited(alloc, PLAIN, CUT.as_bytes(), &[fail])?;
     assert!(rt; outcome == Err(AuditError::EndsFailed));
     assert!(rt; sent.as_slice() == b"no 3 ".as_slice());
     assert!(rt; AuditError::ReadFailed.status() == 3);
