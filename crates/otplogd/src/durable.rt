@@ -1,8 +1,8 @@
 //! The durable log that the words of the command line name.
 
-use crate::complaint::Complaint;
 use durable_log::Disk;
 use line_log::LineLog;
+use messages::Complaint;
 use outside::Word;
 use outside_real::{LogStderr, RealSink, open_alone};
 use real_log::{FileDisk, RealLog};

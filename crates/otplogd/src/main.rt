@@ -4,28 +4,19 @@
 //! why, and after a run how often the outside failed, if it did.
 #![tactic(auto)]
 
-mod announcing;
-mod complaint;
 mod durable;
-mod ending;
 mod information;
-mod lacks;
+mod saying;
 mod seed;
-mod setup_fault;
-mod setup_line;
-mod setup_text;
-mod usage;
 
-use announcing::notice_of;
-use complaint::Complaint;
 use durable::{RunLog, logs_of};
-use ending::{RunCounts, RunFaults, complaint_text, say_end};
 use info_hooks::{Hook, Hooks};
 use information::{chain_form, person_form, say_chain, say_person};
-use lacks::say_lacks;
+use messages::{Complaint, RunCounts, RunFaults, complaint_text, say_lacks};
 use monitor_server::{Answer, Detail, Report, otplogd, run_alone};
 use outside::Word;
 use outside_real::{ListenFailure, RealEnds, RealFiles, RealPost, RealSite, fill_standard_streams};
+use saying::{notice_of, say_end};
 use seed::{RANDOM, add_seed};
 use std::alloc::{AllocError, Global};
 use std::env::Args;
@@ -34,9 +25,6 @@ use std::process::ExitCode;
 use std::rt::Env;
 use std::{env, io};
 use usage::{answer_help, mistake_text};
-
-#[cfg(test)]
-mod tests;
 
 /// The words are no command.
 const NO_COMMAND: u8 = 2;
@@ -93,6 +81,14 @@ fn of_words(status: u8) -> Complaint<'static> {
         },
         ..Complaint::plain(status)
     }
+}
+
+/// The words that are done, with all standard streams open, or why there are none.
+fn words_at_start(rt: &HostRuntime) -> Result<Vec<Word>, Complaint<'static>> {
+    if fill_standard_streams(rt).is_err() {
+        return Err(Complaint::plain(NO_STREAM));
+    }
+    words_done(rt).map_err(of_words)
 }
 
 /// Says why there is no run, and gives the exit status.
@@ -261,53 +257,46 @@ fn answer_alone(
         return Some(refuse(&rt, alloc, words));
     }
     let status = conclude_alone(&rt, alloc, answer, &files);
-    say_lacks(rt, alloc, &mut files, words, answer.status);
+    say_lacks(&rt, alloc, &mut files, words, answer.status);
     Some(status)
 }
 
 fn main(rt: HostRuntime) -> ExitCode {
-    if fill_standard_streams(&rt).is_err() {
-        return complain(&rt, Complaint::plain(NO_STREAM));
-    }
     let alloc = rt.alloc();
-    let words = match words_done(&rt) {
+    let words = match words_at_start(&rt) {
         Ok(words) => words,
-        Err(status) => return complain(&rt, of_words(status)),
+        Err(complaint) => return complain(&rt, complaint),
     };
-    let words = words.as_slice();
-    if let Some(status) = answer_help(&rt, alloc, words) {
+    if let Some(status) = answer_help(&rt, alloc, &words) {
         return status;
     }
     let hooks = vec![in alloc;
         Hook::new(1, person_form(), say_person),
         Hook::new(2, chain_form(), say_chain),
     ];
-    let Ok(hooks) = hooks else {
+    let Some(information) = hooks.ok().and_then(|list| Hooks::new(list).ok()) else {
         return complain(&rt, Complaint::plain(NO_MEMORY));
     };
-    let Ok(information) = Hooks::new(hooks) else {
-        return complain(&rt, Complaint::plain(NO_MEMORY));
-    };
-    let (log, _lock) = match logs_of(rt, alloc, words) {
+    let (log, _lock) = match logs_of(rt, alloc, &words) {
         Ok(logs) => logs,
-        Err(error) => return complain(&rt, error.complaint(words)),
+        Err(error) => return complain(&rt, error.complaint(&words)),
     };
-    if let Some(status) = answer_alone(rt, alloc, words, &information) {
+    if let Some(status) = answer_alone(rt, alloc, &words, &information) {
         return status;
     }
     let mut ends = RealEnds::new(rt.stdin(), rt.stdout());
     let mut files = RealFiles::new(rt, alloc);
-    let mut site = site_of(rt, alloc, words);
+    let mut site = site_of(rt, alloc, &words);
     let report = otplogd(
         &rt,
         alloc,
-        words,
+        &words,
         &mut files,
         &mut site,
         log,
         &mut ends,
         &information,
     );
-    let complaint = complaint_of(&report, words, &files, &site);
-    conclude(rt, alloc, &report, words, complaint)
+    let complaint = complaint_of(&report, &words, &files, &site);
+    conclude(rt, alloc, &report, &words, complaint)
 }

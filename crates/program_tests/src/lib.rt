@@ -1,8 +1,11 @@
-//! The tests of the drill, the words of `serve` and the top call, which stand apart so that no crate waits for them.
+//! The tests of the drill, the words of `serve`, the top call and the messages, which stand apart so that no
+//! crate waits for them.
 #![tactic(auto)]
 
 #[cfg(test)]
 mod drills;
+#[cfg(test)]
+mod message_lines;
 #[cfg(test)]
 mod plans;
 #[cfg(test)]

@@ -5,13 +5,14 @@ use crate::setup_line::{SetupLine, line_of, nearest_key};
 use account_file::{SetupFault, SetupKey, SetupRule};
 use std::alloc::{AllocError, Global};
 use std::fs;
+use std::rt::Files;
 
 /// How many bytes of a setup are looked through.
 const TEXT_MAX: u64 = 8_388_608;
 
 /// The line that says what is wrong with the setup of a file.
-pub(crate) fn setup_text(
-    rt: &HostRuntime,
+pub(crate) fn setup_text<R: Files + AllocGlobal>(
+    rt: &R,
     alloc: Global,
     path: &str,
     fault: &SetupFault,
@@ -24,7 +25,7 @@ pub(crate) fn setup_text(
 }
 
 /// The text of a setup's file, if it is a file still: a pipe can't be read a second time.
-fn text_of(rt: &HostRuntime, path: &str) -> Option<String> {
+fn text_of<R: Files + AllocGlobal>(rt: &R, path: &str) -> Option<String> {
     let found = fs::metadata(rt, path).ok()?;
     match found.is_file() && found.len() <= TEXT_MAX {
         true => fs::read_to_string(rt, path).ok(),

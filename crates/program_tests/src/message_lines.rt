@@ -1,6 +1,5 @@
-use crate::complaint::Complaint;
-use crate::ending::{RunCounts, RunFaults};
 use audit_check::AuditWhy;
+use messages::{Complaint, RunCounts, RunFaults};
 use monitor_server::{Detail, FileKind};
 use otp_extended::RenewFault;
 use otp_words::{DictFault, DictRule};

@@ -7,6 +7,9 @@ use otp_extended::RenewFault;
 use otp_words::{DictFault, DictRule};
 use std::{fmt, io};
 
+/// What is said of a durable log from which no run begins.
+const NOT_FRESH: &str = "the durable log is not a fresh one: call otplogd recover SETUP LOG first";
+
 /// Why the program ends with a status, or what is to be thought of, in one line for the one who called
 /// it. It takes no memory.
 #[derive(Clone, Copy)]
@@ -72,18 +75,8 @@ impl fmt::Display for DetailText {
                 key.word(),
                 rule.word()
             ),
-            Detail::WordsBad(DictFault { line, rule }) => {
-                write!(
-                    f,
-                    "the word list is refused: line {line} {}",
-                    list_rule_text(rule)
-                )
-            }
-            Detail::LogNotFresh => {
-                f.write_str(
-                    "the durable log is not a fresh one: call otplogd recover SETUP LOG first",
-                )
-            }
+            Detail::WordsBad(fault) => write_list_fault(f, fault),
+            Detail::LogNotFresh => f.write_str(NOT_FRESH),
             Detail::LogBad { number: 0 } => f.write_str("this is no durable log"),
             Detail::LogBad { number } => {
                 write!(
@@ -103,6 +96,13 @@ impl fmt::Display for DetailText {
             }
         }
     }
+}
+
+/// Writes what is wrong with a word list.
+fn write_list_fault<W: fmt::Write>(f: &mut fmt::Formatter<W>, fault: DictFault) -> fmt::Result {
+    let DictFault { line, rule } = fault;
+    let what = list_rule_text(rule);
+    write!(f, "the word list is refused: line {line} {what}")
 }
 
 /// What a status alone tells.

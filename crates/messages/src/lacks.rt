@@ -5,13 +5,16 @@ use outside_real::{RealFiles, has_folder, is_folder, is_launcher};
 use setup_reading::read_setup_file;
 use std::alloc::Global;
 use std::fs;
+use std::fs::File;
+use std::rt::Files;
 
-/// Says on standard error, where the words are those of `check` and the setup is right, which of its
-/// vault, its launcher and its socket's folder isn't there.
-pub(crate) fn say_lacks(
-    rt: HostRuntime,
+/// Says on standard error, where the words are those of `check` and the setup is right (`status` is 0),
+/// which of its vault, its launcher and its socket's folder isn't there, in a line each. A setup that is no
+/// file, as a pipe, can't be read a second time, and so nothing is said of it.
+pub fn say_lacks<R: Files<File = File> + Eprint + Drop>(
+    rt: &R,
     alloc: Global,
-    files: &mut RealFiles<HostRuntime>,
+    files: &mut RealFiles<R>,
     words: &[Word],
     status: u8,
 ) {
@@ -23,19 +26,24 @@ pub(crate) fn say_lacks(
     }
 }
 
-/// Says what the setup of this name lacks, if it is a file: a pipe can't be read a second time.
-fn say_lacks_of(rt: HostRuntime, alloc: Global, files: &mut RealFiles<HostRuntime>, name: &Word) {
-    if !is_file(&rt, name) {
+/// Says what the setup of this name lacks, if it is a file.
+fn say_lacks_of<R: Files<File = File> + Eprint + Drop>(
+    rt: &R,
+    alloc: Global,
+    files: &mut RealFiles<R>,
+    name: &Word,
+) {
+    if !is_file(rt, name) {
         return;
     }
     let Ok(setup) = read_setup_file(alloc, files, name.as_str()) else {
         return;
     };
     let vault = setup.vault();
-    let is_there = is_folder(&rt, vault);
+    let is_there = is_folder(rt, vault);
     say_unless(rt, is_there, vault, "the vault is no folder that is there");
     let launcher = setup.launcher();
-    let can_run = is_launcher(&rt, launcher);
+    let can_run = is_launcher(rt, launcher);
     say_unless(
         rt,
         can_run,
@@ -43,7 +51,7 @@ fn say_lacks_of(rt: HostRuntime, alloc: Global, files: &mut RealFiles<HostRuntim
         "the launcher is no program that can be run",
     );
     let socket = setup.socket();
-    let has_place = has_folder(&rt, socket);
+    let has_place = has_folder(rt, socket);
     say_unless(
         rt,
         has_place,
@@ -53,7 +61,7 @@ fn say_lacks_of(rt: HostRuntime, alloc: Global, files: &mut RealFiles<HostRuntim
 }
 
 /// Whether a file stands at a path.
-pub(crate) fn is_file(rt: &HostRuntime, name: &Word) -> bool {
+pub(crate) fn is_file<R: Files>(rt: &R, name: &Word) -> bool {
     match fs::metadata(rt, name.as_str()) {
         Ok(found) => found.is_file(),
         Err(_) => false,
@@ -61,8 +69,8 @@ pub(crate) fn is_file(rt: &HostRuntime, name: &Word) -> bool {
 }
 
 /// Says on standard error what a path lacks, unless all is right.
-fn say_unless(rt: HostRuntime, is_right: bool, path: &str, what: &str) {
+fn say_unless(rt: &impl Eprint, is_right: bool, path: &str, what: &str) {
     if !is_right {
-        let _ = eprintln!(&rt; "otplogd: {path}: {what}");
+        let _ = eprintln!(rt; "otplogd: {path}: {what}");
     }
 }
