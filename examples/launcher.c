@@ -15,7 +15,6 @@
 #include <linux/capability.h>
 #include <linux/filter.h>
 #include <linux/seccomp.h>
-#include <pwd.h>
 #include <stddef.h>
 #include <stdint.h>
 #include <stdio.h>
@@ -45,7 +44,7 @@ static const struct { int kind; rlim_t most; } limits[] = {
 };
 
 /* The system calls that load and end a program, that read and write what is open, and that get memory. */
-static const int allowed[] = {
+static int allowed[] = {
 	SYS_read, SYS_write, SYS_close, SYS_exit_group, SYS_exit, SYS_execve, SYS_mmap, SYS_munmap, SYS_mprotect,
 	SYS_mremap, SYS_madvise, SYS_brk, SYS_pread64, SYS_readv, SYS_writev, SYS_lseek, SYS_fstat, SYS_newfstatat,
 	SYS_statx, SYS_faccessat, SYS_readlinkat, SYS_futex, SYS_set_tid_address, SYS_set_robust_list, SYS_rseq,
@@ -81,19 +80,25 @@ static uid_t user_of(const char *text)
 	return strtoul(text, NULL, 10);
 }
 
+/* The numbers of a user and of its group. */
+struct ids { unsigned uid, gid; };
+
 /* The unprivileged user, as /etc/passwd has it. */
-static struct passwd unprivileged(const char *name)
+static struct ids unprivileged(const char *name)
 {
-	struct passwd *found = NULL;
+	struct ids found = { 0, 0 };
+	size_t len = strlen(name), room = 0;
+	char *line = NULL;
 	FILE *users = fopen("/etc/passwd", "re");
 	if (users == NULL)
 		refuse("/etc/passwd can't be read", "");
-	while ((found = fgetpwent(users)) != NULL && strcmp(found->pw_name, name) != 0)
-		;
-	if (found == NULL || found->pw_uid == 0 || found->pw_gid == 0)
+	while (getline(&line, &room, users) > 0)
+		if (strncmp(line, name, len) == 0 && sscanf(line + len, ":%*[^:]:%u:%u:", &found.uid, &found.gid) == 2)
+			break;
+	if (found.uid == 0 || found.gid == 0)
 		refuse("this is no unprivileged user: ", name);
 	fclose(users);
-	return *found;
+	return found;
 }
 
 /* Gives up root and all capabilities, those of programs that are run later too. */
@@ -101,8 +106,9 @@ static void become(uid_t uid, gid_t gid)
 {
 	struct __user_cap_header_struct head = { .version = _LINUX_CAPABILITY_VERSION_3 };
 	struct __user_cap_data_struct none[2] = { 0 };
-	for (int number = 0; prctl(PR_CAPBSET_READ, number, 0, 0, 0) >= 0; number++)
-		want(prctl(PR_CAPBSET_DROP, number, 0, 0, 0), "the bounding set");
+	for (int number = 0; prctl(PR_CAPBSET_DROP, number, 0, 0, 0) >= 0; number++)
+		;
+	want(errno == EINVAL ? 0 : -1, "the bounding set"); /* there is no further capability */
 	want(prctl(PR_CAP_AMBIENT, PR_CAP_AMBIENT_CLEAR_ALL, 0, 0, 0), "the ambient set");
 	want(setgroups(0, NULL), "setgroups");
 	want(setresgid(gid, gid, gid), "setresgid");
@@ -122,10 +128,28 @@ static void become(uid_t uid, gid_t gid)
 /* The flags by which a file is opened to be changed or made. */
 enum { CHANGES = O_WRONLY | O_RDWR | O_CREAT | O_TRUNC | O_APPEND | (O_TMPFILE & ~O_DIRECTORY) };
 
-/* Lets the process, and all programs that it runs, make these calls alone. Another one ends it. */
+/* The order of the numbers of system calls. */
+static int order(const void *one, const void *two)
+{
+	return *(const int *)one - *(const int *)two;
+}
+
+/* Writes the search for a number among these, which rise. It ends at `end` where it is found, else right after. */
+static struct sock_filter *search(struct sock_filter *at, const struct sock_filter *end, const int *numbers, int count)
+{
+	int half = count / 2;
+	if (count == 1) {
+		*at = (struct sock_filter)BPF_JUMP(BPF_JMP | BPF_JEQ | BPF_K, *numbers, end - at - 1, end - at);
+		return at + 1;
+	}
+	*at = (struct sock_filter)BPF_JUMP(BPF_JMP | BPF_JGE | BPF_K, numbers[half], 2 * half - 1, 0);
+	return search(search(at + 1, end, numbers, half), end, numbers + half, count - half);
+}
+
+/* Lets the process, and all programs that it runs, make these calls alone. Another one ends it. The system runs the
+ * filter for each number that there is as it takes it, so a search by halves makes it cheap to take. */
 static void filter(void)
 {
-	enum { COUNT = sizeof allowed / sizeof *allowed };
 	static const struct sock_filter head[] = {
 		BPF_STMT(BPF_LD | BPF_W | BPF_ABS, offsetof(struct seccomp_data, arch)),
 		BPF_JUMP(BPF_JMP | BPF_JEQ | BPF_K, ARCH, 1, 0),
@@ -137,15 +161,16 @@ static void filter(void)
 #endif
 		UNLESS(SYS_prlimit64, 0, ~0U), /* its own limits, which it can only lower */
 	};
-	enum { FRONT = sizeof head / sizeof *head };
-	struct sock_filter code[FRONT + 2 * COUNT + 1];
+	static const struct sock_filter ends[] = {
+		BPF_STMT(BPF_RET | BPF_K, SECCOMP_RET_ALLOW),
+		BPF_STMT(BPF_RET | BPF_K, SECCOMP_RET_KILL_PROCESS),
+	};
+	enum { COUNT = sizeof allowed / sizeof *allowed, FRONT = sizeof head / sizeof *head, BEHIND = FRONT + 2 * COUNT - 1 };
+	struct sock_filter code[BEHIND + 2];
+	qsort(allowed, COUNT, sizeof *allowed, order);
 	memcpy(code, head, sizeof head);
-	for (int i = 0; i < COUNT; i++) {
-		code[FRONT + 2 * i] = (struct sock_filter)BPF_JUMP(BPF_JMP | BPF_JEQ | BPF_K, allowed[i], 0, 1);
-		code[FRONT + 2 * i + 1] = (struct sock_filter)BPF_STMT(BPF_RET | BPF_K, SECCOMP_RET_ALLOW);
-	}
-	code[FRONT + 2 * COUNT] = (struct sock_filter)BPF_STMT(BPF_RET | BPF_K, SECCOMP_RET_KILL_PROCESS);
-	struct sock_fprog program = { .len = FRONT + 2 * COUNT + 1, .filter = code };
+	memcpy(search(code + FRONT, code + BEHIND, allowed, COUNT), ends, sizeof ends);
+	struct sock_fprog program = { .len = BEHIND + 2, .filter = code };
 	want(prctl(PR_SET_SECCOMP, SECCOMP_MODE_FILTER, &program, 0, 0), "the filter");
 }
 
@@ -157,14 +182,14 @@ int main(int argc, char **argv)
 	if (!is_pre && !is_user)
 		refuse("call it as launcher child-pre SESSION or launcher child-user SESSION UID NAME", "");
 	uid_t uid = is_user ? user_of(argv[3]) : 0;
-	struct passwd user = unprivileged(name && *name ? name : "nobody");
+	struct ids user = unprivileged(name && *name ? name : "nobody");
 	argv[0] = (char *)(path && *path ? path : "/usr/local/sbin/otplogd");
 
 	/* A session of its own has no terminal. */
 	if (getsid(0) != getpid())
 		want(setsid(), "setsid");
 	want(close_range(3, ~0U, 0), "close_range");
-	become(is_user ? uid : user.pw_uid, user.pw_gid);
+	become(is_user ? uid : user.uid, user.gid);
 	for (size_t i = 0; i < sizeof limits / sizeof *limits; i++) {
 		struct rlimit limit = { limits[i].most, limits[i].most };
 		want(setrlimit(limits[i].kind, &limit), "setrlimit");
