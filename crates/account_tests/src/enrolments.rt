@@ -152,17 +152,22 @@ fn account_line(alloc: Global, account: &Account) -> Result<String, AllocError> 
     format!(in alloc; "{name} {uid} {sequence} {password:016x} {enabled} {grants}\n")
 }
 
-/// The accounts of a file, a line each; nothing where it is no setup.
-fn accounts_in(alloc: Global, bytes: &[u8]) -> Result<String, AllocError> {
+/// The lines of these accounts.
+fn lines_of(alloc: Global, accounts: &[Account]) -> Result<String, AllocError> {
     let mut text = String::new(alloc);
-    let Ok(setup) = read_setup(alloc, bytes) else {
-        return Ok(text);
-    };
-    for account in setup.parts().accounts.as_slice() {
+    for account in accounts {
         let line = account_line(alloc, account)?;
         text.push_str(line.as_str())?;
     }
     Ok(text)
+}
+
+/// The accounts of a file, a line each; nothing where it is no setup.
+fn accounts_in(alloc: Global, bytes: &[u8]) -> Result<String, AllocError> {
+    let Ok(setup) = read_setup(alloc, bytes) else {
+        return Ok(String::new(alloc));
+    };
+    lines_of(alloc, setup.parts().accounts.as_slice())
 }
 
 /// Whether a setup of these texts, one behind the other, has these accounts.

@@ -372,17 +372,29 @@ fn hears_on<S: Site, N: Net>(
     Ok(hears)
 }
 
-/// Whether a new site's post at a place with this launcher hears its user's child on.
-fn is_heard_on(rt: HostRuntime, launcher: &str) -> Result<bool, Fault> {
-    let user = Name::of(b"bob").ok_or("a name")?;
-    let role = Role::User {
+/// The role of bob's child in session 7.
+fn role_of_bob() -> Option<Role> {
+    let user = Name::of(b"bob")?;
+    Some(Role::User {
         session: 7,
         uid: 1001,
         user,
-    };
-    let place = temporary_place(&rt, rt.process(), "logged_in", launcher)?;
+    })
+}
+
+/// Whether a new site's post at this place hears its user's child on.
+fn is_heard_at(rt: HostRuntime, place: &Place) -> Result<bool, Fault>
+    requires { place.now.workers ≡ 2 }
+{
+    let role = role_of_bob().ok_or("a name")?;
     let mut site = RealSite::with_limits(rt, rt.alloc(), short_login());
-    let is_heard = hears_on(&rt, &mut site, &place, &role)?;
+    hears_on(&rt, &mut site, place, &role)
+}
+
+/// The same of a place with this launcher.
+fn is_heard_on(rt: HostRuntime, launcher: &str) -> Result<bool, Fault> {
+    let place = temporary_place(&rt, rt.process(), "logged_in", launcher)?;
+    let is_heard = is_heard_at(rt, &place)?;
     clear(&rt, &place)?;
     Ok(is_heard)
 }
