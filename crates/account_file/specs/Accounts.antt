@@ -18,25 +18,25 @@ use Rattle.account_file.specs.Faults.{demand_at}
 use Rattle.account_file.specs.Keys.{read_spelled, passed, read_number, seed_spelled, password_spelled}
 use Rattle.account_file.specs.Trees.{are_known, read_each}
 
--- a key in an account
+-- a key of the account at this place
 abbrev pub spot_in : ℕ → SetupKey → Spot
 spot_in account key = record { key = key; account = account }
 
--- the keys of a grant
+-- the keys that a grant may have
 abbrev pub grant_keys : List (List ℕ)
 grant_keys = codes "name" ∷ codes "mode" ∷ []
 
--- the keys of an account
+-- the keys that an account may have
 abbrev pub account_keys : List (List ℕ)
 account_keys = codes "name" ∷ codes "uid" ∷ codes "algorithm" ∷ codes "seed" ∷ codes "sequence" ∷ codes "password" ∷ codes "enabled" ∷ codes "grants" ∷ []
 
--- what is read, where it is not taken
+-- a value that was read, if no earlier one is the same
 abbrev pub untaken : {A : Type 0} → Spot → (A → Bool) → Result A SetupFault → Result A SetupFault
 untaken spot is_taken read = do
   value ← read
   demand_at spot rules.Twice (then_some (not (is_taken value)) value)
 
--- a grant in an account, behind others
+-- a grant from its keys, for a file that no earlier grant of the account has
 abbrev pub read_grant : ℕ → List GrantEntry → Data → Result GrantEntry SetupFault
 read_grant account others value = do
   entries ← demand_at (spot_in account keys.Grants) rules.Kind (as_table value)
@@ -45,7 +45,8 @@ read_grant account others value = do
   mode ← read_number (spot_in account keys.GrantMode) 1 3 (get_member (codes "mode") known)
   Ok (record { name = name; mode = mode })
 
--- the account of a table's keys, behind accounts of these names and user numbers; it is enabled where nothing is said of that
+-- an account from its keys, with a name and a number that no earlier one has; it is enabled unless the file says
+-- otherwise
 abbrev pub read_account_keys : ℕ → List (List ℕ) → List ℕ → Members → Result AccountEntry SetupFault
 read_account_keys account names uids entries = do
   name ← untaken (spot_in account keys.Name) (λ name. list_any (λ other. bytes_eq other name) names) (read_spelled (spot_in account keys.Name) (passed is_name) (get_member (codes "name") entries))
@@ -58,13 +59,13 @@ read_account_keys account names uids entries = do
   grants ← read_each (spot_in account keys.Grants) 64 (read_grant account) (get_member (codes "grants") entries)
   Ok (record { name = name; uid = uid; algo = algo; seed = seed; sequence = sequence; password = password; enabled = enabled; grants = grants })
 
--- the account at a place from 1, behind accounts of these names and user numbers
+-- the account at a place, counted from 1, after accounts of these names and user numbers
 abbrev pub read_account : ℕ → List (List ℕ) → List ℕ → Data → Result AccountEntry SetupFault
 read_account account names uids value = do
   entries ← demand_at (spot_in account keys.Account) rules.Kind (as_table value)
   known ← demand_at (spot_in account keys.Other) rules.Unknown (passed (are_known account_keys) entries)
   read_account_keys account names uids known
 
--- the account behind others
+-- the next account, after these others
 abbrev pub next_account : List AccountEntry → Data → Result AccountEntry SetupFault
 next_account others = read_account (length others + 1) (map (λ other. other.name) others) (map (λ other. other.uid) others)

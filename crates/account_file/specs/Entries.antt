@@ -9,12 +9,12 @@ use Rattle.policy_model.specs.declared.account.Grant.{Grant}
 use Rattle.policy_model.specs.declared.account.Account.{Account}
 use Rattle.policy_model.specs.Settings.{Settings}
 
--- a grant: the bytes of its name, and its mode
+-- all that a setup file says of one grant: a file's label and a mode
 pub record GrantEntry : Type 0 where
   pub name : List ℕ
   pub mode : ℕ
 
--- an account: the bytes of its name and its seed, and the rest
+-- all that a setup file says of one account
 pub record AccountEntry : Type 0 where
   pub name : List ℕ
   pub uid : ℕ
@@ -25,7 +25,7 @@ pub record AccountEntry : Type 0 where
   pub enabled : Bool
   pub grants : List GrantEntry
 
--- the texts of a setup
+-- the five texts of a setup file
 pub record TextEntries : Type 0 where
   pub socket : List ℕ
   pub launcher : List ℕ
@@ -33,7 +33,7 @@ pub record TextEntries : Type 0 where
   pub words : List ℕ
   pub banner : List ℕ
 
--- a setup
+-- all that a setup file says
 pub record SetupEntries : Type 0 where
   pub texts : TextEntries
   pub salt : List ℕ
@@ -42,11 +42,11 @@ pub record SetupEntries : Type 0 where
   pub info : List ℕ
   pub accounts : List AccountEntry
 
--- what a file says of a grant
+-- what a setup file says of this grant
 abbrev pub grant_entry : Grant → GrantEntry
 grant_entry g = record { name = label_bytes g.name; mode = g.mode }
 
--- what a file says of an account
+-- what a setup file says of this account
 abbrev pub account_entry : Account → AccountEntry
 account_entry a = record {
   name = name_bytes a.name;
@@ -59,7 +59,7 @@ account_entry a = record {
   grants = map grant_entry a.grants;
 }
 
--- what a file says of a setup
+-- what a setup file says of this setup
 abbrev pub entries_of : Settings → SetupEntries
 entries_of s = record {
   texts = record { socket = s.socket; launcher = s.launcher; vault = s.vault; words = s.words; banner = s.banner };

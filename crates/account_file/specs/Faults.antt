@@ -6,11 +6,11 @@ use Rattle.account_file.specs.declared.fault.SetupError.{SetupError}
 use Rattle.account_file.specs.declared.fault.SetupError.TheVariants.{Refused, OutOfMemory}
 use Rattle.account_file.specs.declared.fault.Spot.{Spot}
 
--- the fault of a rule that the value at a spot breaks
+-- the fault that the value at this key breaks this rule
 abbrev pub spot_fault : Spot → SetupRule → SetupFault
 spot_fault spot rule = record { key = spot.key; rule = rule; account = spot.account }
 
--- what is there, or else the fault of a rule
+-- a value if it is there, otherwise the fault of this rule at this key
 abbrev pub demand_at : {A : Type 0} → Spot → SetupRule → Option A → Result A SetupFault
 demand_at spot rule there = ok_or there (spot_fault spot rule)
 

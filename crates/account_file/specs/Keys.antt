@@ -24,36 +24,36 @@ read_string spot value = do
   there ← demand_at spot rules.Missing value
   demand_at spot rules.Kind (as_str there)
 
--- the string at a key that must be there, as what it spells
+-- what the string at a key that must be there spells
 abbrev pub read_spelled : {A : Type 0} → Spot → (List ℕ → Option A) → Option Data → Result A SetupFault
 read_spelled spot spells value = do
   bytes ← read_string spot value
   demand_at spot rules.Text (spells bytes)
 
--- what passes a test
+-- a value that passes the test
 abbrev pub passed : {A : Type 0} → (A → Bool) → A → Option A
 passed test a = then_some (test a) a
 
--- a whole number of low to high
+-- a whole number from `low` to `high`
 abbrev pub number_in : ℕ → ℕ → ℤ → Option ℕ
 number_in low high (pos n) = then_some (is_number low high n) n
 number_in low high (negsuc n) = None
 
--- a number of low to high
+-- the whole number at a key that must be there, from `low` to `high`
 abbrev pub read_number : Spot → ℕ → ℕ → Option Data → Result ℕ SetupFault
 read_number spot low high value = do
   there ← demand_at spot rules.Missing value
   number ← demand_at spot rules.Kind (as_integer there)
   demand_at spot rules.Range (number_in low high number)
 
--- a width's name
+-- the width of frames that a word names
 abbrev pub width_named : List ℕ → Option Width
 width_named bytes = option_or (then_some (bytes_eq bytes (codes "narrow")) Narrow) (then_some (bytes_eq bytes (codes "wide")) Wide)
 
--- a seed's text, in lower case
+-- the seed that a text spells, in lower case
 abbrev pub seed_spelled : List ℕ → Option (List ℕ)
 seed_spelled bytes = then_some (is_seed_text bytes) (map to_ascii_lowercase bytes)
 
--- a password's 16 hexadecimal digits, the most significant first
+-- the password that 16 hexadecimal digits spell, the most significant first
 abbrev pub password_spelled : List ℕ → Option ℕ
 password_spelled bytes = option_map (from_be_bytes w64) (result_ok (decode_sized bytes 8))

@@ -23,19 +23,19 @@ use Rattle.account_file.specs.Faults.{demand_at}
 use Rattle.account_file.specs.Keys.{read_spelled, passed, number_in, read_number, width_named, seed_spelled}
 use Rattle.account_file.specs.Trees.{data_of, are_known, read_each}
 
--- a key outside the accounts
+-- a key of the setup itself, outside its accounts
 abbrev pub top : SetupKey → Spot
 top key = record { key = key; account = 0 }
 
--- the keys of the file
+-- the keys that a setup file may have
 abbrev pub setup_keys : List (List ℕ)
 setup_keys = codes "socket" ∷ codes "launcher" ∷ codes "vault" ∷ codes "words" ∷ codes "banner" ∷ codes "salt" ∷ codes "frames" ∷ codes "workers" ∷ codes "connections" ∷ codes "requests" ∷ codes "tries" ∷ codes "hold" ∷ codes "info" ∷ codes "account" ∷ []
 
--- the entries of a TOML document, where the bytes are UTF-8 and one
+-- the keys of a TOML document, if the bytes are UTF-8 and TOML
 abbrev pub document_of : List ℕ → Option Members
 document_of bytes = if utf8_valid_len bytes == length bytes then parse_document bytes else None
 
--- the texts; the banner is empty where it is not there
+-- the five texts of a setup, each in its range; the banner may be missing and is then empty
 abbrev pub read_texts : Members → Result TextEntries SetupFault
 read_texts entries = do
   socket ← read_spelled (top keys.Socket) (passed (is_text 1 100)) (get_member (codes "socket") entries)
@@ -45,7 +45,7 @@ read_texts entries = do
   banner ← option_map_or (λ value. read_spelled (top keys.Banner) (passed (is_text 0 200)) (Some value)) (get_member (codes "banner") entries) (Ok [])
   Ok (record { socket = socket; launcher = launcher; vault = vault; words = words; banner = banner })
 
--- the numbers
+-- the five numbers of a setup, each in its range
 abbrev pub read_counts : Members → Result Counts SetupFault
 read_counts entries = do
   workers ← read_number (top keys.Workers) 1 64 (get_member (codes "workers") entries)
@@ -55,12 +55,12 @@ read_counts entries = do
   hold ← read_number (top keys.Hold) 1 3600000 (get_member (codes "hold") entries)
   Ok (record { workers = workers; connections = connections; requests = requests; tries = tries; hold = hold })
 
--- what each passes as, where all do
+-- what each element passes as, if all pass
 abbrev pub all_some : {A B : Type 0} → (A → Option B) → List A → Option (List B)
 all_some test [] = Some []
 all_some test (a ∷ rest) = option_and_then (λ b. option_map (λ bs. b ∷ bs) (all_some test rest)) (test a)
 
--- at most 32 different numbers of information from 1 to 1,000
+-- at most 32 different numbers of information, each from 1 to 1,000
 abbrev pub info_items : List Data → Result (List ℕ) SetupFault
 info_items items = do
   integers ← demand_at (top keys.Info) rules.Kind (then_some (list_all (λ d. is_some (as_integer d)) items) items)
@@ -68,7 +68,8 @@ info_items items = do
   info ← demand_at (top keys.Info) rules.Range (all_some (λ d. option_and_then (number_in 1 1000) (as_integer d)) few)
   demand_at (top keys.Info) rules.Twice (then_some (are_distinct ◌==◌ info) info)
 
--- the setup of a document's entries; where they are not there, the salt is `decoy`, frames are narrow, and there are no numbers of information and no accounts
+-- a setup from its keys; without them the salt is `decoy`, frames are narrow, and there are no information and no
+-- accounts
 abbrev pub read_settings : Members → Result SetupEntries SetupFault
 read_settings entries = do
   texts ← read_texts entries

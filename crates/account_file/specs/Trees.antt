@@ -27,17 +27,17 @@ abbrev pub keys_of : Members → List (List ℕ)
 keys_of no_members = []
 keys_of (member k d ms) = k ∷ keys_of ms
 
--- each key of a table is among these
+-- a table has no keys but these
 abbrev pub are_known : List (List ℕ) → Members → Bool
 are_known known ms = list_all (λ k. list_any (bytes_eq k) known) (keys_of ms)
 
--- items read behind others that were read, each behind all those before it, or the first fault
+-- items read one after the other, each with those before it at hand, or the first fault
 abbrev pub read_behind : {A : Type 0} → (List A → Data → Result A SetupFault) → List A → List Data → Result (List A) SetupFault
 read_behind read earlier [] = Ok earlier
 read_behind read earlier (d ∷ ds) = do
   a ← read earlier d
   read_behind read (earlier ++ a ∷ []) ds
 
--- the items of an array of at most so many, each read behind those before it, and none where the key is not there
+-- the items of an array of at most so many, each read after those before it; none if the key is missing
 abbrev pub read_each : {A : Type 0} → Spot → ℕ → (List A → Data → Result A SetupFault) → Option Data → Result (List A) SetupFault
 read_each spot most read value = option_map_or (λ there. read_items spot most there >>= read_behind read []) value (Ok [])

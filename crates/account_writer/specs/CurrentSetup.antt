@@ -10,19 +10,19 @@ use Rattle.otp_ledger.specs.Standing.{StandsFor}
 use Rattle.account_file.specs.Entries.{entries_of}
 use Rattle.account_file.specs.Setups.{setup_of}
 
--- an account with the sequence and the password that are known of it
+-- an account with the sequence and the password that a ledger knows of it
 abbrev pub current_account : Account → AccountState → Account
 current_account a state = record a { sequence = state.sequence; password = current_of state }
 
--- the accounts with what is known of each, one beside the other
+-- a setup's accounts, each with what a ledger knows of it
 abbrev pub current_accounts : List Account → List AccountState → List Account
 current_accounts accounts states = map (λ p. current_account p.0 p.1) (zip accounts states)
 
--- a setup with each account's sequence and password as they are known, and all else as it was
+-- a setup with each account's sequence and password as a ledger knows them, all else as before
 abbrev pub current_setup : Settings → List AccountState → Settings
 current_setup setup states = record setup { accounts = current_accounts setup.accounts states }
 
--- the setup after a journal: each account's sequence and password as the journal says, and all else as it was
+-- the setup after a journal: each account's sequence and password as the journal leaves them, all else as before
 abbrev pub setup_after : Settings → List Event → Settings
 setup_after setup journal = record setup { accounts = map (account_after journal) setup.accounts }
 

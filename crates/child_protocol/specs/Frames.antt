@@ -10,11 +10,11 @@ use Rattle.request_catalogue.specs.Reading.{request_of}
 use Rattle.child_protocol.specs.declared.turn.Turn.{Turn}
 use Rattle.child_protocol.specs.declared.turn.Turn.TheVariants as turns
 
--- the width in which a child reads and writes; its frames, and the replies to them, are spelled alike in the wide one
+-- a child reads and writes narrow frames; its requests and their replies are the same bytes in wide ones
 abbrev pub frame_width : Width
 frame_width = widths.Narrow
 
--- the frame of a request
+-- the frame in which a child sends a request
 unfoldable pub request_bytes : RequestValue → List ℕ
 request_bytes request = spelling_of frame_width (request_message request)
 

@@ -19,23 +19,23 @@ abbrev pub asked_bytes : List Exchange → List ℕ
 asked_bytes [] = []
 asked_bytes (e ∷ before) = asked_bytes before ++ request_bytes e.request
 
--- messages in order, of a list with the latest first
+-- the frames of these messages, in order; the list has the latest first
 abbrev pub reply_bytes : List Message → List ℕ
 reply_bytes [] = []
 reply_bytes (message ∷ before) = reply_bytes before ++ spelling_of frame_width message
 
--- each message replies to the request at its place, with the answer there
+-- each message is the reply to the request at its place, with the answer there
 abbrev pub AreReplies : ℕ → List Exchange → List Message → Type 0
 AreReplies session [] [] = Unit {0}
 AreReplies session [] (message ∷ messages) = ⊥
 AreReplies session (e ∷ before) [] = ⊥
 AreReplies session (e ∷ before) (message ∷ messages) = IsMessage frame_width 16384 message × IsReply session e.request message e.answer × AreReplies session before messages
 
--- no reply to a request
+-- a message replies to this request with no answer at all
 abbrev pub IsNoReply : ℕ → RequestValue → Message → Type 0
 IsNoReply session request message = (answer : AnswerValue) → IsReply session request message answer → ⊥
 
--- the table of the ends: after these answers, with these bytes taken behind their replies, and this sent
+-- the table of ends: which answers a child had, which bytes it took after their replies, and what it sent
 abbrev pub EndsSo : ChildEnd → Role → ℕ → List AnswerValue → List ℕ → List ℕ → Option Link → Type 0
 EndsSo ends.Done role session answers rest sent link = (says role answers ≡ None) × (sent ≡ asked_bytes (exchanges_of role answers))
 EndsSo ends.Spent role session answers rest sent link = (length answers ≡ 4097) × (sent ≡ asked_bytes (exchanges_of role answers)) × ((request : RequestValue) × (says role answers ≡ Some request))
@@ -47,7 +47,8 @@ EndsSo ends.Unreadable role session answers rest sent link =
 EndsSo ends.LinkFault role session answers rest sent link =
     (request : RequestValue) × (says role answers ≡ Some request) × ((n : ℕ) × (sent ≡ asked_bytes (exchanges_of role answers) ++ take n (request_bytes request)))
 
--- a run took the replies with these answers, and ended so
+-- a child's run over its link: it took the replies of some answers, at most 4,097, sent the requests that they lead to,
+-- and ended so
 pub record HasRun (role : Role) (session : ℕ) (end : ChildEnd) (before after : Option Link) : Type 0 where
   pub answers : List AnswerValue
   pub few : length answers ≤ 4097

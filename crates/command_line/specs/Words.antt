@@ -14,7 +14,7 @@ abbrev pub are_plain : List (List ℕ) → Bool
 are_plain [] = false
 are_plain (mode ∷ further) = not (list_any begins_with_hyphen (mode ∷ further))
 
--- the words, where there is one and none begins with a hyphen
+-- the words of a command line, if there is one and none begins with a hyphen
 abbrev pub words_without_hyphen : List (List ℕ) → Option (List (List ℕ))
 words_without_hyphen words = then_some (are_plain words) words
 

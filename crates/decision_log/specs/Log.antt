@@ -13,15 +13,15 @@ use Rattle.policy_model.specs.declared.event.Why.{Why}
 use Rattle.policy_model.specs.declared.event.Why.TheVariants as whys
 use Rattle.policy_model.specs.Journal.{kept_events}
 
--- a space and a number
+-- a space, and a number in decimal
 abbrev pub spaced : ℕ → List ℕ
 spaced n = codes " " ++ decimal n
 
--- a space and bytes in hexadecimal
+-- a space, and bytes in hexadecimal
 abbrev pub spaced_hex : List ℕ → List ℕ
 spaced_hex bytes = codes " " ++ encode_lower bytes
 
--- why a session ended
+-- why a session ended, as a log spells it
 abbrev pub why_text : Why → List ℕ
 why_text whys.Finished = codes "finished"
 why_text whys.ChildEnded = codes "child-ended"
@@ -32,7 +32,7 @@ why_text whys.LinkFault = codes "link-fault"
 why_text whys.KeeperFault = codes "keeper-fault"
 why_text whys.LogLost = codes "log-lost"
 
--- what was asked; a file's name and a note in hexadecimal
+-- an ask as a log spells it, a file's label and a note in hexadecimal
 abbrev pub ask_text : Ask → List ℕ
 ask_text asks.Begin = codes "open"
 ask_text asks.Banner = codes "banner"
@@ -51,7 +51,7 @@ ask_text asks.Finish = codes "finish"
 ask_text (asks.Bad rule detail) = codes "bad" ++ spaced rule ++ spaced detail
 ask_text (asks.End why) = codes "end " ++ why_text why
 
--- what a permit gives: a number, or the accepted password as 16 hexadecimal digits; of other asks nothing is shown
+-- what a permit gives, where a log shows it: a number, or the accepted password in 16 hexadecimal digits
 abbrev pub value_text : Ask → ℕ → List ℕ
 value_text (asks.Challenge user now) value = spaced value
 value_text (asks.Export len) value = spaced value
@@ -60,21 +60,21 @@ value_text (asks.Info number) value = spaced value
 value_text (asks.Reply words hex) value = spaced_hex (to_be_bytes w64 value)
 value_text _ value = []
 
--- what was decided; a lost decision has no text
+-- a decision as a log spells it; a lost one has no text
 abbrev pub decision_text : Ask → Decision → List ℕ
 decision_text ask (decisions.Permit value) = codes "permit" ++ value_text ask value
 decision_text ask (decisions.Deny rule detail) = codes "deny" ++ spaced rule ++ spaced detail
 decision_text ask decisions.Lost = []
 
--- the line of the event with this number: the number, the worker, the session, the ask and the decision
+-- the line of an event: its number, the worker, the session, the ask and the decision
 unfoldable pub line_of : ℕ → Event → List ℕ
 line_of number e = decimal number ++ codes " w" ++ decimal e.worker ++ codes " s" ++ decimal e.session ++ codes " " ++ ask_text e.ask ++ codes " " ++ decision_text e.ask e.decision ++ codes "\n"
 
--- the lines of events, where so many stand before them
+-- the lines of these events, numbered on from so many before them
 abbrev pub lines_after : ℕ → List Event → List ℕ
 lines_after count [] = []
 lines_after count (e ∷ events) = line_of (count + 1) e ++ lines_after (count + 1) events
 
--- the lines of the events that were not lost, numbered from 1
+-- the text of a log: the lines of the events that weren't lost, numbered from 1
 abbrev pub log_text : List Event → List ℕ
 log_text journal = lines_after 0 (kept_events journal)

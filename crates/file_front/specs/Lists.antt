@@ -10,23 +10,23 @@ use Rattle.file_front.specs.declared.front.FrontError.TheVariants as front_error
 use Rattle.file_front.specs.declared.list.ListError.{ListError}
 use Rattle.file_front.specs.declared.list.ListError.TheVariants as errors
 
--- the text of a word list: the first 16,385 bytes of its file, of which no list that is accepted has so many
+-- the text of a word list: the first 16,385 bytes of its file; no list that is accepted has that many
 abbrev pub list_text : Option (List ℕ) → Option (List ℕ)
 list_text file = option_map (take 16385) file
 
--- a text was read from the file of this name, where the files tell what stands in them
+-- this text was read from the named file, if the files report
 abbrev pub IsTextOf : Option Contents → List ℕ → List ℕ → Type 0
 IsTextOf contents name text = IfSome contents (λ files. list_text (files name) ≡ Some text)
 
--- the list in the file of this name is judged so: these are its words, or this is its first fault
+-- the word list in the named file has these words, or this as its first fault
 abbrev pub IsJudgedSo : Option Contents → List ℕ → Result (List (List ℕ)) DictFault → Type 0
 IsJudgedSo contents name judgement = (text : List ℕ) × IsTextOf contents name text × (dictionary_of text ≡ judgement)
 
--- there is no file of this name
+-- there is no file of this name, if the files report
 abbrev pub IsMissing : Option Contents → List ℕ → Type 0
 IsMissing contents name = IfSome contents (λ files. files name ≡ None)
 
--- why the list in the file of this name was not read
+-- why a word list wasn't read: a read failed, memory ran out, or the file is missing or refused
 abbrev pub IsListFault : Option Contents → List ℕ → Type 0 → ListError → Type 0
 IsListFault contents name ReadFailed errors.Failed = ReadFailed
 IsListFault contents name ReadFailed errors.OutOfMemory = Unit {0}

@@ -5,12 +5,12 @@ use Rattle.request_catalogue.specs.declared.width.Width.{Width}
 use Rattle.imsg_frame.specs.Fields.{length_field}
 use Rattle.imsg_frame.specs.Message.{Message, spelling_of, IsMessage}
 
--- a whole message stands in front
+-- these bytes begin with this whole message
 pub record IsWholeFront (width : Width) (max : ℕ) (bytes : List ℕ) (message : Message) : Type 0 where
   pub right : IsMessage width max message
   pub front : (rest : List ℕ) × (bytes ≡ spelling_of width message ++ rest)
 
--- a whole header stands in front, and its length is wrong; len is that length, or 65,535 where it is greater
+-- these bytes begin with a whole header whose length is wrong; `len` is that length, or 65,535 if it is greater
 pub record IsBadFront (width : Width) (max : ℕ) (bytes : List ℕ) (len : ℕ) : Type 0 where
   pub header : 16 ≤ length bytes
   pub field : min (length_field width bytes) 65535 ≡ len

@@ -4,22 +4,23 @@ use Rattle.std.specs.Int.{w16, w32, to_le_bytes, from_le_bytes}
 use Rattle.request_catalogue.specs.declared.width.Width.{Width}
 use Rattle.request_catalogue.specs.declared.width.Width.TheVariants as widths
 
--- a length is below this number
+-- the length in a header is below this number
 abbrev pub len_limit : Width → ℕ
 len_limit widths.Narrow = 2 ^ 16
 len_limit widths.Wide = 2 ^ 31
 
--- flags are below this number: a wide frame has one, the mark of a descriptor
+-- flags are below this number; a wide frame has one flag, the descriptor's mark
 abbrev pub flags_limit : Width → ℕ
 flags_limit widths.Narrow = 2 ^ 16
 flags_limit widths.Wide = 2
 
--- a header's bytes 4 to 8: len and flags in two bytes each, or len with the mark above its 31 bits
+-- bytes 4 to 8 of a header: narrow, len and flags in two bytes each; wide, len with the descriptor's mark above its 31
+-- bits
 unfoldable pub len_bytes : Width → ℕ → ℕ → List ℕ
 len_bytes widths.Narrow len flags = to_le_bytes w16 len ++ to_le_bytes w16 flags
 len_bytes widths.Wide len flags = to_le_bytes w32 (len + 2 ^ 31 * flags)
 
--- the length that the header tells which the bytes begin with
+-- the length that the header in front of these bytes gives
 unfoldable pub length_field : Width → List ℕ → ℕ
 length_field widths.Narrow bytes = from_le_bytes w16 (take 2 (drop 4 bytes))
 length_field widths.Wide bytes = from_le_bytes w32 (take 4 (drop 4 bytes)) % 2 ^ 31

@@ -8,7 +8,7 @@ use Rattle.imsg_frame.specs.declared.frame.Frame.{Frame}
 use Rattle.imsg_frame.specs.declared.frame.OwnedFrame.{OwnedFrame}
 use Rattle.imsg_frame.specs.Fields.{len_bytes, len_limit, flags_limit}
 
--- a frame without where its body lies in memory
+-- a frame as plain values: its header and its body
 pub record Message : Type 0 where
   pub header : Header
   pub body : List ℕ
@@ -26,11 +26,11 @@ messages_in frames = map owned_message_of frames
 unfoldable pub header_bytes : Width → Header → List ℕ
 header_bytes width h = to_le_bytes w32 h.kind ++ len_bytes width h.len h.flags ++ to_le_bytes w32 h.peerid ++ to_le_bytes w32 h.pid
 
--- the header's bytes, and then the body
+-- the one spelling of a message in a width: the bytes of its header, and then its body
 unfoldable pub spelling_of : Width → Message → List ℕ
 spelling_of width message = header_bytes width message.header ++ message.body
 
--- each field is a number that has a place in the header's bytes
+-- each number of a header fits into its bytes
 pub record FitsFields (width : Width) (header : Header) : Type 0 where
   pub kind : header.kind < 2 ^ 32
   pub len : header.len < len_limit width
@@ -38,13 +38,13 @@ pub record FitsFields (width : Width) (header : Header) : Type 0 where
   pub peerid : header.peerid < 2 ^ 32
   pub pid : header.pid < 2 ^ 32
 
--- a message of at most max bytes, whose header tells its length
+-- a message of at most `max` bytes whose header gives its true length
 pub record IsMessage (width : Width) (max : ℕ) (message : Message) : Type 0 where
   pub fields : FitsFields width message.header
   pub len : message.header.len ≡ 16 + length message.body
   pub within : message.header.len ≤ max
 
--- the message of this body, with flags 0
+-- the message of this kind, peer, process and body, with flags 0
 abbrev pub composed_of : ℕ → ℕ → ℕ → List ℕ → Message
 composed_of kind peerid pid body = record {
   header = record { kind = kind; len = 16 + length body; flags = 0; peerid = peerid; pid = pid };

@@ -19,7 +19,7 @@ pub record IsCard (card : Card) : Type 0 where
 abbrev pub form_pieces : Form → List Piece
 form_pieces form = take form.len form.pieces
 
--- the text of a piece
+-- the text of a piece: fixed, or the user's name, number, algorithm or sequence
 abbrev pub piece_text : Card → Piece → List ℕ
 piece_text card (pieces.Fixed short) = short_bytes short
 piece_text card pieces.Name = name_bytes card.name
@@ -27,6 +27,6 @@ piece_text card pieces.Uid = decimal card.uid
 piece_text card pieces.Algo = algo_name card.algo
 piece_text card pieces.Sequence = decimal card.sequence
 
--- what a form says of a card: its pieces' texts, one behind the other
+-- what a form says of a card: the texts of its pieces, one after the other
 unfoldable pub said : Form → Card → List ℕ
 said form card = flat_map (piece_text card) (form_pieces form)

@@ -19,21 +19,20 @@ use Rattle.policy_model.specs.Verdict.{is_held, is_next_password, readings}
 
 -- ---- the other sessions
 
--- an event of a journal, just after these
+-- a journal begins with these events, and this event is the next
 pub record ComesAfter (journal before : List Event) (e : Event) : Type 0 where
   pub rest : List Event
   pub parts : journal ≡ before ++ e ∷ rest
 
--- the moment at which a user was last taken
+-- the moment at which a user was last taken; 0 if never
 abbrev pub taken_at : List Event → Name → ℕ
 taken_at before user = option_map_or (λ e. moment_of e.ask) (last_taking_of before user) 0
 
--- an ask is a CHALLENGE for the user
+-- an ask is a CHALLENGE for this user
 abbrev pub asks_for : Name → Ask → Bool
 asks_for user ask = is_user user (challenge_name ask)
 
--- where the session holds the user, an ask of another session for that user comes at a moment less than the hold after
--- the one at which this session was challenged
+-- if this session holds the user, another session's CHALLENGE for that user comes before the hold has run out
 abbrev pub ComesWithinHold : Settings → List Event → ℕ → Name → Event → Type 0
 ComesWithinHold setup before session user e =
     holder_of before user ≡ Some session → e.session ≢ session → asks_for user e.ask ≡ true
@@ -46,16 +45,15 @@ pub record RepliesWithinHold (setup : Settings) (journal : List Event) (session 
 
 -- ---- the user
 
--- just before the session's CHALLENGE: the user's account is enabled and has a password left, and no other session
--- holds the user within the hold
+-- just before the CHALLENGE the account is enabled and has a password left, and no other session holds the user within
+-- the hold
 pub record CanLogIn (setup : Settings) (before : List Event) (session : ℕ) (user : Name) (now : ℕ)
     (account : Account) : Type 0 where
   pub found : account_of setup user ≡ Some account
   pub live : is_live before account ≡ true
   pub free : is_held setup before session user now ≡ false
 
--- one of the two readings of a reply is the account's next password: its hash step is the current one, and it was not
--- accepted before
+-- one of a reply's two readings is the account's next password: it hashes to the current one and wasn't accepted before
 pub record IsRight (before : List Event) (account : Account) (words hex : Option ℕ) : Type 0 where
   pub next : list_any (is_next_password before account) (readings words hex) ≡ true
 

@@ -9,16 +9,16 @@ use Rattle.policy_model.specs.Legal.{next_event}
 use Rattle.policy_model.specs.Settings.{Settings}
 use Rattle.decision_log.specs.Log.{line_of, log_text}
 
--- the line that the first lost event would have had
+-- the line that the first lost event would have had; nothing if none was lost
 abbrev pub lost_line : Settings → List Event → List ℕ
 lost_line setup journal =
     let kept = kept_events journal in
     option_map_or (λ e. line_of (length kept + 1) (next_event setup kept e.worker e.ask)) (find (λ e. is_lost e.decision) journal) []
 
--- behind what the log held stand the lines of the events that were kept, and then a front of the line that was lost, if one was
+-- the log holds what it held, then the lines of the kept events, then at most a first part of the lost event's line
 pub record HoldsLines (setup : Settings) (journal : List Event) (before after : List ℕ) : Type 0 where
   pub lines : (n : ℕ) × (after ≡ before ++ log_text journal ++ take n (lost_line setup journal))
 
--- the same where the log tells what it holds
+-- where the log reports: it holds what it held and the lines of the journal (`HoldsLines`)
 abbrev pub LogMatches : Settings → List Event → Option (List ℕ) → Option (List ℕ) → Type 0
 LogMatches setup journal before after = Goes (HoldsLines setup journal) before after

@@ -24,46 +24,52 @@ use Rattle.welcome_laws.specs.Welcome.{UsersGetIn}
 
 -- ---- the journal is legal
 
--- each event is the policy's on those before it, or is lost with all later ones; each ask is proper, each worker the setup's
+-- every event is the policy's decision on those before it, or lost like all later ones; asks are proper, workers the
+-- setup's, events within the limit
 pub record JournalIsLegal (setup : Settings) (journal : List Event) : Type 0 where
   pub legal : IsLegal setup journal
   pub proper : AllByRecursion IsProperEvent journal
   pub workers : AllByRecursion (IsOfWorker setup) journal
   pub few : length journal ≤ EVENTS_LIMIT
 
--- a worker's events are its sessions, one after the other; at most one lost opening stands behind them
+-- each worker's events are whole sessions, one after the other, and none follows a lost opening or a session that ended
+-- by a loss
 pub record SessionsInOrder (service : Service) (journal : List Event) : Type 0 where
   pub in_order : (worker : ℕ) → (sittings : List Sitting) × AreSittingsOf service journal worker sittings
 
 -- ---- the operations and the bytes
 
--- it holds of each worker and of what its post tells, where it tells
+-- this holds of every worker and what its post reports, if it reports
 abbrev pub EachScene : {P : Type 0} → (P → Option Scene) → List P → (ℕ → Scene → Type 0) → Type 0
 EachScene {P} scene posts Holds = (worker : ℕ) (post : P) → slice_get posts worker ≡ Some post → IfSome (scene post) (Holds worker)
 
--- the operations done are those of the sessions, and nothing else but a last accept, which stands behind no loss; and the same sessions have the bytes that passed, and those that were left unread
+-- a post reports exactly its worker's sessions: their operations, the bytes sent, taken and left unread, and at most
+-- one last accept besides
 pub record ConversationsMatch {P : Type 0} (service : Service) (scene : P → Option Scene) (journal : List Event) (posts : List P) : Type 0 where
   pub held : EachScene scene posts (λ worker s. (sittings : List Sitting) × (last : LastAccept) × AreSittingsOf service journal worker sittings × IsStory sittings last s)
 
 -- ---- the length of the run
 
+-- how many sessions a worker opened
 abbrev pub openings_by : List Event → ℕ → ℕ
 openings_by journal worker = count_by (λ e. e.worker == worker && opens e) journal
 
+-- whether a decision of a worker was lost
 abbrev pub lost_by : List Event → ℕ → Bool
 lost_by journal worker = list_any (λ e. e.worker == worker && is_lost e.decision) journal
 
--- a worker that no accept stopped and of which no decision was lost has served as many sessions as the setup says
+-- a worker that no accept stopped and that lost no decision opened exactly as many sessions as the setup has
+-- connections
 pub record RunsToQuota {P : Type 0} (setup : Settings) (scene : P → Option Scene) (journal : List Event) (posts : List P) : Type 0 where
   pub quota : EachScene scene posts (λ worker s. list_any is_stop s.acts ≡ false → lost_by journal worker ≡ false → openings_by journal worker ≡ setup.connections)
 
 -- ---- accepts that failed
 
--- the last thing asked of a post was an accept, and it failed
+-- the last operation of a post was an accept that failed
 abbrev pub ends_by_accept_fault : Scene → Bool
 ends_by_accept_fault scene = option_map_or is_failed_accept (last_or None scene.acts) false
 
--- a worker's last accept failed, and its post counts that
+-- some worker's post counts a failed accept and reports one, if it reports, as its last operation
 pub record SomeAcceptFailed {P : Type 0} (scene : P → Option Scene) (faults : P → Faults) (posts : List P) : Type 0 where
   pub worker : ℕ
   pub post : P
@@ -71,37 +77,40 @@ pub record SomeAcceptFailed {P : Type 0} (scene : P → Option Scene) (faults : 
   pub counted : 0 < (faults post).accept
   pub told : IfSome (scene post) (λ s. ends_by_accept_fault s ≡ true)
 
--- no worker's last accept failed
+-- no worker's post reports a failed accept as its last operation
 pub record NoAcceptFailed {P : Type 0} (scene : P → Option Scene) (posts : List P) : Type 0 where
   pub told : EachScene scene posts (λ worker s. ends_by_accept_fault s ≡ false)
 
 -- ---- the ends by a fault
 
+-- how many of a worker's asks pass a test of ends
 abbrev pub ends_by : (Ask → Bool) → List Event → ℕ → ℕ
 ends_by test journal worker = count_by (λ e. e.worker == worker && test e.ask) journal
 
--- of a worker's ends at most as many are by a fault of a link or of a start as its post counts
+-- at most as many of a worker's sessions ended by a failed link or a failed start as its post counts
 pub record FaultEndsAreCounted {P : Type 0} (faults : P → Faults) (journal : List Event) (posts : List P) : Type 0 where
   pub link : (worker : ℕ) (post : P) → slice_get posts worker ≡ Some post → ends_by is_link_end journal worker ≤ (faults post).link
   pub keeper : (worker : ℕ) (post : P) → slice_get posts worker ≡ Some post → ends_by is_keeper_end journal worker ≤ (faults post).keeper
 
--- of accepts and starts each worker's post counts as many faults as it tells
+-- each post counts exactly the failed accepts and starts that it reports
 pub record FaultsAreCounted {P : Type 0} (scene : P → Option Scene) (faults : P → Faults) (posts : List P) : Type 0 where
   pub each : (worker : ℕ) (post : P) → slice_get posts worker ≡ Some post → IfSome (scene post) (λ s. CountsAsTold s (faults post))
 
 -- ---- completeness
 
--- no count of a post is above 0 but those of connections and of users' files, whose faults are themselves answered
+-- a post counts no failed accept, no failed start and no link fault; faults of connections and of users' files may be
+-- counted, since they are answered
 pub record IsFaultless {P : Type 0} (faults : P → Faults) (post : P) : Type 0 where
   pub no_accept_fault : (faults post).accept ≡ 0
   pub no_keeper_fault : (faults post).keeper ≡ 0
   pub no_link_fault : (faults post).link ≡ 0
 
+-- every post is without a fault (`IsFaultless`)
 pub record AreFaultless {P : Type 0} (faults : P → Faults) (posts : List P) : Type 0 where
   pub each : (worker : ℕ) (post : P) → slice_get posts worker ≡ Some post → IsFaultless faults post
 
--- a worker's sessions: they are all its events and tell this story, each of their requests is answered, and each user
--- who comes to log in gets in
+-- a worker's sessions are all its events, match what its post reports, got every answer, and welcomed each user who
+-- came to log in
 pub record IsServedWhole (service : Service) (journal : List Event) (worker : ℕ) (s : Scene) : Type 0 where
   pub sittings : List Sitting
   pub last : LastAccept
@@ -110,7 +119,7 @@ pub record IsServedWhole (service : Service) (journal : List Event) (worker : �
   pub answered : AllByRecursion (λ sitting. AreAnswered service [] sitting.parts) sittings
   pub welcomed : UsersGetIn service journal sittings
 
--- each session ended by what its child did, and each worker's sessions are served to their end
+-- no session ended by a fault, and each worker's sessions were served whole (`IsServedWhole`)
 pub record IsAnsweredWhole {P : Type 0} (service : Service) (scene : P → Option Scene) (journal : List Event)
     (posts : List P) : Type 0 where
   pub ended : list_any (λ e. is_fault_end e.ask) journal ≡ false

@@ -17,21 +17,20 @@ folded_sha1 digest =
     to_le_bytes w32 (bit_xor (bit_xor (word_at digest 0) (word_at digest 8)) (word_at digest 16))
     ++ to_le_bytes w32 (bit_xor (word_at digest 4) (word_at digest 12))
 
--- the folded digest of a message by each algorithm
+-- the folded digest of a text by each algorithm
 abbrev pub folded_by : Algo → List ℕ → List ℕ
 folded_by algos.Md5 message = folded_md5 (md5 message)
 folded_by algos.Sha1 message = folded_sha1 (sha1 message)
 
--- the password that a message hashes to: its folded digest, first byte most significant
+-- the password that a text hashes to: its folded digest, most significant byte first
 unfoldable pub password_of : Algo → List ℕ → ℕ
 password_of algo message = from_be_bytes w64 (folded_by algo message)
 
--- the hash step: the password that the eight bytes of a password hash to
+-- the hash step: what the eight bytes of a password hash to
 unfoldable pub hash_of : Algo → ℕ → ℕ
 hash_of algo password = password_of algo (to_be_bytes w64 password)
 
--- the password chain of a seed and a phrase: at 0 what the seed followed by the phrase hashes to,
--- then one hash step each
+-- the chain of a seed and a phrase: password 0 is what the two hash to, each further one a hash step more
 unfoldable pub chain_of : Algo → List ℕ → List ℕ → ℕ → ℕ
 chain_of algo seed phrase zero = password_of algo (seed ++ phrase)
 chain_of algo seed phrase (suc n) = hash_of algo (chain_of algo seed phrase n)

@@ -3,7 +3,7 @@ use Rattle.std.specs.Prelude.{ℕ, Bool, List, length, nat_le, ◌&&◌, ◌||�
 use Rattle.std.specs.Char.{is_ascii_alphanumeric, is_ascii_lowercase, is_ascii_digit}
 use Rattle.std.specs.List.{list_all}
 
--- 1 to 16 ASCII letters and digits
+-- a seed as it may be typed: 1 to 16 ASCII letters and digits
 unfoldable pub is_seed_text : List ℕ → Bool
 is_seed_text bytes = nat_le 1 (length bytes) && nat_le (length bytes) 16 && list_all is_ascii_alphanumeric bytes
 
@@ -11,6 +11,6 @@ is_seed_text bytes = nat_le 1 (length bytes) && nat_le (length bytes) 16 && list
 abbrev pub is_seed_byte : ℕ → Bool
 is_seed_byte c = is_ascii_lowercase c || is_ascii_digit c
 
--- 1 to 16 lower-case ASCII letters and digits
+-- a seed: 1 to 16 lower-case ASCII letters and digits
 unfoldable pub is_seed : List ℕ → Bool
 is_seed bytes = nat_le 1 (length bytes) && nat_le (length bytes) 16 && list_all is_seed_byte bytes

@@ -6,7 +6,7 @@ use Rattle.std.specs.List.{list_all}
 abbrev pub is_blank : ℕ → Bool
 is_blank c = c == 32 || c == 9
 
--- no space and no tab
+-- neither a space nor a tab
 abbrev pub is_no_blank : ℕ → Bool
 is_no_blank c = not (is_blank c)
 

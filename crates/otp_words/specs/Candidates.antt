@@ -3,7 +3,7 @@ use Rattle.std.specs.Prelude.{◌≡◌, ℕ, ◌^◌, ◌<◌, List, Option, So
 use Rattle.otp_words.specs.Hex.{hex_reading}
 use Rattle.otp_words.specs.Words.{IsSixWords}
 
--- what is read in words is spelled so, and what is spelled so is read; and the hexadecimal reading
+-- the two readings of a text: the password that it spells in six words, if it does, and the one in hexadecimal
 pub record AreCandidatesOf (dictionary : List (List ℕ)) (text : List ℕ) (words hex : Option ℕ) : Type 0 where
   pub found : IfSome words (IsSixWords dictionary text)
   pub only : (password : ℕ) → password < 2 ^ 64 → IsSixWords dictionary text password → words ≡ Some password

@@ -12,8 +12,7 @@ use Rattle.otp_words.specs.Blanks.{IsGap}
 abbrev pub challenge_word : Algo → List ℕ
 challenge_word algo = codes "otp-" ++ algo_name algo
 
--- the challenge of an algorithm, a number and a seed: the algorithm's word, the number in decimal
--- digits and the seed, with a space between, and a newline
+-- the challenge of an algorithm, a number and a seed: `otp-ALGORITHM NUMBER SEED` and a newline
 unfoldable pub challenge_of : Algo → ℕ → List ℕ → List ℕ
 challenge_of algo n seed = challenge_word algo ++ 32 ∷ decimal n ++ 32 ∷ seed ++ 10 ∷ []
 
@@ -21,21 +20,21 @@ challenge_of algo n seed = challenge_word algo ++ 32 ∷ decimal n ++ 32 ∷ see
 abbrev pub is_number_text : List ℕ → Bool
 is_number_text text = nat_le 1 (length text) && nat_le (length text) 4 && list_all is_ascii_digit text
 
--- the number of decimal digits, leading zeros allowed
+-- the number that decimal digits are, leading zeros allowed
 abbrev pub decimal_value : List ℕ → ℕ
 decimal_value digits = fold (λ number digit. number * 10 + (digit - 48)) 0 digits
 
--- a space or a newline
+-- the byte that ends a challenge: a space or a newline
 abbrev pub is_close : ℕ → Bool
 is_close c = c == 32 || c == 10
 
--- a number in one to four decimal digits
+-- one to four decimal digits, and the number that they are
 pub record IsNumber (digits : List ℕ) (n : ℕ) : Type 0 where
   pub legal : is_number_text digits ≡ true
   pub value : n ≡ decimal_value digits
 
--- a text begins with a challenge: the word of an algorithm, a number and a seed in any letter case,
--- with spaces and tabs between, then a space or a newline; up to that last byte it is used
+-- a text begins with a challenge: the algorithm's word, a number, a seed in any letter case, blanks between, then a
+-- space or newline, the last byte used
 pub record BeginsWithChallenge (text : List ℕ) (algo : Algo) (n : ℕ) (seed : List ℕ) (used : ℕ) : Type 0 where
   pub gap : List ℕ
   pub digits : List ℕ

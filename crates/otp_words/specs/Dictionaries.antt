@@ -13,10 +13,10 @@ pub record IsDictionary (words : List (List ℕ)) : Type 0 where
   pub legal : (i : ℕ) (word : List ℕ) → slice_get words i ≡ Some word → is_word word ≡ true
   pub different : (i j : ℕ) (word : List ℕ) → slice_get words i ≡ Some word → slice_get words j ≡ Some word → i ≡ j
 
--- the word of the plain list at a place: `Q` and three hexadecimal digits, with `A` for 0
+-- the plain list's word at a place: `Q` and three hexadecimal digits, written as `A` to `P`
 abbrev pub plain_word : ℕ → List ℕ
 plain_word place = 81 ∷ (65 + place / 256) ∷ (65 + place / 16 % 16) ∷ (65 + place % 16) ∷ []
 
--- the plain list
+-- the plain word list: 2,048 words that need no file
 unfoldable pub plain_words : List (List ℕ)
 plain_words = map plain_word (range_with_len 0 2048)

@@ -10,13 +10,12 @@ use Rattle.otp_words.specs.Blanks.{is_no_blank}
 abbrev pub hex_digits : ℕ → List ℕ
 hex_digits password = encode_upper (to_be_bytes w64 password)
 
--- a password as four groups of four digits with a space between
+-- a password as four groups of four hexadecimal digits
 unfoldable pub hex_text : ℕ → List ℕ
 hex_text password =
     let digits = hex_digits password in
     take 4 digits ++ 32 ∷ take 4 (drop 4 digits) ++ 32 ∷ take 4 (drop 8 digits) ++ 32 ∷ drop 12 digits
 
--- the password of a text of which 16 hexadecimal digits of any case and nothing else remain without
--- spaces and tabs: the digits of its eight bytes, the most significant first
+-- the password that 16 hexadecimal digits of any case spell, spaces and tabs left out; none if anything else is there
 unfoldable pub hex_reading : List ℕ → Option ℕ
 hex_reading text = option_map (from_be_bytes w64) (result_ok (decode_sized (filter is_no_blank text) 8))

@@ -9,7 +9,7 @@ use Rattle.otp_words.specs.declared.fault.DictRule.{DictRule}
 use Rattle.otp_words.specs.declared.fault.DictRule.TheVariants as rules_of
 use Rattle.otp_words.specs.declared.fault.DictFault.{DictFault}
 
--- the rule that a line breaks behind the words of the lines before it, if it breaks one
+-- the rule that a line breaks after these words, if any: its length, its letters, or a word that was there
 unfoldable pub rule_of : List (List ℕ) → List ℕ → Option DictRule
 rule_of earlier line =
     if not (nat_le 1 (length line) && nat_le (length line) 4) then Some rules_of.Length
@@ -17,11 +17,11 @@ rule_of earlier line =
     else if list_any (λ word. bytes_eq word (str_to_ascii_uppercase line)) earlier then Some rules_of.Twice
     else None
 
--- a fault at the line of a number, which stands still at the greatest that fits
+-- the fault of a rule in the line of this number, which stops at the greatest that fits
 abbrev pub fault_at : ℕ → DictRule → DictFault
 fault_at number rule = record { line = min number 4294967295; rule = rule }
 
--- the fault of the line at a place, if it breaks a rule behind the words of all lines before it
+-- the fault of the line at a place, given the lines before it, if it has one
 abbrev pub fault_of : List (List ℕ) → ℕ → Option DictFault
 fault_of lines i = option_map (fault_at (i + 1)) (rule_of (map str_to_ascii_uppercase (take i lines)) (slice_index_or lines i []))
 
@@ -29,11 +29,11 @@ fault_of lines i = option_map (fault_at (i + 1)) (rule_of (map str_to_ascii_uppe
 abbrev pub faults_of : List (List ℕ) → List DictFault
 faults_of lines = filter_map (fault_of lines) (range_with_len 0 (length lines))
 
--- the first fault of these lines; where no line has one, their words, if they are 2,048
+-- the first of these faults; without one the words of the lines, if they are 2,048
 abbrev pub judged : List (List ℕ) → List DictFault → Result (List (List ℕ)) DictFault
 judged lines (fault ∷ faults) = Err fault
 judged lines [] = if length lines == 2048 then Ok (map str_to_ascii_uppercase lines) else Err (fault_at (length lines) rules_of.Count)
 
--- the words of a text's lines, or the first fault
+-- the words of a list's lines, or its first fault
 unfoldable pub dictionary_of : List ℕ → Result (List (List ℕ)) DictFault
 dictionary_of text = judged (lines text) (faults_of (lines text))

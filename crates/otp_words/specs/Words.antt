@@ -9,11 +9,11 @@ use Rattle.otp_words.specs.Blanks.{is_blank}
 unfoldable pub check_bits : ℕ → ℕ
 check_bits password = sum (digits_of 2 32 password) % 4
 
--- the 66 bits of a password: its 64 bits, then its check bits
+-- the 66 bits of a password: its 64 bits, then its two check bits
 abbrev pub checked : ℕ → ℕ
 checked password = 4 * password + check_bits password
 
--- words with a space between
+-- these words, with a space between
 abbrev pub spaced : List (List ℕ) → List ℕ
 spaced [] = []
 spaced (word ∷ []) = word
@@ -23,11 +23,11 @@ spaced (word ∷ next ∷ words) = word ++ 32 ∷ spaced (next ∷ words)
 abbrev pub words_at : List (List ℕ) → List ℕ → List (List ℕ)
 words_at words places = map (λ i. slice_index_or words i []) places
 
--- a password as six words with a space between, eleven bits a word
+-- a password as six words of the list, with a space between
 unfoldable pub words_text : List (List ℕ) → ℕ → List ℕ
 words_text words password = spaced (words_at words (digits_of 11 6 (checked password)))
 
--- a text is the words of a list at these places, in any letter case, parted by spaces and tabs
+-- a text is the list's words at these places, in any letter case, with spaces or tabs between
 abbrev pub IsWords : List (List ℕ) → List ℕ → List ℕ → Type 0
 IsWords words [] text = ⊥
 IsWords words (i ∷ []) text = slice_get words i ≡ Some (str_to_ascii_uppercase text)
@@ -35,7 +35,7 @@ IsWords words (i ∷ j ∷ places) text =
     (front : List ℕ) × (gap : List ℕ) × (rest : List ℕ) × (text ≡ front ++ (gap ++ rest)) × (slice_get words i ≡ Some (str_to_ascii_uppercase front))
     × (1 ≤ length gap) × (list_all is_blank gap ≡ true) × IsWords words (j ∷ places) rest
 
--- a text spells a password in six words of a list with right check bits
+-- a text spells this password in six words of the list, with right check bits
 abbrev pub IsSixWords : List (List ℕ) → List ℕ → ℕ → Type 0
 IsSixWords words text password =
     (places : List ℕ) × (length places ≡ 6) × IsWords words places text × (number_of 11 places ≡ checked password)

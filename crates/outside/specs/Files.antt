@@ -1,7 +1,7 @@
 -- Believed: what stands in files, and what a reading gives of it.
 use Rattle.std.specs.Prelude.{◌≡◌, ◌≢◌, ◌⊎◌, ℕ, List, take, drop, Option, Some, None, option_map}
 
--- what stands in files: the bytes of the file of each name, if there is one
+-- all files: for each name the bytes of its file, if there is one
 abbrev pub Contents : Type 0
 Contents = List ℕ → Option (List ℕ)
 
@@ -14,15 +14,15 @@ bytes_read (Some n) buffer = Some (take n buffer)
 abbrev pub piece_of : Option (List ℕ) → ℕ → ℕ → Option (List ℕ)
 piece_of file offset room = option_map (λ bytes. take room (drop offset bytes)) file
 
--- each file is as it was
+-- every file is as it was
 pub record SameFiles (before after : Contents) : Type 0 where
   pub same : (name : List ℕ) → after name ≡ before name
 
--- the file of this name has these bytes, and each other file is as it was
+-- the file of this name has these bytes, and every other file is as it was
 pub record Replaced (name bytes : List ℕ) (before after : Contents) : Type 0 where
   pub file : after name ≡ Some bytes
   pub others : (other : List ℕ) → other ≢ name → after other ≡ before other
 
--- the file of this name is as it was or has these bytes, and each other file is as it was
+-- the file of this name is as it was or has these bytes, and every other file is as it was
 pub record MayBeReplaced (name bytes : List ℕ) (before after : Contents) : Type 0 where
   pub either : SameFiles before after ⊎ Replaced name bytes before after

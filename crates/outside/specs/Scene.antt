@@ -1,4 +1,4 @@
--- Believed: what a post tells, and what each of its calls adds to that.
+-- Believed: what a post reports, and what each of its calls adds to that.
 use Rattle.std.specs.Prelude.{◌≡◌, ℕ, ◌-◌, ◌^◌, min, Bool, true, false, List, [], ◌∷◌, ◌++◌, count_by, slice_get, take, zero, suc, unwrap_or, Option, Some, None, option_map, Result, Ok, Err, IfSome}
 use Rattle.outside.specs.declared.act.Failed.{Failed}
 use Rattle.outside.specs.declared.act.Role.{Role}
@@ -13,9 +13,8 @@ use Rattle.outside.specs.Faults.{AreCounts}
 use Rattle.outside.specs.Told.{Goes}
 use Rattle.outside.specs.Link.{Link}
 
--- what a post tells: the operations asked of it, what passed with the children given back, what
--- each of these had sent and nobody received, and what each connection's children have to send:
--- the one before the login and the user's
+-- what a post reports: its operations, what passed with each child, what nobody received, and what each connection's
+-- children have to send
 pub record Scene : Type 0 where
   pub acts : List Act
   pub talks : List Talk
@@ -58,12 +57,12 @@ is_coming _ = false
 abbrev pub came_count : List Act → ℕ
 came_count acts = count_by is_coming acts
 
--- the bytes that the child of this role has to send, of a connection's two
+-- of the bytes planned for a connection's two children, those of this role's
 abbrev pub bytes_for : Role → List ℕ × List ℕ → List ℕ
 bytes_for (Pre _) entry = entry.0
 bytes_for (User _ _ _) entry = entry.1
 
--- the bytes of the entry that stands at this place of the plan, counted from 1; none at no place
+-- what the child of this role has to send over the connection with this number, counted from 1; nothing for 0
 abbrev pub bytes_at : Role → List (List ℕ × List ℕ) → ℕ → List ℕ
 bytes_at role plan zero = []
 bytes_at role plan (suc k) = unwrap_or (option_map (bytes_for role) (slice_get plan k)) []
@@ -95,21 +94,21 @@ pub record IsFresh {P : Type 0} (scene : P → Option Scene) (faults : P → Fau
   pub unplayed : IfSome (scene post) IsUnplayed
   pub faultless : AreCounts 0 0 0 0 0 (faults post)
 
--- whether the operation is an accept that failed
+-- an operation is an accept, and it failed
 abbrev pub is_failed_accept : Act → Bool
 is_failed_accept (Accept AcceptFailed) = true
 is_failed_accept _ = false
 
--- whether the operation is the start of a child that failed
+-- an operation is the start of a child, and it failed
 abbrev pub is_failed_start : Act → Bool
 is_failed_start (Start role (Err failed)) = true
 is_failed_start _ = false
 
--- so many faults as a count says them, which stands still at its type's end
+-- so many faults as a count of 64 bits shows them: it stops at its greatest number
 abbrev pub counted : ℕ → ℕ
 counted number = min number (2 ^ 64 - 1)
 
--- the accepts and the starts that are told as failed are as many as are counted
+-- a post counts exactly the failed accepts and starts that it reports, up to the greatest number of a count
 pub record CountsAsTold (scene : Scene) (faults : Faults) : Type 0 where
   pub accept : faults.accept ≡ counted (count_by is_failed_accept scene.acts)
   pub keeper : faults.keeper ≡ counted (count_by is_failed_start scene.acts)

@@ -1,4 +1,4 @@
--- Believed: what follows of every legal journal, for each user that the setup has an account of. Places are counted from 0.
+-- Believed: what follows of every legal journal, for each user of the setup. Places are counted from 0.
 use Rattle.std.specs.Prelude.{ℕ, ◌≡◌, ◌≢◌, ◌≤◌, ◌<◌, ◌==◌, Bool, true, List, length, take, slice_get, Some, is_some}
 use Rattle.request_catalogue.specs.declared.texts.Name.{Name}
 use Rattle.otp_hash.specs.Hashing.{hash_of}
@@ -9,35 +9,38 @@ use Rattle.policy_model.specs.Journal.{is_own}
 use Rattle.policy_model.specs.Logins.{account_of, accepted_of, challenged_user, current_password, replies_of, reply_for}
 use Rattle.policy_model.specs.Settings.{Settings, account_number, are_distinct}
 
--- at a place stands an event that passes a test
+-- at this place of the journal stands an event that passes the test
 pub record StandsAt (journal : List Event) (test : Event → Bool) (place : ℕ) (e : Event) : Type 0 where
   pub stands : slice_get journal place ≡ Some e
   pub passes : test e ≡ true
 
--- at a place stands a permitted REPLY for the user
+-- at this place of the journal stands a permitted REPLY for the user
 pub record RepliesAt (journal : List Event) (user : Name) (place : ℕ) (e : Event) : Type 0 where
   pub stands : slice_get journal place ≡ Some e
   pub replies : is_some (reply_for user (record { before = take place journal; event = e })) ≡ true
 
--- no password of a user is accepted twice: all in the user's accepted list are different
+-- no password of a user is accepted twice: all its accepted passwords are different
 pub record NoPasswordTwice (setup : Settings) (journal : List Event) : Type 0 where
   pub distinct : (user : Name) (account : Account) → account_of setup user ≡ Some account → are_distinct ◌==◌ (accepted_of journal account) ≡ true
 
--- a user has at most as many permitted replies as the setup's sequence, and of the permitted CHALLENGEs for the user that aren't decoys, one behind a permitted REPLY for the user names a smaller number than each one before that REPLY
+-- a user has at most as many permitted replies as passwords in the setup, and each of them lowers the number that later
+-- challenges name, decoys aside
 pub record SequenceFalls (setup : Settings) (journal : List Event) : Type 0 where
   pub few : (user : Name) (account : Account) → account_of setup user ≡ Some account → length (replies_of journal user) ≤ account.sequence
   pub falls : (user : Name) (i k j : ℕ) (earlier reply later : Event) → i < k → k < j → StandsAt journal (reserves user) i earlier → RepliesAt journal user k reply → StandsAt journal (reserves user) j later → value_of later.decision < value_of earlier.decision
 
--- a permitted CHALLENGE for a user at place i is its session's last one before place k
+-- at place i stands a permitted CHALLENGE for the user, the last one of its session before place k
 pub record IsLastTaking (journal : List Event) (user : Name) (i k : ℕ) (taking : Event) : Type 0 where
   pub taken : StandsAt journal (takes_user user) i taking
   pub last : (n : ℕ) (e : Event) → i < n → n < k → StandsAt journal (takes_user user) n e → e.session ≢ taking.session
 
--- between a session's last permitted CHALLENGE for a user and its permitted REPLY for the user stands no permitted CHALLENGE for the user of any session, and no decoy
+-- between a session's last permitted CHALLENGE for a user and its permitted REPLY, no session has another permitted
+-- CHALLENGE for that user, decoys included
 pub record OneTakerAtATime (setup : Settings) (journal : List Event) : Type 0 where
   pub alone : (user : Name) (i k : ℕ) (taking reply : Event) → RepliesAt journal user k reply → IsLastTaking journal user i k taking → taking.session ≡ reply.session → (m : ℕ) (e : Event) → i < m → m < k → StandsAt journal (takes_user user) m e → ⊥
 
--- a permitted REPLY of a session, before place k, for the user of the account with a number: its password hashed to the current one
+-- before place k the session has a permitted REPLY for the account of this number, whose password hashed to the current
+-- one
 pub record IsVerifiedBefore (setup : Settings) (journal : List Event) (k session number : ℕ) : Type 0 where
   pub place : ℕ
   pub reply : Event
@@ -51,11 +54,12 @@ pub record IsVerifiedBefore (setup : Settings) (journal : List Event) (k session
   pub found : account_of setup user ≡ Some account
   pub hashes : hash_of account.algo (value_of reply.decision) ≡ current_password (take place journal) account
 
--- before each permitted EXPORT of a session stands such a REPLY for the account that it names
+-- before each permitted EXPORT its own session has a permitted REPLY for the account that the EXPORT names
 pub record VerifiedBeforeExport (setup : Settings) (journal : List Event) : Type 0 where
   pub verified : (k : ℕ) (e : Event) → slice_get journal k ≡ Some e → exports e ≡ true → IsVerifiedBefore setup journal k e.session (value_of e.decision)
 
--- all of these: each export of a user's state stands behind the session's own accepted reply for that user; no password of a user is accepted twice; a user's sequence falls with each; and nobody takes a user between a session's challenge and its accepted reply
+-- what every legal journal ensures: a login before each export, no password accepted twice, a sequence that falls, one
+-- taker at a time
 pub record HasConsequences (setup : Settings) (journal : List Event) : Type 0 where
   pub verified : VerifiedBeforeExport setup journal
   pub once : NoPasswordTwice setup journal

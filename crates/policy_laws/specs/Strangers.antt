@@ -1,4 +1,4 @@
--- Believed: what a session is shown that nobody has logged in by: it depends on nothing but what it asks and was told before.
+-- Believed: what a session is shown before anyone has logged in by it: this depends only on what it asks and was told before.
 use Rattle.std.specs.Prelude.{ℕ, ◌≡◌, ◌+◌, Bool, true, false, not, ◌&&◌, List, filter, map, take, Option, Some, None, slice_get}
 use Rattle.request_catalogue.specs.declared.kind.Kind.{Kind}
 use Rattle.policy_model.specs.declared.event.Ask.{Ask}
@@ -17,20 +17,22 @@ bare (Permit value) = Permit 0
 bare (Deny rule detail) = Deny rule 0
 bare Lost = Lost
 
--- a reply without its readings
+-- an ask, without the readings if it is a REPLY
 abbrev pub without_readings : Ask → Ask
 without_readings (asks.Reply words hex) = asks.Reply None None
 without_readings ask = ask
 
--- what a session was told of an ask: the kind of the request, none for a frame that is no request, and whether it was permitted, or the rule by which it was denied
+-- what a session was told of an ask: its kind, if it is a request, and whether it was permitted, or the rule that
+-- denied it
 pub record Told : Type 0 where
   pub kind : Option Kind
   pub decision : Decision
 
+-- what a session was told of an event
 abbrev pub told_of : Event → Told
 told_of e = record { kind = kind_of e.ask; decision = bare (shown_of e.decision) }
 
--- an event besides the opening and the end of its session
+-- an event that is neither a permitted opening nor an end
 abbrev pub is_between : Event → Bool
 is_between e = not (opens e) && not (is_end e.ask)
 
@@ -38,11 +40,12 @@ is_between e = not (opens e) && not (is_end e.ask)
 abbrev pub asks_in : List Event → ℕ → List Event
 asks_in journal session = filter (is_own session is_between) journal
 
--- what a session was told of them
+-- the dialogue of a session: what it was told of each ask between its opening and its end
 abbrev pub told_in : List Event → ℕ → List Told
 told_in journal session = map told_of (asks_in journal session)
 
--- at a place stands an event between its session's opening and end that is no CHALLENGE and not lost, and the session, opened before it, has no permitted REPLY up to and with it
+-- a stranger's ask at this place: its session is open, has no accepted REPLY so far, and it is no CHALLENGE and not
+-- lost
 pub record IsStrangersAsk (journal : List Event) (place : ℕ) (e : Event) : Type 0 where
   pub stands : slice_get journal place ≡ Some e
   pub opened : has_event (take place journal) e.session opens ≡ true
@@ -51,6 +54,9 @@ pub record IsStrangersAsk (journal : List Event) (place : ℕ) (e : Event) : Typ
   pub other : is_challenge e.ask ≡ false
   pub kept : is_lost e.decision ≡ false
 
--- such an event of this journal, and one of it or of any other legal journal with as many requests a session, are shown the same where they ask the same, readings aside, and their sessions were told the same before, whatever accounts stand behind the names
+-- strangers learn nothing of accounts: after the same dialogue, the same ask other than a CHALLENGE is shown the same,
+-- under any setup with as many requests a session
 pub record ShowsNoAccounts (setup : Settings) (journal : List Event) : Type 0 where
+  -- the readings of a reply may differ; dialogues are the same where the kinds of requests and what was told of each
+  -- are
   pub alike : (other_setup : Settings) (other : List Event) → other_setup.requests ≡ setup.requests → IsLegal other_setup other → (k j : ℕ) (e f : Event) → IsStrangersAsk journal k e → IsStrangersAsk other j f → told_in (take k journal) e.session ≡ told_in (take j other) f.session → without_readings e.ask ≡ without_readings f.ask → shown_of e.decision ≡ shown_of f.decision

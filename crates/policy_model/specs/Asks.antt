@@ -16,15 +16,17 @@ use Rattle.policy_model.specs.declared.event.Event.{Event}
 use Rattle.policy_model.specs.declared.reading.TheConstants.{DECOYS_FROM}
 use Rattle.policy_model.specs.Settings.{same_name}
 
+-- an ask is the opening of a session
 abbrev pub is_begin : Ask → Bool
 is_begin asks.Begin = true
 is_begin _ = false
 
+-- an ask is the end of a session
 abbrev pub is_end : Ask → Bool
 is_end (asks.End why) = true
 is_end _ = false
 
--- it came by a frame of a child
+-- an ask that came by a frame of a child: neither an opening nor an end
 abbrev pub came_by_frame : Ask → Bool
 came_by_frame ask = not (is_begin ask) && not (is_end ask)
 
@@ -38,11 +40,12 @@ abbrev pub challenge_name : Ask → Option Name
 challenge_name (asks.Challenge user now) = Some user
 challenge_name _ = None
 
+-- an ask is a CHALLENGE
 abbrev pub is_challenge : Ask → Bool
 is_challenge (asks.Challenge user now) = true
 is_challenge _ = false
 
--- the moment of a CHALLENGE, in milliseconds
+-- the moment of a CHALLENGE, in milliseconds; 0 for any other ask
 abbrev pub moment_of : Ask → ℕ
 moment_of (asks.Challenge user now) = now
 moment_of _ = 0
@@ -52,18 +55,18 @@ abbrev pub mode_of : Ask → ℕ
 mode_of (asks.OpenFile mode name) = mode
 mode_of _ = 0
 
--- the label that an OPEN gives
+-- the file's label that an OPEN gives
 abbrev pub label_named : Ask → Option Label
 label_named (asks.OpenFile mode name) = Some name
 label_named _ = None
 
--- the rule that an ask names is in its range
+-- the rule that an ask names is in its range: 2 to 5 for a bad frame, 1 to 7 for a violation
 abbrev pub is_proper : Ask → Bool
 is_proper (asks.Bad rule detail) = nat_le 2 rule && nat_le rule 5
 is_proper (asks.End (whys.Violation rule)) = nat_le 1 rule && nat_le rule 7
 is_proper _ = true
 
--- the kind of the request that an ask is
+-- the kind of the request that an ask is, if it is one
 abbrev pub kind_of : Ask → Option Kind
 kind_of asks.Begin = None
 kind_of asks.Banner = Some kinds.Banner
@@ -82,7 +85,7 @@ kind_of asks.Finish = Some kinds.Finish
 kind_of (asks.Bad rule detail) = None
 kind_of (asks.End why) = None
 
--- the request's number, and 0 for an opening, an end and a frame that is no request
+-- the number of the request that an ask is; 0 for an opening, an end and a frame that is no request
 abbrev pub request_number : Ask → ℕ
 request_number ask = option_map_or kind_number (kind_of ask) 0
 
@@ -90,34 +93,37 @@ request_number ask = option_map_or kind_number (kind_of ask) 0
 abbrev pub is_kind : Kind → Ask → Bool
 is_kind kind ask = request_number ask == kind_number kind
 
+-- a decision is a permit
 abbrev pub is_permit : Decision → Bool
 is_permit (decisions.Permit value) = true
 is_permit _ = false
 
+-- a decision was lost
 abbrev pub is_lost : Decision → Bool
 is_lost decisions.Lost = true
 is_lost _ = false
 
--- the value of a permit
+-- the value of a permit; 0 for any other decision
 abbrev pub value_of : Decision → ℕ
 value_of (decisions.Permit value) = value
 value_of _ = 0
 
--- a denial by one of the rules for replies
+-- a denial by one of the rules 13 to 16, which are about replies
 abbrev pub is_login_denial : Decision → Bool
 is_login_denial (decisions.Deny rule detail) = nat_le HOLD_LOST rule && nat_le rule NO_MATCH
 is_login_denial _ = false
 
--- what a child is told of a decision: that a reply was refused, and not why
+-- what a child is told of a decision: any denial by rules 13 to 16 as rule 16 with detail 0, any other decision as it
+-- is
 abbrev pub shown_of : Decision → Decision
 shown_of decision = if is_login_denial decision then decisions.Deny NO_MATCH 0 else decision
 
--- a denial that ends the session: by a rule of 1 to 7
+-- a denial that ends its session: by one of the rules 1 to 7
 abbrev pub is_violation : Decision → Bool
 is_violation (decisions.Deny rule detail) = nat_le 1 rule && nat_le rule 7
 is_violation _ = false
 
--- a session is opened by a permitted opening
+-- a permitted opening
 abbrev pub opens : Event → Bool
 opens e = is_begin e.ask && is_permit e.decision
 
@@ -125,26 +131,27 @@ opens e = is_begin e.ask && is_permit e.decision
 abbrev pub permits_kind : Kind → Event → Bool
 permits_kind kind e = is_kind kind e.ask && is_permit e.decision
 
--- after such an event its session is over: its end, a permitted FINISH, a violation, or a lost decision
+-- after this event its session is over: an end, a permitted FINISH, a denial by rules 1 to 7, or a lost decision
 abbrev pub ends_session : Event → Bool
 ends_session e = is_end e.ask || permits_kind kinds.Finish e || is_violation e.decision || is_lost e.decision
 
--- a permitted CHALLENGE takes its user
+-- a permitted CHALLENGE, for whatever user
 abbrev pub takes : Event → Bool
 takes e = is_some (challenge_name e.ask) && is_permit e.decision
 
--- a user is there, and it is this one
+-- a name is given, and it is this user's
 abbrev pub is_user : Name → Option Name → Bool
 is_user user found = option_map_or (λ name. same_name name user) found false
 
+-- a permitted CHALLENGE for this user
 abbrev pub takes_user : Name → Event → Bool
 takes_user user e = is_user user (challenge_name e.ask) && is_permit e.decision
 
--- a permitted CHALLENGE that isn't a decoy reserves its user
+-- a permitted CHALLENGE for this user that isn't a decoy, so it reserves the user
 abbrev pub reserves : Name → Event → Bool
 reserves user e = takes_user user e && nat_lt (value_of e.decision) DECOYS_FROM
 
--- after a REPLY, whatever was decided, and a permitted ABANDON its session holds no user
+-- after this event its session holds no user: a REPLY, whatever was decided, or a permitted ABANDON
 abbrev pub gives_up : Event → Bool
 gives_up e = is_kind kinds.Reply e.ask || permits_kind kinds.Abandon e
 
@@ -152,7 +159,7 @@ gives_up e = is_kind kinds.Reply e.ask || permits_kind kinds.Abandon e
 abbrev pub leaves : Event → Bool
 leaves e = gives_up e || ends_session e
 
--- what a session does with a user: it takes one or gives it up
+-- an event by which a session takes a user or gives it up
 abbrev pub is_login_step : Event → Bool
 is_login_step e = takes e || gives_up e
 
@@ -160,7 +167,7 @@ is_login_step e = takes e || gives_up e
 abbrev pub accepts : Event → Bool
 accepts e = permits_kind kinds.Reply e
 
--- a REPLY that was denied for what it said
+-- a REPLY that was denied by one of the rules 13 to 16
 abbrev pub is_denied_reply : Event → Bool
 is_denied_reply e = is_kind kinds.Reply e.ask && is_login_denial e.decision
 
@@ -172,6 +179,6 @@ exports e = permits_kind kinds.Export e
 abbrev pub opens_file : Event → Bool
 opens_file e = permits_kind kinds.OpenFile e
 
--- a permitted CLOSE of a handle
+-- a permitted CLOSE of this handle
 abbrev pub closes_file : ℕ → Event → Bool
 closes_file handle e = is_close handle e.ask && is_permit e.decision

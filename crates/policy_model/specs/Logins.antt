@@ -11,7 +11,7 @@ use Rattle.policy_model.specs.Journal.{Place, is_own, last_event, places_of}
 use Rattle.policy_model.specs.Phases.{is_over}
 use Rattle.policy_model.specs.Settings.{Settings, same_name}
 
--- the account of this name
+-- the setup's account of this user
 abbrev pub account_of : Settings → Name → Option Account
 account_of setup user = find (λ a. same_name a.name user) setup.accounts
 
@@ -39,15 +39,16 @@ last_taking_of journal user = last_or None (filter (reserves user) journal)
 abbrev pub session_taking : Option Event → ℕ
 session_taking taking = option_map_or (λ e. e.session) taking 0
 
--- the session of a user's last taking has a REPLY or a permitted ABANDON behind it
+-- since a user's last taking, the session that took it has sent a REPLY or had an ABANDON permitted
 unfoldable pub was_given_up : List Event → Name → Bool
 was_given_up journal user = list_any (is_own (session_taking (last_taking_of journal user)) gives_up) (after_last (reserves user) journal)
 
--- the holder of a user: the session of its last taking, unless that session has a REPLY or a permitted ABANDON behind it or is over
+-- the session that holds a user: the last to take it, unless that session has since sent a REPLY, had an ABANDON
+-- permitted, or is over
 unfoldable pub holder_of : List Event → Name → Option ℕ
 holder_of journal user = option_and_then (λ e. if was_given_up journal user || is_over journal e.session then None else Some e.session) (last_taking_of journal user)
 
--- the password of a permitted REPLY for the user; a REPLY is for the user of its session's last permitted CHALLENGE before it
+-- the password of a permitted REPLY, if its session's last permitted CHALLENGE before it was for this user
 abbrev pub reply_for : Name → Place → Option ℕ
 reply_for user place =
     if accepts place.event && is_user user (challenged_user place.before place.event.session)
@@ -57,26 +58,26 @@ reply_for user place =
 unfoldable pub replies_of : List Event → Name → List ℕ
 replies_of journal user = filter_map (reply_for user) (places_of journal)
 
--- the accepted passwords of an account: the setup's, then those of its permitted replies
+-- the accepted passwords of an account: the one in the setup, then those of its permitted replies
 abbrev pub accepted_of : List Event → Account → List ℕ
 accepted_of journal account = account.password ∷ replies_of journal account.name
 
--- the current password of an account: the one that was accepted last
+-- the current password of an account: the one accepted last
 abbrev pub current_password : List Event → Account → ℕ
 current_password journal account = unwrap_or (last_or None (accepted_of journal account)) 0
 
--- the current sequence of an account: the setup's less the number of its permitted replies
+-- how many passwords an account's chain has left: the setup's number less one for each permitted reply
 abbrev pub current_sequence : List Event → Account → ℕ
 current_sequence journal account = account.sequence - length (replies_of journal account.name)
 
--- an account with the sequence and the password that a journal says of it
+-- an account with the sequence and the password that a journal leaves it
 abbrev pub account_after : List Event → Account → Account
 account_after journal account = record account { sequence = current_sequence journal account; password = current_password journal account }
 
--- a password was accepted before
+-- a password of this account was accepted before, or is the one in the setup
 abbrev pub was_accepted : List Event → Account → ℕ → Bool
 was_accepted journal account password = list_any (nat_eq password) (accepted_of journal account)
 
--- the user of an account can log in: it is enabled, and its chain has a password left
+-- an account can log in: it is enabled, and its chain has a password left
 abbrev pub is_live : List Event → Account → Bool
 is_live journal account = account.enabled && not (current_sequence journal account == 0)

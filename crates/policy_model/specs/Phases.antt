@@ -12,11 +12,11 @@ use Rattle.policy_model.specs.declared.phase.TheConstants.Row as rows
 use Rattle.policy_model.specs.Asks.{accepts, ends_session, exports, is_login_step, opens, takes}
 use Rattle.policy_model.specs.Journal.{events_of, has_event, last_event}
 
--- a session was never opened, or one of its events ends it
+-- a session has no permitted opening, or one of its events ended it
 abbrev pub is_over : List Event → ℕ → Bool
 is_over journal session = not (list_any opens (events_of journal session)) || list_any ends_session (events_of journal session)
 
--- the phase of a session, by its events: the first that applies
+-- the phase of a session, by its events: over, user, verified, challenged or before the login, the first that applies
 unfoldable pub phase_of : List Event → ℕ → Phase
 phase_of journal session =
     if is_over journal session then Over
@@ -25,7 +25,7 @@ phase_of journal session =
     else (if option_map_or takes (last_event journal session is_login_step) false then Challenged
     else Pre)))
 
--- the phase table: what each phase says of each kind of request
+-- the phase table: whether a request of this kind is permitted in a phase, and whether only once
 abbrev pub table_row : Phase → Kind → Row
 table_row Over kind = rows.NONE
 table_row Pre kinds.Banner = rows.ONCE

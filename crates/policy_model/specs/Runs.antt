@@ -11,7 +11,7 @@ use Rattle.policy_model.specs.Settings.{Settings}
 pub record IsProperEvent (e : Event) : Type 0 where
   pub proper : is_proper e.ask ≡ true
 
--- an event is of a worker that the setup has
+-- the setup has the worker of this event
 pub record IsOfWorker (setup : Settings) (e : Event) : Type 0 where
   pub below : e.worker < setup.workers
 

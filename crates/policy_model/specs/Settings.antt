@@ -15,26 +15,27 @@ use Rattle.policy_model.specs.declared.ranges.TheConstants.{EVENTS_LIMIT}
 use Rattle.request_catalogue.specs.declared.width.Width.TheVariants.{Narrow}
 use Rattle.policy_model.specs.Salt.{plain_salt}
 
--- what an operator settles: the parts of a setup, in any ranges
+-- what an operator settles: the parts of a setup, in or out of their ranges
 abbrev pub Settings : Type 0
 Settings = SetupParts
 
--- the events that one worker can make: of each connection at most its requests, one more that is refused, its opening and its end
+-- the most events of one worker: for each connection its requests, one refused, the opening and the end
 abbrev pub quota_of : Settings → ℕ
 quota_of s = s.connections * (s.requests + 3)
 
--- the events that all workers of a run can make
+-- the most events that all workers of a run can make
 abbrev pub events_max : Settings → ℕ
 events_max s = s.workers * quota_of s
 
--- two names, and two labels, of the same bytes
+-- two names have the same bytes
 abbrev pub same_name : Name → Name → Bool
 same_name a b = bytes_eq (name_bytes a) (name_bytes b)
 
+-- two labels have the same bytes
 abbrev pub same_label : Label → Label → Bool
 same_label a b = bytes_eq (label_bytes a) (label_bytes b)
 
--- no element is the same as a later one
+-- no element of a list is the same as a later one
 abbrev pub are_distinct : {A : Type 0} → (A → A → Bool) → List A → Bool
 are_distinct same [] = true
 are_distinct same (x ∷ xs) = not (list_any (same x) xs) && are_distinct same xs
@@ -43,11 +44,11 @@ are_distinct same (x ∷ xs) = not (list_any (same x) xs) && are_distinct same x
 abbrev pub password_text : ℕ → List ℕ
 password_text password = encode_lower (to_be_bytes w64 password)
 
--- the texts of a setup
+-- a setup's texts, printable: socket of 1 to 100 bytes, launcher, vault and words 1 to 255, banner 0 to 200
 abbrev pub are_texts : Settings → Bool
 are_texts s = is_text 1 100 s.socket && is_text 1 255 s.launcher && is_text 1 255 s.vault && is_text 1 255 s.words && is_text 0 200 s.banner
 
--- a number of low to high
+-- a number from `low` to `high`
 abbrev pub is_number : ℕ → ℕ → ℕ → Bool
 is_number low high n = nat_le low n && nat_le n high
 
@@ -63,7 +64,7 @@ are_numbers info = nat_le (length info) 32 && list_all (is_number 1 1000) info &
 abbrev pub are_grants : List Grant → Bool
 are_grants grants = nat_le (length grants) 64 && list_all (λ g. is_number 1 3 g.mode) grants && are_distinct (λ a b. same_label a.name b.name) grants
 
--- an account by itself
+-- an account's user number, sequence and grants are in their ranges
 abbrev pub is_account : Account → Bool
 is_account a = is_number 1 4294967294 a.uid && nat_le a.sequence 9999 && are_grants a.grants
 
@@ -71,7 +72,7 @@ is_account a = is_number 1 4294967294 a.uid && nat_le a.sequence 9999 && are_gra
 abbrev pub are_accounts : List Account → Bool
 are_accounts accounts = nat_le (length accounts) 1024 && list_all is_account accounts && are_distinct (λ a b. same_name a.name b.name) accounts && are_distinct (λ a b. a.uid == b.uid) accounts
 
--- the ranges of a setup, by which a run makes no more events than it may
+-- the ranges of a setup, by which a run makes at most 1,048,576 events
 pub record IsInRange (s : Settings) : Type 0 where
   pub texts : are_texts s ≡ true
   pub workers : (1 ≤ s.workers) × (s.workers ≤ 64)
@@ -87,11 +88,11 @@ pub record IsInRange (s : Settings) : Type 0 where
 abbrev pub passes : Settings → Bool
 passes s = are_texts s && are_counts s && are_numbers s.info && nat_le (events_max s) EVENTS_LIMIT && are_accounts s.accounts
 
--- the number of the account of this name, counted from 0
+-- the number of this user's account in the setup, counted from 0
 abbrev pub account_number : Settings → Name → Option ℕ
 account_number s user = position (λ a. same_name a.name user) s.accounts
 
--- the setup that `serve` runs where no file is named
+-- the setup by which `serve` runs where no file is named
 abbrev pub plain_settings : Settings
 plain_settings = record {
   socket = codes "otplogd.sock";

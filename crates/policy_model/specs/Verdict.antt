@@ -33,17 +33,18 @@ use Rattle.policy_model.specs.Settings.{Settings, account_number, same_label}
 
 -- 4. CHALLENGE
 
--- another session holds the user, and its taking is less than the hold ago
+-- another session holds the user, and took it less than the hold ago
 abbrev pub is_held : Settings → List Event → ℕ → Name → ℕ → Bool
 is_held setup journal session user now =
     option_map_or (λ holder. not (holder == session)) (holder_of journal user) false
     && nat_lt now (option_map_or (λ e. moment_of e.ask) (last_taking_of journal user) 0 + setup.hold)
 
--- what a user is challenged with that can't log in
+-- the permit for a user who can't log in: 10,000 and the decoy's number
 abbrev pub decoy_challenge : Settings → Name → Decision
 decoy_challenge setup user = Permit (DECOYS_FROM + decoy_number setup user)
 
--- a user that can log in is challenged with the number of the next password, unless another session holds the user; any other user with a decoy
+-- who can log in is challenged by the number of the next password, or denied by rule 12 while another session holds the
+-- user; others get a decoy
 abbrev pub account_verdict : Settings → List Event → ℕ → Name → ℕ → Option Account → Decision
 account_verdict setup journal session user now None = decoy_challenge setup user
 account_verdict setup journal session user now (Some account) =
@@ -51,7 +52,7 @@ account_verdict setup journal session user now (Some account) =
     else (if is_held setup journal session user now then Deny USER_HELD (session_taking (last_taking_of journal user))
     else Permit (current_sequence journal account - 1))
 
--- a CHALLENGE for a user at a moment
+-- a CHALLENGE: rule 8 once the session has had as many replies denied as the setup allows tries
 unfoldable pub challenge_verdict : Settings → List Event → ℕ → Name → ℕ → Decision
 challenge_verdict setup journal session user now =
     if nat_le setup.tries (count_of journal session is_denied_reply) then Deny TRIES_SPENT setup.tries
@@ -59,33 +60,35 @@ challenge_verdict setup journal session user now =
 
 -- 5. REPLY
 
--- the readings of a reply, words before hexadecimal
+-- the readings of a reply, the one in words before the hexadecimal one
 abbrev pub readings : Option ℕ → Option ℕ → List ℕ
 readings words hex = option_to_list words ++ option_to_list hex
 
--- a password hashes to the current one, and wasn't accepted before
+-- a password hashes to the account's current one and wasn't accepted before
 abbrev pub is_next_password : List Event → Account → ℕ → Bool
 is_next_password journal account password =
     hash_of account.algo password == current_password journal account && not (was_accepted journal account password)
 
--- the readings against an account: the first one that is the next password, or rule 15 where one was accepted before
+-- the first reading that is the next password is permitted; otherwise rule 15 if one was accepted before, rule 16 if
+-- none
 abbrev pub passwords_verdict : List Event → List ℕ → Account → Decision
 passwords_verdict journal passwords account =
     option_map_or Permit (find (is_next_password journal account) passwords)
     (if list_any (was_accepted journal account) passwords then Deny PASSWORD_USED 0 else Deny NO_MATCH 0)
 
--- a REPLY for a user
+-- a REPLY for a user: rule 13 if its session doesn't hold the user, 14 if there is no reading, otherwise by the
+-- readings
 abbrev pub user_verdict : Settings → List Event → ℕ → List ℕ → Name → Decision
 user_verdict setup journal session passwords user =
     if not (option_map_or (λ holder. holder == session) (holder_of journal user) false) then Deny HOLD_LOST (session_taking (last_taking_of journal user))
     else (if length passwords == 0 then Deny NO_READING 0
     else option_map_or (passwords_verdict journal passwords) (account_of setup user) (Deny NO_MATCH 0))
 
--- a REPLY to a decoy
+-- a REPLY to a decoy is always denied: by rule 14 without a reading, otherwise by rule 16
 abbrev pub decoy_verdict : List ℕ → Decision
 decoy_verdict passwords = if length passwords == 0 then Deny NO_READING 0 else Deny NO_MATCH 0
 
--- a REPLY with its two readings
+-- a REPLY with its two readings, to a decoy or to a user; rule 13 if its session challenged nobody
 unfoldable pub reply_verdict : Settings → List Event → ℕ → Option ℕ → Option ℕ → Decision
 reply_verdict setup journal session words hex =
     if was_decoyed journal session then decoy_verdict (readings words hex)
@@ -93,37 +96,38 @@ reply_verdict setup journal session words hex =
 
 -- 6. what a session that is logged in asks
 
--- a mode has all of what is needed: 1 to read, 2 to write, 3 for both
+-- a mode has all that is needed: 1 to read, 2 to write, 3 for both
 abbrev pub allows : ℕ → ℕ → Bool
 allows mode needed = bit_and needed mode == needed
 
--- a READ or WRITE of a handle; 0 is the client's connection
+-- a READ or WRITE: rule 17 if the handle isn't open, 18 if its mode isn't enough; handle 0, the client's connection, is
+-- permitted
 unfoldable pub handle_verdict : List Event → ℕ → ℕ → ℕ → Decision
 handle_verdict journal session handle needed =
     if handle == 0 then Permit 0
     else option_map_or (λ e. if allows (mode_of e.ask) needed then Permit 0 else Deny MODE_LACKING handle) (handle_opening journal session handle) (Deny NO_HANDLE handle)
 
--- the grant of a file to the user that a session is logged in as
+-- the logged-in user's grant for a file, if there is one
 abbrev pub granted : Settings → List Event → ℕ → Label → Option Grant
 granted setup journal session name = find (λ g. same_label g.name name) (option_map_or (λ a. a.grants) (verified_account setup journal session) [])
 
--- an OPEN of a file
+-- an OPEN: rule 19 if eight handles are open, 20 without a grant, 21 beyond its mode; otherwise the least free handle
 unfoldable pub open_verdict : Settings → List Event → ℕ → ℕ → Label → Decision
 open_verdict setup journal session mode name =
     if nat_le 8 (length (live_handles_of journal session)) then Deny HANDLES_SPENT 8
     else option_map_or (λ grant. if allows grant.mode mode then Permit (free_handle_of journal session) else Deny MODE_NOT_GRANTED mode) (granted setup journal session name) (Deny NOT_GRANTED 0)
 
--- a CLOSE of a handle
+-- a CLOSE: permitted for an open handle, otherwise rule 17, also for handle 0
 unfoldable pub close_verdict : List Event → ℕ → ℕ → Decision
 close_verdict journal session handle =
     if handle == 0 || is_none (handle_opening journal session handle) then Deny NO_HANDLE handle else Permit 0
 
--- an INFO of a number
+-- an INFO: the user's current sequence, or rule 22 if the setup doesn't have the number
 unfoldable pub info_verdict : Settings → List Event → ℕ → ℕ → Decision
 info_verdict setup journal session number =
     if list_any (nat_eq number) setup.info then Permit (option_map_or (current_sequence journal) (verified_account setup journal session) 0) else Deny NO_INFORMATION number
 
--- the rules of one kind of request
+-- the rules of each kind of request; an EXPORT is permitted with the number of the user's account
 unfoldable pub kind_verdict : Settings → List Event → ℕ → Ask → Decision
 kind_verdict setup journal session (asks.Challenge user now) = challenge_verdict setup journal session user now
 kind_verdict setup journal session (asks.Reply words hex) = reply_verdict setup journal session words hex
@@ -137,26 +141,26 @@ kind_verdict setup journal session ask = Permit 0
 
 -- 3. the table
 
--- a request whose cell of the table this is: rule 6 where it is empty, rule 7 where one was permitted that may be only once
+-- a request by its cell of the phase table: rule 6 if it is empty, rule 7 for a second one that may be only once
 abbrev pub row_verdict : Settings → List Event → ℕ → Ask → Kind → Row → Decision
 row_verdict setup journal session ask kind row =
     if not row.permitted then Deny NOT_IN_PHASE (request_number ask)
     else (if row.once && has_event journal session (permits_kind kind) then Deny ONCE_ONLY (request_number ask)
     else kind_verdict setup journal session ask)
 
--- an ask in a session that isn't over and has asks left: a frame that is no request breaks its own rule, and of a request the phase says
+-- an ask that may still be made: a bad frame breaks its own rule, a request goes by the session's phase
 abbrev pub own_verdict : Settings → List Event → ℕ → Ask → Decision
 own_verdict setup journal session (asks.Bad rule detail) = Deny rule detail
 own_verdict setup journal session ask = option_map_or (λ kind. row_verdict setup journal session ask kind (table_row (phase_of journal session) kind)) (kind_of ask) (Permit 0)
 
--- 2. an ask other than an opening and an end, of the worker's open session: rule 6 where there is none or it is over, rule 1 where it has made all its asks
+-- a child's ask: rule 6 without an open session or in one that is over, rule 1 once the session made all its asks
 abbrev pub request_verdict : Settings → List Event → ℕ → Ask → Decision
 request_verdict setup journal session ask =
     if session == 0 || is_over journal session then Deny NOT_IN_PHASE (request_number ask)
     else (if ask_count journal session == setup.requests then Deny ASKS_SPENT setup.requests
     else own_verdict setup journal session ask)
 
--- 1. an opening, an end, any other ask
+-- the policy's verdict on what a worker asks after these events: the first rule that applies, otherwise a permit
 unfoldable pub verdict_of : Settings → List Event → ℕ → Ask → Decision
 verdict_of setup journal worker asks.Begin = if open_session_of journal worker == 0 then Permit (openings_of journal + 1) else Deny NOT_IN_PHASE 0
 verdict_of setup journal worker (asks.End why) = if open_session_of journal worker == 0 then Deny NOT_IN_PHASE 0 else Permit 0

@@ -11,7 +11,7 @@ use Rattle.request_catalogue.specs.Widths.{transfer_max}
 use Rattle.request_catalogue.specs.TextBytes.{name_bytes, label_bytes, note_bytes}
 use Rattle.request_catalogue.specs.Kinds.{kind_number}
 
--- a request without where its bytes lie in memory
+-- one of the thirteen requests, as plain values
 pub data RequestValue : Type 0 where
   Banner : RequestValue
   Challenge : (user : List ℕ) → RequestValue
@@ -75,7 +75,7 @@ IsInRange width (Info number) = number < 2 ^ 32
 IsInRange width (Note text) = IsTrue (is_note text)
 IsInRange width Finish = Unit {0}
 
--- the payload of a request, numbers with their lowest byte first
+-- the one payload of a request; numbers have their lowest byte first
 unfoldable pub payload_of : RequestValue → List ℕ
 payload_of Banner = []
 payload_of (Challenge user) = user

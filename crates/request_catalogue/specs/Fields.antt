@@ -2,7 +2,7 @@
 use Rattle.std.specs.Prelude.{◌≡◌, ℕ, ◌≤◌, List, length, take, drop}
 use Rattle.std.specs.Int.{Width, byte_len, from_le_bytes}
 
--- the number of this width that stands at a place of bytes
+-- the number that stands at a place of these bytes, lowest byte first
 unfoldable pub number_at : Width → ℕ → List ℕ → ℕ
 number_at w place bytes = from_le_bytes w (take (byte_len w) (drop place bytes))
 

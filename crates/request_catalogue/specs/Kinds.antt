@@ -19,7 +19,7 @@ kind_number kinds.Info = 11
 kind_number kinds.Note = 12
 kind_number kinds.Finish = 13
 
--- the thirteen kinds
+-- the thirteen kinds of requests
 abbrev pub all_kinds : List Kind
 all_kinds = kinds.Banner ∷ kinds.Challenge ∷ kinds.Reply ∷ kinds.Abandon ∷ kinds.Export ∷ kinds.Import ∷ kinds.ReadAt ∷ kinds.WriteAt ∷ kinds.OpenFile ∷ kinds.CloseFile ∷ kinds.Info ∷ kinds.Note ∷ kinds.Finish ∷ []
 

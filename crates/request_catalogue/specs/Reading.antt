@@ -13,7 +13,7 @@ use Rattle.request_catalogue.specs.Fields.{number_at}
 use Rattle.request_catalogue.specs.Kinds.{kind_number, kind_numbered}
 use Rattle.request_catalogue.specs.Catalogue.{RequestValue, Banner, Challenge, Reply, Abandon, Export, Import, ReadAt, WriteAt, OpenFile, CloseFile, Info, Note, Finish, kind_of, IsInRange, payload_of}
 
--- the table: what a payload asks in a message of each kind, if it is one, in frames of this width
+-- the table of requests: what a payload asks in a message of each kind, if it is a right one
 unfoldable pub asked_by : Width → Kind → List ℕ → Option RequestValue
 asked_by width kinds.Banner payload = then_some (length payload == 0) Banner
 asked_by width kinds.Challenge payload = then_some (is_name payload) (Challenge payload)
@@ -30,12 +30,12 @@ asked_by width kinds.Info payload = then_some (length payload == 4) (Info (numbe
 asked_by width kinds.Note payload = then_some (is_note payload) (Note payload)
 asked_by width kinds.Finish payload = then_some (length payload == 0) Finish
 
--- what a message with no flags asks
+-- what a message without flags asks; rule 4 for an unknown kind, rule 5 for a bad payload
 abbrev pub asked : Width → ℕ → List ℕ → Option Kind → Result RequestValue Bad
 asked width kind body None = Err (record { rule = UNKNOWN_KIND; detail = kind })
 asked width kind body (Some k) = ok_or (asked_by width k body) (record { rule = BAD_PAYLOAD; detail = kind })
 
--- the request of the catalogue that a message is, or the first rule that it breaks
+-- the request that a message is, or the first of rules 2 to 5 that it breaks, with its detail
 unfoldable pub request_of : Width → ℕ → ℕ → List ℕ → Result RequestValue Bad
 request_of width kind flags body = if flags % 2 == 1 then Err (record { rule = DESCRIPTOR_FLAG; detail = flags }) else (if flags == 0 then asked width kind body (kind_numbered kind) else Err (record { rule = OTHER_FLAGS; detail = flags }))
 

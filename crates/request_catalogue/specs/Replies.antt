@@ -8,11 +8,11 @@ use Rattle.request_catalogue.specs.Fields.{number_at}
 use Rattle.request_catalogue.specs.declared.answer.Answer.{Answer}
 use Rattle.request_catalogue.specs.declared.answer.Answer.TheVariants as answers
 
--- the kind of the reply to a message
+-- the kind of the reply to a message: 256 above a kind of 1 to 13 without flags, otherwise 256
 abbrev pub reply_kind_of : ℕ → ℕ → ℕ
 reply_kind_of kind flags = if flags == 0 && nat_le 1 kind && nat_le kind 13 then kind + 256 else 256
 
--- an answer without where its body lies in memory
+-- an answer: done with a body, denied by a rule with a detail, or the device that failed
 pub data AnswerValue : Type 0 where
   Done : (body : List ℕ) → AnswerValue
   Denied : (rule detail : ℕ) → AnswerValue
@@ -24,7 +24,7 @@ answer_of (answers.Done body) = Done body.now
 answer_of (answers.Denied rule detail) = Denied rule detail
 answer_of (answers.Device device) = Device device
 
--- the parts of an answer are in their ranges
+-- the numbers of an answer are in their ranges: rules 1 to 22, details of 32 bits, devices 1 and 2
 abbrev pub IsAnswer : AnswerValue → Type 0
 IsAnswer (Done body) = Unit {0}
 IsAnswer (Denied rule detail) = (1 ≤ rule) × (rule ≤ 22) × (detail < 2 ^ 32)
@@ -36,7 +36,7 @@ IsSendable width (Done body) = length body < body_max width
 IsSendable width (Denied rule detail) = IsAnswer (Denied rule detail)
 IsSendable width (Device device) = IsAnswer (Device device)
 
--- the reply of an answer, numbers with their lowest byte first
+-- the one body of a reply with this answer; numbers have their lowest byte first
 unfoldable pub reply_of : AnswerValue → List ℕ
 reply_of (Done body) = 0 ∷ body
 reply_of (Denied rule detail) = 1 ∷ rule ∷ to_le_bytes w32 detail

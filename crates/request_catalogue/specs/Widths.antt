@@ -3,7 +3,7 @@ use Rattle.std.specs.Prelude.{ℕ}
 use Rattle.request_catalogue.specs.declared.width.Width.{Width}
 use Rattle.request_catalogue.specs.declared.width.Width.TheVariants as widths
 
--- the most bytes of a frame: a header of 16, and the body
+-- the most bytes of a frame, its header of 16 bytes included
 abbrev pub frame_max : Width → ℕ
 frame_max widths.Narrow = 16384
 frame_max widths.Wide = 65536

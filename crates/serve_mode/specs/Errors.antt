@@ -9,7 +9,7 @@ use Rattle.serve_mode.specs.declared.error.ServeError.{ServeError}
 use Rattle.serve_mode.specs.declared.error.ServeError.TheVariants as errors
 use Rattle.serve_mode.specs.Words.{Named, Plain, Source}
 
--- the exit status where nothing was read to serve with
+-- the exit status where nothing was read to serve by: 3 failed, 4 missing, 5 refused, 9 out of memory
 abbrev pub unread_status : ServiceError → ℕ
 unread_status unread.Failed = 3
 unread_status unread.OutOfMemory = 9
@@ -18,7 +18,7 @@ unread_status unread.WordsMissing = 4
 unread_status (unread.SetupRefused fault) = 5
 unread_status (unread.WordsRefused fault) = 5
 
--- the exit status of an error
+-- the exit status of each error of the mode `serve`
 abbrev pub error_status : ServeError → ℕ
 error_status (errors.Unread error) = unread_status error
 error_status errors.OutOfMemory = 9
@@ -28,12 +28,12 @@ error_status errors.AcceptFailed = 10
 error_status errors.ReplaceFailed = 8
 error_status errors.LogNotFresh = 13
 
--- the exit status of a program that ends by what came of the mode
+-- the exit status for what came of the mode `serve`
 abbrev pub status_of : Result (Unit {0}) ServeError → ℕ
 status_of (Ok done) = 0
 status_of (Err error) = error_status error
 
--- why nothing was read to serve with: of the plain setup only memory may be wanted
+-- why nothing was read to serve by; by the plain setup only memory can run out
 abbrev pub IsUnread : Source → List Key → Option Contents → Type 0 → ServiceError → Type 0
 IsUnread Plain forms contents ReadFailed error = error ≡ unread.OutOfMemory
 IsUnread (Named name log) forms contents ReadFailed error = IsServiceError forms contents name ReadFailed error

@@ -27,26 +27,27 @@ use Rattle.serve_mode.specs.Words.{Named, Plain, Source}
 
 -- ---- where it listens
 
--- where the workers of a setup serve
+-- where a setup's workers serve: its socket, launcher, vault and number of workers
 abbrev pub setup_place : Settings → SitePlace
 setup_place setup = record { socket = setup.socket; launcher = setup.launcher; vault = setup.vault; workers = setup.workers }
 
--- the places where posts serve: the setup's, and none where there are no posts
+-- the places where a run listens: the setup's if there are posts, otherwise none
 abbrev pub served_places : {P : Type 0} → Settings → List P → List SitePlace
 served_places setup [] = []
 served_places setup (post ∷ posts) = setup_place setup ∷ []
 
--- the site listened once, at the setup's place, where there are posts, and else nowhere
+-- the site listened exactly once, at the setup's place, if there are posts, and otherwise nowhere
 abbrev pub ListensAt : {P : Type 0} → Settings → List P → Option (List SitePlace) → Option (List SitePlace) → Type 0
 ListensAt setup posts before after = Gains before (served_places setup posts) after
 
 -- ---- the accounts
 
--- these statuses, of which the first is success, are those of a run that printed the accounts
+-- the statuses of a run that went on to write the accounts back: 0 (success), 7, 8 and 10
 abbrev pub is_run_status : ℕ → Bool
 is_run_status status = list_any (λ s. s == status) (0 ∷ 7 ∷ 8 ∷ 10 ∷ [])
 
--- the file of this name was replaced by one that spells the setup after the events that were kept, or, where the replacing failed, maybe not; with other statuses than those of a run no file changed
+-- the setup file gets the setup after the kept events, or may stay where replacing failed; with a status other than 0,
+-- 7, 8 and 10 no file changes
 pub record AreAccountsWritten (name : List ℕ) (setup : Settings) (status : ℕ) (journal : List Event) (old new : Option Contents) (ReplaceRose : Type 0) : Type 0 where
   pub bytes : List ℕ
   pub spells : is_run_status status ≡ true → setup_of bytes ≡ Ok (entries_of (setup_after setup (kept_events journal)))
@@ -55,30 +56,33 @@ pub record AreAccountsWritten (name : List ℕ) (setup : Settings) (status : ℕ
   pub failed : status ≡ 8 → ReplaceRose × Goes (MayBeReplaced name bytes) old new
   pub unwritten : is_run_status status ≡ false → Goes SameFiles old new
 
--- what becomes of the files: by the plain setup nothing
+-- what becomes of the files: the plain setup changes none, a named setup file gets the accounts as the run left them
 abbrev pub AccountsMatch : Source → Settings → ℕ → List Event → Option Contents → Option Contents → Type 0 → Type 0
 AccountsMatch Plain setup status journal old new ReplaceRose = Goes SameFiles old new
 AccountsMatch (Named name log) setup status journal old new ReplaceRose = AreAccountsWritten name setup status journal old new ReplaceRose
 
 -- ---- the statuses and their causes
 
--- with these nobody was served
+-- the statuses with which nobody was served: 3, 4, 5, 6 and 13
 abbrev pub is_unserved_status : ℕ → Bool
 is_unserved_status status = list_any (λ s. s == status) (3 ∷ 4 ∷ 5 ∷ 6 ∷ 13 ∷ [])
 
--- what comes only for its cause, and what comes exactly for it; rose says that a count rose in this call
+-- an exit status comes only for its cause: 3 for a failed read, 6 listen, 8 replace or 10 accept, 7 for a decision lost
+-- by the log
 pub record ServeHasCause {P : Type 0} (status : ℕ) (journal : List Event) (posts : List P) (scene : P → Option Scene) (faults : P → Faults) (ReadRose ListenRose LogRose ReplaceRose : Type 0) : Type 0 where
   pub unserved : is_unserved_status status ≡ true → posts ≡ []
   pub begun : is_run_status status ≡ true → posts ≢ []
   pub unbegun : posts ≡ [] → journal ≡ []
   pub read_fault : status ≡ 3 → ReadRose
   pub listen_fault : status ≡ 6 → ListenRose
+  -- once a decision is lost, the status is 7, or 9 where memory ran out later
   pub lost : has_lost journal ≡ true → (status ≡ 7) ⊎ (status ≡ 9)
   pub log_lost : status ≡ 7 → (has_lost journal ≡ true) × LogRose
   pub accept_fault : status ≡ 10 → SomeAcceptFailed scene faults posts
   pub replace_fault : status ≡ 8 → ReplaceRose
 
--- success: nothing was lost, no accept failed, and each worker that nothing stopped served all its connections
+-- success means: no decision was lost, no worker's last accept failed, and each worker that nothing stopped served all
+-- its connections
 pub record SucceedsWhole {P : Type 0} (setup : Settings) (journal : List Event) (posts : List P)
     (scene : P → Option Scene) : Type 0 where
   pub kept : has_lost journal ≡ false
@@ -87,7 +91,7 @@ pub record SucceedsWhole {P : Type 0} (setup : Settings) (journal : List Event) 
 
 -- ---- completeness
 
--- no call of the files, of the site, of a post and of the log failed, as their counts tell
+-- no fault of reading, replacing, listening, the log, accepts, starts or links was counted
 pub record NoFault {P : Type 0} (ReadRose ReplaceRose ListenRose LogRose : Type 0) (faults : P → Faults) (posts : List P) : Type 0 where
   pub read : ¬ ReadRose
   pub replace : ¬ ReplaceRose
@@ -95,14 +99,15 @@ pub record NoFault {P : Type 0} (ReadRose ReplaceRose ListenRose LogRose : Type 
   pub log : ¬ LogRose
   pub each : AreFaultless faults posts
 
--- without a fault a run succeeds, unless memory is wanted, and each session ends by what its child did and has all its answers
+-- without a counted fault the status is 0 or 9 (out of memory); at 0 every session ended by its child and got all its
+-- answers
 pub record IsComplete {P : Type 0} (service : Service) (status : ℕ) (journal : List Event) (posts : List P) (scene : P → Option Scene) (NoFaultRose : Type 0) : Type 0 where
   pub succeeds : NoFaultRose → (status ≡ 0) ⊎ (status ≡ 9)
   pub answered : NoFaultRose → status ≡ 0 → IsAnsweredWhole service scene journal posts
 
 -- ---- all of it
 
--- all that is promised of serving by a service
+-- all that is promised of a run by one service: setup, word list and forms
 pub record ServePromises {P : Type 0} (source : Source) (service : Service) (status : ℕ) (journal : List Event) (posts : List P) (scene : P → Option Scene) (faults : P → Faults) (old new : Option Contents) (listens_old listens_new : Option (List SitePlace)) (held_old held_new : Option (List ℕ)) (ReadRose ReplaceRose ListenRose LogRose : Type 0) : Type 0 where
   pub legal : JournalIsLegal service.setup journal
   pub sessions : SessionsInOrder service journal
@@ -119,17 +124,19 @@ pub record ServePromises {P : Type 0} (source : Source) (service : Service) (sta
   pub accounts : AccountsMatch source service.setup status journal old new ReplaceRose
   pub complete : IsComplete service status journal posts scene (NoFault ReadRose ReplaceRose ListenRose LogRose faults posts)
 
--- what the mode came to: it ended for a cause; the site was asked to listen only where there was all that a run is by,
--- and by the plain setup a run finds memory to its end; where somebody was served, the promises hold of the service that
--- was served by, which is the one that the files spell, where they told and tell still, and they hold of no other; and
--- where nobody was served, neither the log nor a file changed, and the site didn't listen
+-- what `serve` promises however it ends: its status has a cause; if it served, every promise holds; if not, it didn't
+-- listen, and neither log nor files changed
 pub record ServeEnded {P : Type 0} (source : Source) (forms : List Key) (end : Result (Unit {0}) ServeError) (journal : List Event) (posts : List P) (scene : P → Option Scene) (faults : P → Faults) (old new : Option Contents) (listens_old listens_new : Option (List SitePlace)) (held_old held_new : Option (List ℕ)) (ReadRose ReplaceRose ListenRose LogRose : Type 0) : Type 0 where
   pub causes : ServeHasCause (status_of end) journal posts scene faults ReadRose ListenRose LogRose ReplaceRose
   pub unread : (error : ServiceError) → end ≡ Err (Unread error) → IsUnread source forms new ReadRose error
   pub unfresh : end ≡ Err LogNotFresh → IsUnfresh source forms new
+  -- the site is asked to listen only where everything that a run needs was read
   pub ready : end ≡ Err ListenFailed → IsServable source forms new
+  -- by the plain setup memory doesn't run out once there are posts
   pub printed : end ≡ Err OutOfMemory → posts ≢ [] → source ≢ Plain
+  -- what it served by is the plain setup, or what the files gave
   pub served : (posts ≡ []) ⊎ ((service : Service) × IsServedBy source forms old new service × ServePromises source service (status_of end) journal posts scene faults old new listens_old listens_new held_old held_new ReadRose ReplaceRose ListenRose LogRose)
+  -- where the files report before and after, the promises hold of whatever service they give, so of no other
   pub promises : (service : Service) → tell_throughout source old new ≡ true → IsServedBy source forms old new service → ServePromises source service (status_of end) journal posts scene faults old new listens_old listens_new held_old held_new ReadRose ReplaceRose ListenRose LogRose
   pub unlogged : posts ≡ [] → Gains held_old [] held_new
   pub unlistened : posts ≡ [] → Gains listens_old [] listens_new

@@ -10,7 +10,8 @@ use Rattle.service_reading.specs.Found.{IsServiceIn, service_in}
 use Rattle.fresh_log.specs.Fresh.{IsFresh}
 use Rattle.serve_mode.specs.Words.{Named, Plain, Source}
 
--- what a file would say of the plain setup
+-- the plain setup, as a file would say it: one worker, one connection, 64 requests, 3 tries, a hold of 30 seconds, no
+-- accounts
 abbrev pub plain_entries : SetupEntries
 plain_entries = record {
   texts = record { socket = codes "otplogd.sock"; launcher = codes "otplogd"; vault = codes "vault"; words = codes "words"; banner = [] };
@@ -21,33 +22,34 @@ plain_entries = record {
   accounts = [];
 }
 
--- the durable log that is named, if one is, is there and has no record
+-- a durable log that is named is there and has no records
 abbrev pub HasFreshLog : Option (List ℕ) → Contents → Type 0
 HasFreshLog None files = Unit {0}
 HasFreshLog (Some log) files = IsFresh (files log)
 
--- the files, as they told before the run, spell this service, and the log is fresh, where they tell still
+-- the files, as they stood before the run, give this service, and the named log was fresh, if the files report before
+-- and after
 pub record IsReadService (name : List ℕ) (log : Option (List ℕ)) (forms : List Key) (old new : Option Contents) (service : Service) : Type 0 where
   pub forms_are : service.forms ≡ forms
   pub read : is_some new ≡ true → IsServiceIn forms old name service.setup service.words
   pub fresh : is_some new ≡ true → IfSome old (HasFreshLog log)
 
--- what was served by: the plain setup with the plain word list, or a service that the files spell where they tell
+-- what a run served by: the plain setup and the plain word list, or a service that the named files give
 abbrev pub IsServedBy : Source → List Key → Option Contents → Option Contents → Service → Type 0
 IsServedBy Plain forms old new service = (service.forms ≡ forms) × (service.words ≡ plain_words) × (entries_of service.setup ≡ plain_entries)
 IsServedBy (Named name log) forms old new service = IsReadService name log forms old new service
 
--- the files tell before the run and behind it, where it is by files
+-- the files report before and after the run, if the setup comes from a file
 abbrev pub tell_throughout : Source → Option Contents → Option Contents → Bool
 tell_throughout Plain old new = true
 tell_throughout (Named name log) old new = is_some old && is_some new
 
--- the files, where they tell, spell a service, and the log that is named isn't there or has something else than no record
+-- the files, if they report, give a service, but the named log is missing or isn't fresh
 abbrev pub IsUnfresh : Source → List Key → Option Contents → Type 0
 IsUnfresh (Named name (Some log)) forms contents = IfSome contents (λ files. (is_ok (service_in forms files name) ≡ true) × (IsFresh (files log) → ⊥))
 IsUnfresh _ forms contents = ⊥
 
--- there is all that a run is by: the files, where they tell, spell a service, and the log that is named has no record
+-- a run may start: the named files, if they report, give a service, and a named log has no records
 abbrev pub IsServable : Source → List Key → Option Contents → Type 0
 IsServable Plain forms contents = Unit {0}
 IsServable (Named name log) forms contents =

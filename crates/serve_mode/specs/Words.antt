@@ -1,14 +1,14 @@
--- Believed: the words of the mode `serve`.
+-- Believed: the command line of the mode `serve`.
 use Rattle.std.specs.Prelude.{ℕ, List, [], ◌∷◌, codes, Option, Some, None}
 use Rattle.std.specs.Bool.{then_some}
 use Rattle.std.specs.Str.{bytes_eq}
 
--- the setup that is served by: the plain one, or that in the file of a name; beside it the durable log's file may be named
+-- where a run's setup comes from: it is the plain one, or a named file's, perhaps with a durable log's file
 pub data Source : Type 0 where
   Plain : Source
   Named : (name : List ℕ) → (log : Option (List ℕ)) → Source
 
--- what the words `serve`, `serve SETUP` or `serve SETUP LOG` ask for; other words ask for nothing
+-- what the command line `serve`, `serve SETUP` or `serve SETUP LOG` asks for; any other asks for nothing
 abbrev pub serve_command : List (List ℕ) → Option Source
 serve_command (mode ∷ []) = then_some (bytes_eq mode (codes "serve")) Plain
 serve_command (mode ∷ name ∷ []) = then_some (bytes_eq mode (codes "serve")) (Named name None)

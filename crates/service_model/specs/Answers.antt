@@ -33,21 +33,22 @@ use Rattle.service_model.specs.Users.{user_at}
 abbrev pub decoy_challenge_text : Settings → Name → List ℕ
 decoy_challenge_text setup user = challenge_of (decoy_algo setup user) (decoy_number setup user) (decoy_seed setup user)
 
--- what a permitted CHALLENGE with a value is answered by: the challenge of the user's account with that number, or, from 10,000 on, the decoy's
+-- the challenge that a permitted CHALLENGE brings: the account's with that number, or the decoy's from 10,000 on
 abbrev pub challenge_text : Settings → Name → ℕ → List ℕ
 challenge_text setup user value =
     if nat_lt value DECOYS_FROM then option_map_or (λ account. challenge_of account.algo value (seed_bytes account.seed)) (account_of setup user) []
     else decoy_challenge_text setup user
 
--- what a form says of a user who has so many passwords left
+-- what a form says of a user with so many passwords left
 abbrev pub said_of : Key → Account → ℕ → List ℕ
 said_of key account sequence = said key.form (record { name = account.name; uid = account.uid; algo = account.algo; sequence = sequence })
 
--- an information text: the form of its number, said of the user who is logged in
+-- an information text: the form of this number, said of the user who is logged in
 abbrev pub info_text : List Key → ℕ → Option Account → ℕ → List ℕ
 info_text forms number user sequence = option_map_or (λ key. option_map_or (λ account. said_of key account sequence) user []) (find (λ key. key.number == number) forms) []
 
--- the body of what is answered to a permitted ask with a value, where these bytes were exported: to an IMPORT they are told with the user's number and name
+-- the body for a permitted ask: banner, challenge, import record, the bytes read, a handle, an information text,
+-- otherwise nothing
 abbrev pub done_body : Service → List ℕ → Place → List Act → Ask → ℕ → List ℕ
 done_body service exported p done asks.Banner value = service.setup.banner
 done_body service exported p done (asks.Challenge user now) value = challenge_text service.setup user value
@@ -57,29 +58,30 @@ done_body service exported p done (asks.OpenFile mode name) value = to_le_bytes 
 done_body service exported p done (asks.Info number) value = info_text service.forms number (user_at service.setup p) value
 done_body service exported p done _ value = []
 
--- what is answered to a permitted ask: the device that failed, or that all was done, and nothing to an EXPORT
+-- the answer to a permitted ask: the first device that failed, otherwise done with its body; none to an EXPORT
 abbrev pub permitted_value : Service → List ℕ → Place → List Act → Ask → ℕ → Option AnswerValue
 permitted_value service exported p done (asks.Export len) value = None
 permitted_value service exported p done ask value = Some (option_map_or Device (slice_get (filter_map failed_device done) 0) (Done (done_body service exported p done ask value)))
 
--- what is answered to a decision, as it is shown: nothing to a lost one
+-- the answer to a decision, as it is shown; none to a lost one
 abbrev pub answer_value : Service → List ℕ → Place → List Act → Decision → Option AnswerValue
 answer_value service exported p done (decisions.Permit value) = permitted_value service exported p done p.event.ask value
 answer_value service exported p done (decisions.Deny rule detail) = Some (Denied rule detail)
 answer_value service exported p done decisions.Lost = None
 
--- the reply to a message in a session: the message's number and peer, the session's number, and the answer
+-- the reply to a message: the kind that replies to its own, its peer, the session as process, and the answer
 abbrev pub reply_message : Message → ℕ → AnswerValue → Message
 reply_message message session answer = composed_of (reply_kind_of message.header.kind message.header.flags) message.header.peerid session (reply_of answer)
 
--- the answer to an event that came by a message, where these bytes were exported before
+-- the frame that answers a message at this place, after this export; none to a lost decision and to a permitted EXPORT
 unfoldable pub reply_to : Service → List ℕ → Message → Place → List Act → List ℕ
 reply_to service exported message p done =
     option_map_or (λ answer. spelling_of service.setup.frames (reply_message message p.event.session answer)) (answer_value service exported p done (shown_of p.event.decision)) []
 
--- the bytes that a child is sent for a step; nothing where no message brought it
+-- the bytes that a child is sent for a step; none if no message brought it
 abbrev pub answer_to : Service → List ℕ → Step → List ℕ
 answer_to service exported step = option_map_or (λ message. reply_to service exported message step.place step.acts) step.message []
 
+-- the bytes that a child is sent for these steps, in order
 abbrev pub answers : Service → List ℕ → List Step → List ℕ
 answers service exported steps = flat_map (answer_to service exported) steps

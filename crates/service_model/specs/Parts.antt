@@ -19,18 +19,20 @@ use Rattle.service_model.specs.Requests.{CameBy}
 use Rattle.service_model.specs.Acts.{AreActsOf}
 use Rattle.service_model.specs.Answers.{answers}
 
--- the steps of a child's requests: those that it was served on after, and the one that ended its part, if one did;
--- the bytes taken from it and sent to it, those taken that were no whole frame any more, and those that nobody received
+-- what one child had of a session: the steps of its requests, and the bytes taken, sent, left over and never received
 pub record Part : Type 0 where
   pub role : Role
   pub served : List Step
+  -- the request that ended its part, if one did
   pub final : Option Step
   pub taken : List ℕ
   pub sent : List ℕ
+  -- what was taken and is no whole frame any more
   pub rest : List ℕ
+  -- what the child sent and nobody received
   pub unread : List ℕ
 
--- how a child's part ended: its session did, or the user's child is next
+-- how a child's part ended: the session ended for a reason, or the user's child is next
 pub data PartEnd : Type 0 where
   EndsSession : (why : Why) → PartEnd
   HandsOver : PartEnd
@@ -39,47 +41,47 @@ pub data PartEnd : Type 0 where
 abbrev pub requests_of : Part → List Step
 requests_of part = part.served ++ option_to_list part.final
 
--- the bytes by which the steps came
+-- the bytes of the messages that brought these steps
 abbrev pub step_bytes : Width → List Step → List ℕ
 step_bytes width steps = flat_map (λ s. option_map_or (spelling_of width) s.message []) steps
 
--- a child's request, with the message that it came by and the acts that were done for it
+-- a child's request, with the message that brought it and exactly the operations that it calls for
 pub record IsRequestStep (service : Service) (step : Step) : Type 0 where
   pub request : came_by_frame step.place.event.ask ≡ true
   pub came : IsSomeAnd step.message (λ message. CameBy service message step.place.event.ask)
   pub acts : AreActsOf service.setup step.place step.message step.acts
 
--- a child is served on after a step: its session goes on, and no other child follows it
+-- a child is served on after this step: it neither ends the session nor exports
 pub record GoesOn (step : Step) : Type 0 where
   pub unended : ends_session step.place.event ≡ false
   pub unexported : exports step.place.event ≡ false
 
--- why a session ends after a request that ends it
+-- why a session ends after a request that ends it: finished, a violation, or a lost decision
 abbrev pub why_of : Decision → Why
 why_of (decisions.Permit value) = whys.Finished
 why_of (decisions.Deny rule detail) = whys.Violation rule
 why_of decisions.Lost = whys.LogLost
 
--- why a session ends where no request ended it: by what its child's bytes ended with
+-- why a session ends without such a request: the child's bytes ended, broke off within a frame, or have a bad header
 abbrev pub EndsAlone : Width → Why → List ℕ → List ℕ → Type 0
 EndsAlone width whys.ChildEnded rest unread = (rest ≡ []) × (unread ≡ [])
 EndsAlone width whys.Truncated rest unread = (rest ≢ []) × (unread ≡ []) × IsPartialFront width (frame_max width) rest
 EndsAlone width (whys.BadFrame len) rest unread = IsBadFront width (frame_max width) rest len
 EndsAlone width _ rest unread = ⊥
 
--- the end of a part, where no fault of its link ended it
+-- how a part ended, unless its link failed: by a request that ends the session, by an EXPORT, or by its bytes
 abbrev pub EndsSo : Width → PartEnd → Option Step → List ℕ → List ℕ → Type 0
 EndsSo width HandsOver None rest unread = ⊥
 EndsSo width HandsOver (Some step) rest unread = exports step.place.event ≡ true
 EndsSo width (EndsSession why) None rest unread = EndsAlone width why rest unread
 EndsSo width (EndsSession why) (Some step) rest unread = (ends_session step.place.event ≡ true) × (why ≡ why_of step.place.event.decision)
 
--- the last answer was sent whole, or, where the link failed, a front of it
+-- the last answer was sent whole; if the link failed, at most a first part of it
 pub record LastSent (end : PartEnd) (whole sent : List ℕ) : Type 0 where
   pub cut : (n : ℕ) × (sent ≡ take n whole)
   pub all : end ≢ EndsSession whys.LinkFault → sent ≡ whole
 
--- what one child had of a session, whose part ended so, where these bytes were exported before
+-- what one child had of a session: its requests, the whole answers to them, the bytes that passed, and how it ended
 pub record IsPart (service : Service) (exported : List ℕ) (end : PartEnd) (part : Part) : Type 0 where
   pub each : AllByRecursion (IsRequestStep service) (requests_of part)
   pub on : AllByRecursion GoesOn part.served
@@ -87,10 +89,10 @@ pub record IsPart (service : Service) (exported : List ℕ) (end : PartEnd) (par
   pub sent : (last : List ℕ) × (part.sent ≡ answers service exported part.served ++ last) × LastSent end (answers service exported (option_to_list part.final)) last
   pub ended : end ≢ EndsSession whys.LinkFault → EndsSo service.setup.frames end part.final part.rest part.unread
 
--- the acts of the request that ended a part
+-- the operations done for the request that ended a part
 abbrev pub final_acts : Option Step → List Act
 final_acts final = option_map_or (λ step. step.acts) final []
 
--- the state that a part exported, where the request that ended it is an EXPORT: the body of its message
+-- the body of the message that ended a part: the exported state, where that message was an EXPORT
 abbrev pub exported_by : Option Step → List ℕ
 exported_by final = option_map_or (λ message. message.body) (option_and_then (λ step. step.message) final) []

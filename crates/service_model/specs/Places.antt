@@ -6,7 +6,7 @@ use Rattle.outside.specs.declared.act.Act.{Act}
 use Rattle.policy_model.specs.declared.event.Event.{Event}
 use Rattle.policy_model.specs.Journal.{Place, places_of}
 
--- an event at its place, with the message that it came by, if it is a child's, and the acts that were done for it
+-- an event at its place, with the child's message that brought it, if one did, and the operations done for it
 pub record Step : Type 0 where
   pub place : Place
   pub message : Option Message
@@ -16,9 +16,10 @@ pub record Step : Type 0 where
 abbrev pub worker_places : List Event → ℕ → List Place
 worker_places journal worker = filter (λ place. place.event.worker == worker) (places_of journal)
 
+-- the places of these steps in the journal
 abbrev pub step_places : List Step → List Place
 step_places steps = map (λ s. s.place) steps
 
--- the acts of the steps, one after the other
+-- the operations of these steps, in order
 abbrev pub step_acts : List Step → List Act
 step_acts steps = flat_map (λ s. s.acts) steps

@@ -15,7 +15,7 @@ use Rattle.policy_model.specs.declared.event.Ask.{Ask}
 use Rattle.policy_model.specs.declared.event.Ask.TheVariants as asks
 use Rattle.service_model.specs.Service.{Service}
 
--- the ask that a request makes: a challenge is asked at some moment, and a reply has the readings of its text
+-- the ask that a request makes: a CHALLENGE at some moment, a REPLY with the readings of its text
 abbrev pub Asks : List (List ℕ) → RequestValue → Ask → Type 0
 Asks words requests.Banner ask = ask ≡ asks.Banner
 Asks words (requests.Challenge user) ask = (name : Name) × (now : ℕ) × (name_bytes name ≡ user) × (ask ≡ asks.Challenge name now)
@@ -35,7 +35,7 @@ Asks words requests.Finish ask = ask ≡ asks.Finish
 abbrev pub IsAskOf : Width → List (List ℕ) → Message → Ask → Type 0
 IsAskOf width words message ask = MatchResult (request_of width message.header.kind message.header.flags message.body) (λ value. Asks words value ask) (λ bad. ask ≡ asks.Bad bad.rule bad.detail)
 
--- an ask came by a message, which has a right length
+-- this is the ask that a child makes by this message, a whole frame
 pub record CameBy (service : Service) (message : Message) (ask : Ask) : Type 0 where
   pub framed : IsMessage service.setup.frames (frame_max service.setup.frames) message
   pub asked : IsAskOf service.setup.frames service.words message ask

@@ -19,7 +19,7 @@ use Rattle.service_model.specs.Ends.{is_lost_end}
 use Rattle.service_model.specs.Parts.{EndsSession, HandsOver, IsPart, Part, exported_by, final_acts, requests_of}
 use Rattle.service_model.specs.Users.{user_role}
 
--- a session: its opening, what each child had of it, and its end; no end where the opening is lost
+-- a session as it was served: its opening, what each child had of it, and its end; a lost opening has no end
 pub record Sitting : Type 0 where
   pub opening : Step
   pub parts : List Part
@@ -29,12 +29,12 @@ pub record Sitting : Type 0 where
 abbrev pub all_steps : Sitting → List Step
 all_steps sitting = sitting.opening ∷ flat_map requests_of sitting.parts ++ option_to_list sitting.ending
 
--- the first child's part, behind which no other child was served: it ended the session, or the user's child could not be started
+-- no second child was served: the first ended the session, or the user's child could not be started
 abbrev pub EndsFirst : Service → Why → Part → Type 0
 EndsFirst service whys.KeeperFault pre = IsPart service [] HandsOver pre × (list_any is_failed_start (final_acts pre.final) ≡ true)
 EndsFirst service why pre = IsPart service [] (EndsSession why) pre
 
--- the first child handed over to the user's, whose role is read off the place of the EXPORT, and which ended the session
+-- the first child handed over to the child of the user who logged in, and that one ended the session
 pub record ChangesUser (service : Service) (why : Why) (pre user : Part) : Type 0 where
   pub first : IsPart service [] HandsOver pre
   pub started : list_any is_failed_start (final_acts pre.final) ≡ false
@@ -42,58 +42,59 @@ pub record ChangesUser (service : Service) (why : Why) (pre user : Part) : Type 
   pub second : IsPart service (exported_by pre.final) (EndsSession why) user
   pub served : why ≢ whys.KeeperFault
 
--- the children of a session that ended so: none where the first could not be started, else the one before the login, and then the user's, where one was started
+-- a session's children: none if the first didn't start, otherwise the one before the login, and the user's if that was
+-- started
 abbrev pub AreParts : Service → Why → Step → List Part → Type 0
 AreParts service why opening [] = (list_any is_failed_start opening.acts ≡ true) × (why ≡ whys.KeeperFault)
 AreParts service why opening (pre ∷ []) = (list_any is_failed_start opening.acts ≡ false) × (pre.role ≡ Pre opening.place.event.session) × EndsFirst service why pre
 AreParts service why opening (pre ∷ user ∷ []) = (list_any is_failed_start opening.acts ≡ false) × (pre.role ≡ Pre opening.place.event.session) × ChangesUser service why pre user
 AreParts service why opening (pre ∷ user ∷ other ∷ parts) = ⊥
 
--- the child that is live at a session's end, if one is: its last
+-- the last child of a session, which is live at its end
 abbrev pub live_role : Role → List Part → Role
 live_role role [] = role
 live_role role (part ∷ parts) = live_role part.role parts
 
--- the opening of a session, with its acts
+-- the opening of a session, with exactly the operations that it calls for
 pub record IsOpening (setup : Settings) (step : Step) : Type 0 where
   pub ask : step.place.event.ask ≡ asks.Begin
   pub none : step.message ≡ None
   pub acts : AreActsOf setup step.place None step.acts
 
--- the end of a session that was opened, with its acts
+-- the end of a session, with exactly the operations that it calls for
 pub record IsEnding (session : ℕ) (live : Role) (why : Why) (step : Step) : Type 0 where
   pub ask : step.place.event.ask ≡ asks.End why
   pub session_is : step.place.event.session ≡ session
   pub none : step.message ≡ None
   pub operations : map operation_of step.acts ≡ ending_operations live why
 
--- what follows an opening: nothing where it is lost, and else its children and its end
+-- what follows an opening: nothing if it was lost, otherwise the session's children and its end
 abbrev pub Follows : Service → Step → List Part → Option Step → Type 0
 Follows service opening parts None = (is_lost opening.place.event.decision ≡ true) × (parts ≡ [])
 Follows service opening parts (Some ending) = (is_permit opening.place.event.decision ≡ true) × ((why : Why) × IsEnding opening.place.event.session (live_role (Pre opening.place.event.session) parts) why ending × AreParts service why opening parts)
 
--- one session of a worker
+-- one whole session of a worker, from its opening to its end
 pub record IsSitting (service : Service) (sitting : Sitting) : Type 0 where
   pub begins : IsOpening service.setup sitting.opening
   pub round : Follows service sitting.opening sitting.parts sitting.ending
 
--- a session behind which its worker serves no more: it has no end, since the opening is lost, or it ended because a decision was lost
+-- a session after which its worker serves no more: its opening was lost, or it ended because a decision was lost
 abbrev pub ends_worker : Sitting → Bool
 ends_worker sitting = option_map_or (λ ending. is_lost_end ending.place.event.ask) sitting.ending true
 
--- behind such a session stands no other
+-- no session follows one after which its worker serves no more
 abbrev pub NoneBehindLoss : List Sitting → Type 0
 NoneBehindLoss [] = Unit {0}
 NoneBehindLoss (sitting ∷ behind) = (ends_worker sitting ≡ true → behind ≡ []) × NoneBehindLoss behind
 
--- the sessions of a worker, one after the other, are all its events; one that was lost, or ended because a decision was lost, is
--- the last
+-- these sessions, one after the other, are all of a worker's events; one that lost a decision is the last
 pub record AreSittingsOf (service : Service) (journal : List Event) (worker : ℕ) (sittings : List Sitting) : Type 0 where
   pub places : worker_places journal worker ≡ step_places (flat_map all_steps sittings)
   pub each : AllByRecursion (IsSitting service) sittings
   pub alone : NoneBehindLoss sittings
 
--- each child of a session was sent the answer to each of its requests, whole: the user's with the state that the first one exported
+-- each child of a session was sent the whole answer to each of its requests, the user's child with the state exported
+-- before
 abbrev pub AreAnswered : Service → List ℕ → List Part → Type 0
 AreAnswered service exported [] = Unit {0}
 AreAnswered service exported (part ∷ parts) = (part.sent ≡ answers service exported (requests_of part)) × AreAnswered service (exported_by part.final) parts

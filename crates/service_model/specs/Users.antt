@@ -11,20 +11,20 @@ use Rattle.policy_model.specs.Journal.{Place}
 use Rattle.policy_model.specs.Logins.{verified_account}
 use Rattle.policy_model.specs.Settings.{Settings}
 
--- the account of the user that the session of an event is logged in as
+-- the account that an event's session is logged in as, just before the event
 abbrev pub user_at : Settings → Place → Option Account
 user_at setup place = verified_account setup place.before place.event.session
 
--- the child of a session: the user's where one is logged in, and else the one before the login
+-- the child that serves a session: the user's once one is logged in, before that the one before the login
 abbrev pub user_role : Settings → Place → Role
 user_role setup place = option_map_or (λ account. User place.event.session account.uid account.name) (user_at setup place) (Pre place.event.session)
 
--- a user's file: the user's number and the file's name
+-- a user's file: the number of the user and the file's label
 pub record File : Type 0 where
   pub uid : ℕ
   pub name : Label
 
--- the file that a handle of the session was opened for: the user's, by the name that the opening gave
+-- the file that a handle was opened for: the logged-in user's, by the label that the OPEN gave
 abbrev pub file_at : Settings → Place → ℕ → Option File
 file_at setup place handle =
     let name = option_and_then (λ e. label_named e.ask) (handle_opening place.before place.event.session handle) in

@@ -19,11 +19,11 @@ use Rattle.setup_reading.specs.Read.{setup_in}
 use Rattle.service_reading.specs.declared.error.ServiceError.{ServiceError}
 use Rattle.service_reading.specs.declared.error.ServiceError.TheVariants as errors
 
--- there is information of each of these numbers
+-- there is a form for each of these numbers
 abbrev pub are_said : List Key → List ℕ → Bool
 are_said forms numbers = list_all (λ number. list_any (λ key. key.number == number) forms) numbers
 
--- a setup all of whose numbers of information can be said
+-- a setup whose numbers of information all have a form, otherwise a fault
 abbrev pub informed : List Key → SetupEntries → Result SetupEntries SetupFault
 informed forms entries = demand_at (top keys.Info) rules.NoHook (then_some (are_said forms entries.info) entries)
 
@@ -32,7 +32,7 @@ pub record FoundService : Type 0 where
   pub entries : SetupEntries
   pub words : List (List ℕ)
 
--- what files say of the setup in the file of this name and of the word list that it names, or the first that is missing or refused
+-- what a setup's file and the word list that it names say, or the first of them that is missing or refused
 abbrev pub service_in : List Key → Contents → List ℕ → Result FoundService ServiceError
 service_in forms files name = do
   setup ← demand errors.SetupMissing (setup_in files name)
@@ -41,6 +41,6 @@ service_in forms files name = do
   words ← result_map_both (λ w. w) errors.WordsRefused (dictionary_of text)
   Ok (record { entries = entries; words = words })
 
--- the file of this name spells this setup, and the one that it names these words, where the files tell
+-- the named file spells this setup, and the word list that it names has these words, if the files report
 abbrev pub IsServiceIn : List Key → Option Contents → List ℕ → Settings → List (List ℕ) → Type 0
 IsServiceIn forms contents name setup words = IfSome contents (λ files. service_in forms files name ≡ Ok (record { entries = entries_of setup; words = words }))

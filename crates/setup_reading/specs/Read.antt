@@ -17,19 +17,19 @@ use Rattle.account_file.specs.Setups.{setup_of, top}
 use Rattle.setup_reading.specs.declared.reading.SetupFileError.{SetupFileError}
 use Rattle.setup_reading.specs.declared.reading.SetupFileError.TheVariants as errors
 
--- the setup that the bytes of a file spell, or its first fault; a file has at most 8,388,608 bytes
+-- the setup that a file's bytes spell, or the first fault; a file has at most 8,388,608 bytes
 unfoldable pub judged_setup : List ℕ → Result SetupEntries SetupFault
 judged_setup bytes = demand_at (top keys.File) rules.TooLong (then_some (nat_le (length bytes) 8388608) bytes) >>= setup_of
 
--- what the file of this name says of a setup, if there is one
+-- what the named file says of a setup, if there is such a file
 abbrev pub setup_in : Contents → List ℕ → Option (Result SetupEntries SetupFault)
 setup_in files name = option_map judged_setup (files name)
 
--- the file of this name spells this setup, where the files tell
+-- the named file spells this setup, if the files report
 abbrev pub IsSetupIn : Option Contents → List ℕ → Settings → Type 0
 IsSetupIn contents name setup = IfSome contents (λ files. setup_in files name ≡ Some (Ok (entries_of setup)))
 
--- why no setup was read from the file of this name
+-- why no setup was read from the named file: a read failed, memory ran out, or it is missing or refused
 abbrev pub IsSetupError : Option Contents → List ℕ → Type 0 → SetupFileError → Type 0
 IsSetupError contents name ReadFailed errors.Failed = ReadFailed
 IsSetupError contents name ReadFailed errors.OutOfMemory = Unit {0}

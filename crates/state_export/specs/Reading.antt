@@ -12,16 +12,16 @@ use Rattle.state_export.specs.declared.fault.StateFault.{StateFault}
 use Rattle.state_export.specs.declared.fault.StateFault.TheVariants.{Length, Magic, Missing, Tag, Trailing}
 use Rattle.state_export.specs.Spelling.{ImportValue, StateValue}
 
--- a field that was read: its content, and what stands behind it
+-- a field that was read: its content, and the bytes after it
 pub record Field : Type 0 where
   pub content : List ℕ
   pub behind : List ℕ
 
--- the bytes behind the tag and the length of a field, of which so many are the content, in a range
+-- the content of a field whose length is in range, and the bytes after it
 abbrev pub content_of : ℕ → ℕ → ℕ → List ℕ → Result Field StateFault
 content_of low high len bytes = demand Length (then_some (nat_le low len && nat_le len high && nat_le len (length bytes)) (record { content = take len bytes; behind = drop len bytes }))
 
--- the field at the front of bytes, with a tag and a content of low to high bytes
+-- the field at the front of these bytes, if it has this tag and a content of `low` to `high` bytes
 abbrev pub field_of : ℕ → ℕ → ℕ → List ℕ → Result Field StateFault
 field_of tag low high bytes = do
   there ← demand Missing (then_some (nat_le 3 (length bytes)) bytes)
@@ -37,7 +37,7 @@ state_of bytes = do
   counts ← field_of 3 8 8 unread.behind
   demand Trailing (then_some (length counts.behind == 0) (record { terminal = terminal.content; unread = unread.content; lines = number_at w32 0 counts.content; bytes = number_at w32 4 counts.content }))
 
--- the import record of a user and of what its state is read as
+-- the import record of a user and a state, or the state's fault
 abbrev pub imported : ℕ → List ℕ → Result StateValue StateFault → Result ImportValue ImportFault
 imported uid user (Ok state) = Ok (record { uid = uid; user = user; state = state })
 imported uid user (Err fault) = Err (InState fault)

@@ -6,7 +6,7 @@ use Rattle.request_catalogue.specs.TextBytes.{name_bytes}
 use Rattle.state_export.specs.declared.import.Import.{Import}
 use Rattle.state_export.specs.declared.state.State.{State}
 
--- a state without where its bytes lie in memory
+-- what the child before the login leaves: the terminal, the client's unread bytes, and how many lines and bytes it had
 pub record StateValue : Type 0 where
   pub terminal : List ℕ
   pub unread : List ℕ
@@ -27,15 +27,15 @@ pub record IsState (s : StateValue) : Type 0 where
 abbrev pub field_bytes : ℕ → List ℕ → List ℕ
 field_bytes tag content = tag ∷ to_le_bytes w16 (length content) ++ content
 
--- the content of the field with the two counts
+-- the content of the third field: the two counts
 abbrev pub counts_bytes : StateValue → List ℕ
 counts_bytes s = to_le_bytes w32 s.lines ++ to_le_bytes w32 s.bytes
 
--- the spelling of a state: `OTS1` and three fields
+-- the one spelling of a state: `OTS1` and three fields
 unfoldable pub state_bytes : StateValue → List ℕ
 state_bytes s = codes "OTS1" ++ field_bytes 1 s.terminal ++ field_bytes 2 s.unread ++ field_bytes 3 (counts_bytes s)
 
--- an import record without where its bytes lie in memory
+-- what the user's child imports: the user's number and name, and the state that was exported
 pub record ImportValue : Type 0 where
   pub uid : ℕ
   pub user : List ℕ
@@ -49,6 +49,6 @@ pub record IsImport (i : ImportValue) : Type 0 where
   pub user : IsTrue (is_name i.user)
   pub state : IsState i.state
 
--- the spelling of an import record: the user number, the length of the name, the name, and a state as it was exported
+-- the spelling of an import record: the user's number, the length of the name, the name, and a state as it was exported
 unfoldable pub import_bytes : ℕ → List ℕ → List ℕ → List ℕ
 import_bytes uid user state = to_le_bytes w32 uid ++ length user ∷ user ++ state

@@ -22,6 +22,7 @@ abbrev pub BeginWith : List PreCommand → List ℕ → Type 0
 BeginWith [] bytes = Unit {0}
 BeginWith (command ∷ commands) bytes = BeginsWith command bytes × BeginWith commands (behind_line bytes)
 
+-- a line `resp TEXT`
 abbrev pub is_response : PreCommand → Bool
 is_response (Respond text) = true
 is_response _ = false
@@ -45,8 +46,8 @@ abbrev pub AgreesWith : List ℕ → List ℕ → Type 0
 AgreesWith lines bytes =
     ((more : List ℕ) × (lines ≡ bytes ++ more)) ⊎ ((more : List ℕ) × (bytes ≡ lines ++ more))
 
--- the client says these lines, of which so much came before these acts: each receive brings at least 1 byte, and not
--- more than were asked for, that go on with the lines; no receive and no send on its connection fails
+-- the client's receives bring these lines in pieces of any size, then anything; each brings at least one byte, and no
+-- receive or send fails
 abbrev pub ClientSays : List ℕ → List ℕ → List Act → Type 0
 ClientSays lines before [] = Unit {0}
 ClientSays lines before (acts.ConnRecv max (Ok bytes) ∷ done) =
@@ -56,6 +57,7 @@ ClientSays lines before (acts.ConnRecv max (Err failed) ∷ done) = ⊥
 ClientSays lines before (acts.ConnSend bytes (Err failed) ∷ done) = ⊥
 ClientSays lines before (act ∷ done) = ClientSays lines before done
 
+-- an operation that receives from the client
 abbrev pub is_receiving : Act → Bool
 is_receiving (acts.ConnRecv max outcome) = true
 is_receiving _ = false
