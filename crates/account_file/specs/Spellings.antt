@@ -5,7 +5,7 @@ use Rattle.account_file.specs.declared.fault.SetupKey.TheVariants as keys
 use Rattle.account_file.specs.declared.fault.SetupRule.{SetupRule}
 use Rattle.account_file.specs.declared.fault.SetupRule.TheVariants as rules
 
--- a key as it is spelled
+-- the word for a key of setup files
 abbrev pub key_word : SetupKey → List ℕ
 key_word keys.File = codes "file"
 key_word keys.Other = codes "other"
@@ -34,7 +34,7 @@ key_word keys.Grants = codes "grants"
 key_word keys.GrantName = codes "grant-name"
 key_word keys.GrantMode = codes "grant-mode"
 
--- a rule as it is spelled
+-- the word for a rule of setup files
 abbrev pub rule_word : SetupRule → List ℕ
 rule_word rules.TooLong = codes "too-long"
 rule_word rules.NotToml = codes "not-toml"

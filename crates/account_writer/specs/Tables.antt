@@ -14,28 +14,29 @@ use Rattle.otp_ledger.specs.declared.ledger.Current.{Current}
 use Rattle.toml.specs.Data.{Data, string, integer, boolean, array, table, Members, no_members, member}
 use Rattle.toml.specs.View.{items_of}
 
--- members with a value at a key, in the order of their keys
+-- a table with one key more, in the order of the keys
 abbrev pub put_member : List ℕ → Data → Members → Members
 put_member k d no_members = member k d no_members
 put_member k d (member l e ms) = match_ordering (slice_cmp nat_cmp k l) (member k d (member l e ms)) (member l d ms) (member l e (put_member k d ms))
 
--- the word of a width
+-- the word for a width of frames
 abbrev pub width_word : Width → List ℕ
 width_word Narrow = codes "narrow"
 width_word Wide = codes "wide"
 
--- a whole number
+-- a whole number as TOML has it
 abbrev pub number : ℕ → Data
 number n = integer (pos n)
 
--- the table of a grant
+-- the keys of a grant, as they are written
 abbrev pub grant_members : Grant → Members
 grant_members g = put_member (codes "mode") (number g.mode) (put_member (codes "name") (string (label_bytes g.name)) no_members)
 
+-- the table that is written for a grant
 abbrev pub grant_data : Grant → Data
 grant_data g = table (grant_members g)
 
--- the table of an account
+-- the keys of an account, as they are written
 abbrev pub account_members : Account → Members
 account_members a =
     put_member (codes "grants") (array (items_of (map grant_data a.grants)))
@@ -47,6 +48,7 @@ account_members a =
     (put_member (codes "uid") (number a.uid)
     (put_member (codes "name") (string (name_bytes a.name)) no_members)))))))
 
+-- the table that is written for an account
 abbrev pub account_data : Account → Data
 account_data a = table (account_members a)
 
@@ -58,7 +60,7 @@ alone a = put_member (codes "account") (array (items_of (account_data a ∷ []))
 abbrev pub with_current : Account → Current → Account
 with_current a current = record a { sequence = current.sequence; password = current.password }
 
--- the texts of a setup, behind other members
+-- the texts of a setup, besides other keys
 abbrev pub put_texts : Settings → Members → Members
 put_texts s ms =
     put_member (codes "frames") (string (width_word s.frames))
@@ -69,7 +71,7 @@ put_texts s ms =
     (put_member (codes "launcher") (string s.launcher)
     (put_member (codes "socket") (string s.socket) ms))))))
 
--- the numbers of a setup, behind other members
+-- the numbers of a setup, besides other keys
 abbrev pub put_counts : Settings → Members → Members
 put_counts s ms =
     put_member (codes "info") (array (items_of (map number s.info)))
@@ -79,15 +81,15 @@ put_counts s ms =
     (put_member (codes "connections") (number s.connections)
     (put_member (codes "workers") (number s.workers) ms)))))
 
--- the tables of accounts, before other members; no key where there are none, so that tables may follow
+-- the tables of a setup's accounts, besides other keys; no key if there are none, so that tables may be appended
 abbrev pub put_accounts : List Data → Members → Members
 put_accounts [] ms = ms
 put_accounts (d ∷ ds) ms = put_member (codes "account") (array (items_of (d ∷ ds))) ms
 
--- the table of a setup, with the tables of its accounts
+-- the keys of a setup, with the tables of its accounts, as they are written
 abbrev pub setup_members : Settings → List Data → Members
 setup_members s accounts = put_accounts accounts (put_counts s (put_texts s no_members))
 
--- an account's sequence and password can be written
+-- an account's sequence has at most four digits, and its password 64 bits
 abbrev pub is_writable : Account → Bool
 is_writable a = nat_le a.sequence 9999 && nat_lt a.password 18446744073709551616

@@ -1,4 +1,4 @@
--- Believed: the bytes that are written for a setup, and for one account behind it.
+-- Believed: the bytes that are written for a setup, and for one account after it.
 use Rattle.std.specs.Prelude.{ℕ, ◌≡◌, false, true, List, [], ◌∷◌, ◌++◌, map, codes, Result, Ok, IsUtf8}
 use Rattle.std.specs.List.{list_all}
 use Rattle.toml.specs.Data.{get_member}
@@ -20,21 +20,21 @@ use Rattle.account_writer.specs.Tables.{account_data, is_writable, setup_members
 abbrev pub with_account : Settings → Account → Settings
 with_account s a = record s { accounts = s.accounts ++ a ∷ [] }
 
--- these bytes are what is written for a setup: the lines of its table, in TOML
+-- these bytes are the TOML file that is written for a setup
 pub record IsFileOf (s : Settings) (bytes : List ℕ) : Type 0 where
   pub in_range : IsInRange s
   pub writable : list_all is_writable s.accounts ≡ true
   pub utf8 : IsUtf8 bytes
   pub lines : IsDocumentText false (setup_members s (map account_data s.accounts)) bytes
 
--- the accounts that bytes spell, whatever else of a setup is there or missing, as the reader of a setup reads them
+-- the accounts that these bytes spell, whatever else of a setup is there or missing
 abbrev pub accounts_of : List ℕ → Result (List AccountEntry) SetupFault
 accounts_of bytes = do
   entries ← demand_at (top keys.File) rules.NotToml (document_of bytes)
   read_each (top keys.Account) 1024 next_account (get_member (codes "account") entries)
 
--- these bytes spell this account alone; and behind the bytes that are written for a setup that would be in its ranges
--- with this account too, they are what is written for the setup with the account, and are read as that
+-- these bytes spell this account alone; appended to a setup's file, they spell that setup with this account, if it then
+-- is in its ranges
 pub record IsTextOf (a : Account) (text : List ℕ) : Type 0 where
   pub alone : accounts_of text ≡ Ok (account_entry a ∷ [])
   pub written : (s : Settings) (bytes : List ℕ) → IsFileOf s bytes → IsInRange (with_account s a)

@@ -15,16 +15,16 @@ use Rattle.audit_check.specs.declared.answer.AuditWhy.{AuditWhy}
 use Rattle.audit_check.specs.declared.answer.AuditWhy.TheVariants as whys
 use Rattle.audit_check.specs.Legal.{IsLegalLog}
 
--- the first line of a text: with its newline, and all of the text where it has none
+-- the first line of a text, with its newline; without one, all of the text
 abbrev pub first_line : List ℕ → List ℕ
 first_line text = take (position_or_len (λ c. c == 10) text + 1) text
 
--- a line reads as this event with this number; of a reply it shows no readings
+-- a line reads as this event with this number; a reply shows no readings
 pub record Says (number : ℕ) (line : List ℕ) (e : Event) : Type 0 where
   pub read : line_read line ≡ Ok (line_value number e)
   pub shown : without_readings e.ask ≡ e.ask
 
--- what each line says of an event is in the ranges of a line, and of a reply no readings; so many events stand before these
+-- a line can say each of these events, the first of which stands after so many
 abbrev pub AreSaid : ℕ → List Event → Type 0
 AreSaid count [] = Unit {0}
 AreSaid count (e ∷ events) = IsLine (line_value (count + 1) e) × (without_readings e.ask ≡ e.ask) × AreSaid (count + 1) events
@@ -42,29 +42,31 @@ pub record IsLegalText (setup : Settings) (text : List ℕ) (count : ℕ) : Type
   pub log : IsLogOf setup text events
   pub counted : count ≡ length events
 
--- a line that reads with another number than its place
+-- a line reads, but its number isn't its place
 pub record IsMiscounted (line : List ℕ) (place : ℕ) : Type 0 where
   pub value : LineValue
   pub read : line_read line ≡ Ok value
   pub other : value.number ≢ place
 
+-- a line doesn't read
 pub record IsUnreadable (line : List ℕ) : Type 0 where
   pub fault : LineFault
   pub read : line_read line ≡ Err fault
 
--- a line that reads with its place as its number, whose event makes no legal log of those before it
+-- a line reads with the right number, but its event makes no legal log after those before it
 pub record IsIllegal (setup : Settings) (events : List Event) (line : List ℕ) (place : ℕ) : Type 0 where
   pub event : Event
   pub says : Says place line event
   pub illegal : IsLegalLog setup (events ++ event ∷ []) → ⊥
 
--- the first that applies of a line behind these events: more lines than a run makes events; no line that reads; another number than its place; an event that makes no legal log
+-- what is wrong with a line after these events: beyond the limit, unreadable, another number, or an event that isn't
+-- legal there
 abbrev pub IsFault : Settings → List Event → List ℕ → AuditWhy → Type 0
 IsFault setup events line whys.Text = (length events < EVENTS_LIMIT) × IsUnreadable line
 IsFault setup events line whys.Count = (EVENTS_LIMIT ≤ length events) ⊎ IsMiscounted line (length events + 1)
 IsFault setup events line whys.Event = (length events < EVENTS_LIMIT) × IsIllegal setup events line (length events + 1)
 
--- the lines before this one are a legal log, and in it is the first fault
+-- the lines before this one are a legal log, and this one has this fault
 pub record IsFirstFault (setup : Settings) (text : List ℕ) (place : ℕ) (why : AuditWhy) : Type 0 where
   pub events : List Event
   pub front : List ℕ
@@ -75,7 +77,7 @@ pub record IsFirstFault (setup : Settings) (text : List ℕ) (place : ℕ) (why 
   pub more : 1 ≤ length rest
   pub fault : IsFault setup events (first_line rest) why
 
--- what an audit says of a text
+-- an audit's answer is right for a text: it is a legal log, or this is its first fault
 abbrev pub IsAnswer : Settings → List ℕ → Audit → Type 0
 IsAnswer setup text (audits.Yes count) = IsLegalText setup text count
 IsAnswer setup text (audits.No place why) = IsFirstFault setup text place why

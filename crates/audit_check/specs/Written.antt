@@ -8,7 +8,8 @@ use Rattle.policy_model.specs.Legal.{IsLegal}
 use Rattle.policy_model.specs.Runs.{IsOfWorker, IsProperEvent}
 use Rattle.policy_model.specs.Settings.{Settings}
 
--- the journal of a run with a setup: it is legal, its asks are proper and of the setup's workers, it has at most as many events as a run makes, and they are in the ranges of their types
+-- the journal of a run by this setup: legal, proper, of its workers, within the limit of events, each number in its
+-- range
 pub record IsJournalOf (setup : Settings) (journal : List Event) : Type 0 where
   pub legal : IsLegal setup journal
   pub proper : AllByRecursion IsProperEvent journal

@@ -24,17 +24,17 @@ use Rattle.audit_mode.specs.Lines.{answer_line}
 use Rattle.audit_mode.specs.Texts.{IsAuditedText}
 use Rattle.audit_mode.specs.Words.{AuditParts}
 
--- what counts of the file of a log: its first 268,435,457 bytes
+-- what counts of a log's file: its first 268,435,457 bytes
 abbrev pub log_front : List ℕ → List ℕ
 log_front bytes = take 268435457 bytes
 
--- this is said of a text by an audit, and nothing else is true of it; a text that a run's journal has is a legal log of its events
+-- this answer is right for a text and no other is; the log of a run's journal is answered by yes
 pub record IsOnlyAnswer (setup : Settings) (text : List ℕ) (answer : Audit) : Type 0 where
   pub said : IsAnswer setup text answer
   pub exact : (other : Audit) → IsAnswer setup text other → answer ≡ other
   pub runs : (journal : List Event) → IsJournalOf setup journal → text ≡ log_text journal → answer ≡ Yes (length (kept_events journal))
 
--- the same of the one text that a file with these bytes has: where recovery finds records in them, their lines
+-- the answer is right for the one text of a log's file; where recovery finds records in the file, that is their lines
 pub record IsAnswerOfBytes (setup : Settings) (bytes : List ℕ) (answer : Audit) : Type 0 where
   pub text : List ℕ
   pub audited : IsAuditedText bytes text
@@ -42,24 +42,24 @@ pub record IsAnswerOfBytes (setup : Settings) (bytes : List ℕ) (answer : Audit
   pub recovered : (records : List (List ℕ)) → HasRecords bytes records → text ≡ concat records
   pub answered : IsOnlyAnswer setup text answer
 
--- the same of the log in a file, which is there
+-- the answer is right for a log's file, which is there
 abbrev pub IsAnswerOf : Settings → Option (List ℕ) → Audit → Type 0
 IsAnswerOf setup None answer = ⊥
 IsAnswerOf setup (Some bytes) answer = IsAnswerOfBytes setup (log_front bytes) answer
 
--- the files, where they tell what stands in them, spell a setup, and this is said of the log
+-- the files, if they report, spell a setup, and the answer is right for the log
 pub record IsAnswered (contents : Option Contents) (parts : AuditParts) (answer : Audit) : Type 0 where
   pub setup : Settings
   pub spelled : IsSetupIn contents parts.setup setup
   pub answer_of : IfSome contents (λ files. IsAnswerOf setup (files parts.log) answer)
 
--- the files spell a setup, and there is no log
+-- the files spell a setup, and there is no log, if the files report
 pub record IsLogMissing (contents : Option Contents) (parts : AuditParts) : Type 0 where
   pub setup : Settings
   pub spelled : IsSetupIn contents parts.setup setup
   pub missing : IfSome contents (λ files. files parts.log ≡ None)
 
--- why there is no answer: a reading failed, the setup's file is missing or refused, the log's is missing, or memory was wanted
+-- why there is no answer: a read failed, memory ran out, the setup is missing or refused, or the log is missing
 abbrev pub IsFileError : Option Contents → AuditParts → Type 0 → AuditError → Type 0
 IsFileError contents parts ReadFailed errors.ReadFailed = ReadFailed
 IsFileError contents parts ReadFailed errors.SetupMissing = IsSetupError contents parts.setup ReadFailed setup_errors.Missing
@@ -86,8 +86,7 @@ error_of_setup setup_errors.OutOfMemory = errors.OutOfMemory
 error_of_setup setup_errors.Missing = errors.SetupMissing
 error_of_setup (setup_errors.Refused fault) = errors.SetupRefused fault
 
--- what came of the mode, by what the files tell, what the ends told before and after, and whether a reading of a file and a call
--- on the ends failed: the answer is told whole, or in part where the ends failed, or nothing is told
+-- what each end of `audit` means: the answer was sent, whole or in part, or there is none and nothing was sent
 abbrev pub IsOutcome : AuditParts → Option Contents → Option Link → Option Link → Type 0 → Type 0 → Result Audit AuditError → Type 0
 IsOutcome parts contents before after ReadFailed EndsFailed (Ok answer) =
     IsAnswered contents parts answer × Goes (Exchanged [] (answer_line answer)) before after
@@ -102,12 +101,12 @@ ends_before_line (Ok answer) = false
 ends_before_line (Err errors.EndsFailed) = false
 ends_before_line (Err _) = true
 
--- the exit status of a program that has told an answer
+-- the exit status of each answer: 0 for yes, 14 for no
 abbrev pub answer_status : Audit → ℕ
 answer_status (Yes events) = 0
 answer_status (No place why) = 14
 
--- the exit status of a program that ends by an error
+-- the exit status of each error of the mode `audit`
 abbrev pub error_status : AuditError → ℕ
 error_status errors.ReadFailed = 3
 error_status errors.SetupMissing = 4
@@ -116,7 +115,7 @@ error_status (errors.SetupRefused fault) = 5
 error_status errors.OutOfMemory = 9
 error_status errors.EndsFailed = 11
 
--- the exit status of a program that ends by what came of the mode
+-- the exit status for what came of the mode `audit`
 abbrev pub status_of : Result Audit AuditError → ℕ
 status_of (Ok answer) = answer_status answer
 status_of (Err error) = error_status error

@@ -1,14 +1,14 @@
--- Believed: the words of the mode `audit`.
+-- Believed: the command line of the mode `audit`.
 use Rattle.std.specs.Prelude.{ℕ, List, [], ◌∷◌, codes, Option, None}
 use Rattle.std.specs.Bool.{then_some}
 use Rattle.std.specs.Str.{bytes_eq}
 
--- the names of the setup's file and of the log's
+-- what `audit` is asked for: the files of the setup and of the log
 pub record AuditParts : Type 0 where
   pub setup : List ℕ
   pub log : List ℕ
 
--- what the words `audit SETUP LOG` ask for; other words ask for nothing
+-- what the command line `audit SETUP LOG` asks for; any other asks for nothing
 abbrev pub audit_command : List (List ℕ) → Option AuditParts
 audit_command (mode ∷ setup ∷ log ∷ []) = then_some (bytes_eq mode (codes "audit")) (record { setup = setup; log = log })
 audit_command _ = None

@@ -8,7 +8,7 @@ use Rattle.check_mode.specs.declared.fault.CheckFault.TheVariants as faults
 use Rattle.check_mode.specs.declared.finding.Finding.{Finding}
 use Rattle.check_mode.specs.declared.finding.Finding.TheVariants.{Right, SetupMissing, SetupRefused, WordsMissing, WordsRefused}
 
--- what is told of a setup and its word list, as the files say them
+-- what is found of a setup and its word list, by what the files say
 abbrev pub told_by : Result FoundService ServiceError → Result Finding CheckFault
 told_by (Ok found) = Ok (Right (length found.entries.accounts) found.entries.counts.workers found.entries.counts.requests)
 told_by (Err errors.SetupMissing) = Ok SetupMissing
@@ -18,7 +18,7 @@ told_by (Err (errors.WordsRefused fault)) = Ok (WordsRefused fault)
 told_by (Err errors.Failed) = Err faults.ReadFailed
 told_by (Err errors.OutOfMemory) = Err faults.OutOfMemory
 
--- the exit status of a program that has told what it found
+-- the exit status for what was found: 0 right, 4 missing, 5 refused
 abbrev pub finding_status : Finding → ℕ
 finding_status (Right accounts workers requests) = 0
 finding_status SetupMissing = 4

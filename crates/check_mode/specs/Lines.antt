@@ -7,14 +7,14 @@ use Rattle.account_file.specs.Spellings.{key_word, rule_word}
 use Rattle.check_mode.specs.declared.finding.Finding.{Finding}
 use Rattle.check_mode.specs.declared.finding.Finding.TheVariants.{Right, SetupMissing, SetupRefused, WordsMissing, WordsRefused}
 
--- a rule of word lists as it is spelled
+-- the word for a rule of word lists
 abbrev pub list_rule_word : DictRule → List ℕ
 list_rule_word rules.Count = codes "count"
 list_rule_word rules.Length = codes "length"
 list_rule_word rules.Letter = codes "letter"
 list_rule_word rules.Twice = codes "twice"
 
--- the line of what was found
+-- the line that says what was found
 abbrev pub line_of : Finding → List ℕ
 line_of (Right accounts workers requests) = codes "ok accounts " ++ decimal accounts ++ codes " workers " ++ decimal workers ++ codes "\n"
 line_of SetupMissing = codes "missing setup\n"

@@ -17,12 +17,11 @@ IsFileFault ReadFailed faults.ReadFailed = ReadFailed
 IsFileFault ReadFailed faults.OutOfMemory = Unit {0}
 IsFileFault ReadFailed faults.EndsFailed = ⊥
 
--- the files, where they tell what stands in them, say this of the setup in the file of this name
+-- the files, if they report, say this of the setup in the named file
 abbrev pub IsFinding : List Key → Option Contents → List ℕ → Finding → Type 0
 IsFinding forms contents name finding = IfSome contents (λ files. told_by (service_in forms files name) ≡ Ok finding)
 
--- what came of the mode, by what the files tell, what the ends told before and after, and whether a reading of a file and a call
--- on the ends failed: what was found is told whole, or in part where the ends failed, or nothing is told
+-- what each end of `check` means: what was found was sent, whole or in part, or nothing was sent
 abbrev pub IsOutcome : List Key → List ℕ → Option Contents → Option Link → Option Link → Type 0 → Type 0 → Result Finding CheckFault → Type 0
 IsOutcome forms name contents before after ReadFailed EndsFailed (Ok finding) =
     IsFinding forms contents name finding × Goes (Exchanged [] (line_of finding)) before after
@@ -38,13 +37,13 @@ ends_before_line (Err faults.OutOfMemory) = true
 ends_before_line (Err faults.EndsFailed) = false
 ends_before_line (Ok finding) = false
 
--- the exit status of a program that ends by a fault
+-- the exit status of each fault of the mode `check`
 abbrev pub fault_status : CheckFault → ℕ
 fault_status faults.ReadFailed = 3
 fault_status faults.OutOfMemory = 9
 fault_status faults.EndsFailed = 11
 
--- the exit status of a program that ends by what came of the mode
+-- the exit status for what came of the mode `check`
 abbrev pub status_of : Result Finding CheckFault → ℕ
 status_of (Ok finding) = finding_status finding
 status_of (Err fault) = fault_status fault

@@ -20,21 +20,23 @@ use Rattle.decision_log.specs.Parts.{Read, hex_in, lettered, name_in, next, numb
 use Rattle.decision_log.specs.Values.{AskValue, Begin, Banner, Challenge, Reply, Abandon, Export, Import, ReadAt, WriteAt, OpenFile, CloseFile, Info, Note, Finish, Bad, End, LineValue}
 use Rattle.decision_log.specs.Words.{ask_word, ask_words, decision_word, decision_words, why_word, why_words}
 
--- nothing more is read
+-- a value for which nothing more is read
 abbrev pub done : {A : Type 0} → A → List ℕ → Result (Read A) LineFault
 done value rest = Ok (record { value = value; rest = rest })
 
--- words by their tables
+-- the word of an ask that a part is
 abbrev pub ask_word_in : List ℕ → Result AskWord LineFault
 ask_word_in bytes = demand faults.Word (find (λ w. bytes_eq (ask_word w) bytes) ask_words)
 
+-- the word of a decision that a part is
 abbrev pub decision_word_in : List ℕ → Result DecisionWord LineFault
 decision_word_in bytes = demand faults.Word (find (λ w. bytes_eq (decision_word w) bytes) decision_words)
 
+-- the word of a reason that a part is
 abbrev pub why_word_in : List ℕ → Result WhyWord LineFault
 why_word_in bytes = demand faults.Word (find (λ w. bytes_eq (why_word w) bytes) why_words)
 
--- what stands behind the word of an end
+-- what follows the word of a reason: a length, a rule or nothing
 abbrev pub why_behind : WhyWord → List ℕ → Result (Read Why) LineFault
 why_behind why_.Finished = done whys.Finished
 why_behind why_.ChildEnded = done whys.ChildEnded
@@ -45,18 +47,19 @@ why_behind why_.LinkFault = done whys.LinkFault
 why_behind why_.KeeperFault = done whys.KeeperFault
 why_behind why_.LogLost = done whys.LogLost
 
+-- the reason of an end at the front of the rest of a line, and what is left
 abbrev pub why_read : List ℕ → Result (Read Why) LineFault
 why_read text = do
   word ← next why_word_in text
   why_behind word.value word.rest
 
--- the end that was read
+-- the end of a session, with the reason that is read
 abbrev pub end_read : List ℕ → Result (Read AskValue) LineFault
 end_read text = do
   why ← why_read text
   Ok (record { value = End why.value; rest = why.rest })
 
--- what stands behind the word of an ask
+-- what follows the word of an ask: its numbers and texts
 abbrev pub ask_behind : AskWord → List ℕ → Result (Read AskValue) LineFault
 ask_behind ask_.Open = done Begin
 ask_behind ask_.Banner = done Banner
@@ -75,12 +78,13 @@ ask_behind ask_.Finish = done Finish
 ask_behind ask_.Bad = two (rule_in 2 5) (number_below (2 ^ 32)) Bad
 ask_behind ask_.End = end_read
 
+-- the ask at the front of the rest of a line, and what is left
 abbrev pub ask_read : List ℕ → Result (Read AskValue) LineFault
 ask_read text = do
   word ← next ask_word_in text
   ask_behind word.value word.rest
 
--- the value of a permit, shown or not
+-- the value of a permit, read where a line shows it
 abbrev pub value_behind : ℕ → AskValue → List ℕ → Result (Read Decision) LineFault
 value_behind session Begin = done (decisions.Permit session)
 value_behind session (Challenge user now) = one (number_below (2 ^ 64)) (λ value. decisions.Permit value)
@@ -90,11 +94,12 @@ value_behind session (OpenFile mode name) = one (number_below (2 ^ 64)) (λ valu
 value_behind session (Info number) = one (number_below (2 ^ 64)) (λ value. decisions.Permit value)
 value_behind session _ = done (decisions.Permit 0)
 
--- what stands behind the word of a decision
+-- what follows the word of a decision: a permit's value, or a denial's rule and detail
 abbrev pub decision_behind : ℕ → AskValue → DecisionWord → List ℕ → Result (Read Decision) LineFault
 decision_behind session ask decision_.Permit = value_behind session ask
 decision_behind session ask decision_.Deny = two (rule_in 1 22) (number_below (2 ^ 32)) (λ rule detail. decisions.Deny rule detail)
 
+-- the decision at the front of the rest of a line, and what is left
 abbrev pub decision_read : ℕ → AskValue → List ℕ → Result (Read Decision) LineFault
 decision_read session ask text = do
   word ← next decision_word_in text

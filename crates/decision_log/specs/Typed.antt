@@ -11,7 +11,7 @@ IsSmall (Permit value) = value < 2 ^ 64
 IsSmall (Deny rule detail) = detail < 2 ^ 32
 IsSmall Lost = Unit {0}
 
--- an event is in the ranges of its types
+-- the numbers of an event are in the ranges of their types
 pub record IsTyped (e : Event) : Type 0 where
   pub worker : e.worker < 2 ^ 32
   pub session : e.session < 2 ^ 32

@@ -10,7 +10,7 @@ use Rattle.policy_model.specs.declared.event.Event.{Event}
 use Rattle.policy_model.specs.declared.event.Why.{Why}
 use Rattle.policy_model.specs.declared.event.Why.TheVariants as whys
 
--- what was asked, without a reply's readings, and names as their bytes
+-- an ask as a line says it: names as bytes, a reply without its readings
 pub data AskValue : Type 0 where
   Begin : AskValue
   Banner : AskValue
@@ -29,7 +29,7 @@ pub data AskValue : Type 0 where
   Bad : (rule detail : ℕ) → AskValue
   End : (why : Why) → AskValue
 
--- what a line says of an ask
+-- what a line says of an ask, a reply without its readings
 abbrev pub ask_value : Ask → AskValue
 ask_value asks.Begin = Begin
 ask_value asks.Banner = Banner
@@ -48,7 +48,7 @@ ask_value asks.Finish = Finish
 ask_value (asks.Bad rule detail) = Bad rule detail
 ask_value (asks.End why) = End why
 
--- a line: the event's number, its worker and session, what was asked and what was decided
+-- what a line says: the event's number, worker, session, ask and decision
 pub record LineValue : Type 0 where
   pub number : ℕ
   pub worker : ℕ
@@ -60,13 +60,13 @@ pub record LineValue : Type 0 where
 abbrev pub line_value : ℕ → Event → LineValue
 line_value number e = record { number = number; worker = e.worker; session = e.session; ask = ask_value e.ask; decision = e.decision }
 
--- the rule of a violation is one of 1 to 7
+-- the numbers of a reason are in their ranges: a rule from 1 to 7, a length of 16 bits
 abbrev pub IsWhy : Why → Type 0
 IsWhy (whys.BadFrame len) = len < 2 ^ 16
 IsWhy (whys.Violation rule) = (1 ≤ rule) × (rule ≤ 7)
 IsWhy _ = Unit {0}
 
--- the parts of an ask are in their types' ranges, and its rules in theirs
+-- the numbers of an ask are in the ranges of their types, and its rules in theirs
 abbrev pub IsAsk : AskValue → Type 0
 IsAsk (Challenge user now) = IsTrue (is_name user) × (now < 2 ^ 64)
 IsAsk (Export len) = len < 2 ^ 16
@@ -80,7 +80,7 @@ IsAsk (Bad rule detail) = (2 ≤ rule) × (rule ≤ 5) × (detail < 2 ^ 32)
 IsAsk (End why) = IsWhy why
 IsAsk _ = Unit {0}
 
--- the value of a permit: a number of 64 bits where the line shows it, the session of an opening, and else 0
+-- the value of a permit: 64 bits where the line shows it, an opening's session, and otherwise 0
 abbrev pub IsValue : ℕ → AskValue → ℕ → Type 0
 IsValue session Begin value = value ≡ session
 IsValue session (Challenge user now) value = value < 2 ^ 64
@@ -90,13 +90,13 @@ IsValue session (OpenFile mode name) value = value < 2 ^ 64
 IsValue session (Info number) value = value < 2 ^ 64
 IsValue session _ value = value ≡ 0
 
--- a decision that a line shows
+-- a decision that a line can show: a permit with its value, or a denial, but not a loss
 abbrev pub IsShown : ℕ → AskValue → Decision → Type 0
 IsShown session ask (decisions.Permit value) = IsValue session ask value
 IsShown session ask (decisions.Deny rule detail) = (1 ≤ rule) × (rule ≤ 22) × (detail < 2 ^ 32)
 IsShown session ask decisions.Lost = ⊥
 
--- what a line can say
+-- what a line can say: numbers in their ranges, and a decision that it shows
 pub record IsLine (v : LineValue) : Type 0 where
   pub number : v.number < 2 ^ 32
   pub worker : v.worker < 2 ^ 32

@@ -26,6 +26,7 @@ ask_word asks.Finish = codes "finish"
 ask_word asks.Bad = codes "bad"
 ask_word asks.End = codes "end"
 
+-- the kinds of asks that a log shows
 unfoldable pub ask_words : List AskWord
 ask_words = asks.Open ∷ asks.Banner ∷ asks.Challenge ∷ asks.Reply ∷ asks.Abandon ∷ asks.Export ∷ asks.Import ∷ asks.Read ∷ asks.Write ∷ asks.Grant ∷ asks.Close ∷ asks.Info ∷ asks.Note ∷ asks.Finish ∷ asks.Bad ∷ asks.End ∷ []
 
@@ -34,10 +35,11 @@ unfoldable pub decision_word : DecisionWord → List ℕ
 decision_word decisions.Permit = codes "permit"
 decision_word decisions.Deny = codes "deny"
 
+-- the kinds of decisions that a log shows
 unfoldable pub decision_words : List DecisionWord
 decision_words = decisions.Permit ∷ decisions.Deny ∷ []
 
--- the word behind `end`
+-- the word for a reason, after `end`
 unfoldable pub why_word : WhyWord → List ℕ
 why_word whys.Finished = codes "finished"
 why_word whys.ChildEnded = codes "child-ended"
@@ -48,5 +50,6 @@ why_word whys.LinkFault = codes "link-fault"
 why_word whys.KeeperFault = codes "keeper-fault"
 why_word whys.LogLost = codes "log-lost"
 
+-- the kinds of reasons for an end
 unfoldable pub why_words : List WhyWord
 why_words = whys.Finished ∷ whys.ChildEnded ∷ whys.Truncated ∷ whys.BadFrame ∷ whys.Violation ∷ whys.LinkFault ∷ whys.KeeperFault ∷ whys.LogLost ∷ []

@@ -7,7 +7,7 @@ use Rattle.policy_model.specs.Settings.{Settings}
 use Rattle.drill_plan.specs.Drill.{IsDrill}
 use Rattle.drill_plan.specs.DrillSetup.{IsDrillSetup}
 
--- the journal of the drill of n: legal for its setup, without a loss, and that of four workers whose sessions ask what the table has for them
+-- the journal of the drill of n: legal for the drill's setup, nothing lost, and by the drill's table
 pub record IsDrilled (n : ℕ) (journal : List Event) : Type 0 where
   pub setup : Settings
   pub setup_is : IsDrillSetup n setup

@@ -5,13 +5,13 @@ use Rattle.policy_model.specs.declared.event.Event.{Event}
 use Rattle.drill_mode.specs.declared.error.DrillError.{DrillError}
 use Rattle.drill_mode.specs.declared.error.DrillError.TheVariants as errors
 
--- that of a program that ends by an error
+-- the exit status of each error of the mode `drill`
 abbrev pub error_status : DrillError → ℕ
 error_status errors.OutOfMemory = 9
 error_status errors.CeasedToTell = 9
 error_status errors.EndsFailed = 11
 
--- that of a program that ends by what came of the mode
+-- the exit status for what came of the mode `drill`
 abbrev pub status_of : Result (Vec Event Global) DrillError → ℕ
 status_of (Ok journal) = 0
 status_of (Err error) = error_status error

@@ -9,8 +9,7 @@ use Rattle.drill_mode.specs.declared.error.DrillError.{DrillError}
 use Rattle.drill_mode.specs.declared.error.DrillError.TheVariants as errors
 use Rattle.drill_mode.specs.Drilled.{IsDrilled}
 
--- what came of the mode, by what the ends told before and after, and whether a call on them failed: the counts of the drill's
--- journal are told whole, or in part where the ends failed, or nothing is told
+-- what each end of `drill` means: the counts of the drill's journal were sent, whole or in part, or nothing was
 abbrev pub IsOutcome : ℕ → Option Link → Option Link → Type 0 → Result (Vec Event Global) DrillError → Type 0
 IsOutcome n before after EndsFailed (Ok journal) =
     IsDrilled n journal.items × Goes (Exchanged [] (counts_text journal.items)) before after

@@ -1,14 +1,14 @@
--- Believed: the words of the mode `drill`.
+-- Believed: the command line of the mode `drill`.
 use Rattle.std.specs.Prelude.{ℕ, ◌&&◌, nat_le, if◌then◌else◌, List, [], ◌∷◌, codes, Option, None, option_and_then}
 use Rattle.std.specs.Bool.{then_some}
 use Rattle.std.specs.Str.{bytes_eq}
 use Rattle.text_line.specs.Reading.{decimal_of}
 
--- the number from 1 to 64 that a word spells in decimal digits without a leading zero
+-- the number that a word spells, from 1 to 64, without a leading zero
 abbrev pub drill_number : List ℕ → Option ℕ
 drill_number word = option_and_then (λ n. then_some (nat_le 1 n && nat_le n 64) n) (decimal_of word)
 
--- the number that the words `drill N` give; other words give none
+-- the number that the command line `drill N` gives; any other gives none
 abbrev pub drill_command : List (List ℕ) → Option ℕ
 drill_command (mode ∷ number ∷ []) = if bytes_eq mode (codes "drill") then drill_number number else None
 drill_command _ = None

@@ -15,10 +15,11 @@ class_numbered _ = BreaksOff
 abbrev pub class_of : ℕ → ℕ → ℕ → Class
 class_of n worker session = class_numbered ((n + worker + session) % 4)
 
+-- the class of sessions that log in
 abbrev pub is_login : Class → Bool
 is_login LogsIn = true
 is_login _ = false
 
--- how many of the worker's earlier sessions log in
+-- how many of a worker's earlier sessions log in
 abbrev pub logins_before : ℕ → ℕ → ℕ → ℕ
 logins_before n worker session = count_by is_login (map (class_of n worker) (range_with_len 0 session))

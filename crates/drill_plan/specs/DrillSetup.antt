@@ -7,7 +7,7 @@ use Rattle.policy_model.specs.declared.account.Grant.{Grant}
 use Rattle.policy_model.specs.Settings.{Settings, plain_settings}
 use Rattle.drill_plan.specs.Passwords.{own_algo, own_name, own_password, own_seed, session_count}
 
--- the one grant of each user: its file `notes`, to read and to write
+-- each user's one grant: its file `notes`, to read and to write
 abbrev pub AreDrillGrants : List Grant → Type 0
 AreDrillGrants (grant ∷ []) = (label_bytes grant.name ≡ codes "notes") × (grant.mode ≡ 3)
 AreDrillGrants _ = ⊥
@@ -23,12 +23,12 @@ pub record IsDrillAccount (n worker : ℕ) (account : Account) : Type 0 where
   pub enabled : account.enabled ≡ true
   pub grants : AreDrillGrants account.grants
 
--- the accounts of the drill of n: one for each worker, in their order
+-- the accounts of the drill of n: one for each of four workers, in their order
 pub record AreDrillAccounts (n : ℕ) (accounts : List Account) : Type 0 where
   pub four : length accounts ≡ 4
   pub each : (worker : ℕ) (account : Account) → slice_get accounts worker ≡ Some account → IsDrillAccount n worker account
 
--- the setup of the drill of n; what isn't named here is the plain setup's
+-- the setup of the drill of n: the plain one, with four workers, their accounts, and 16 requests a session
 pub record IsDrillSetup (n : ℕ) (setup : Settings) : Type 0 where
   pub plain : setup ≡ record plain_settings { workers = 4; connections = session_count n; requests = 16; tries = 3; hold = 30000; accounts = setup.accounts }
   pub accounts : AreDrillAccounts n setup.accounts

@@ -10,15 +10,15 @@ use Rattle.drill_plan.specs.Classes.{logins_before}
 abbrev pub own_name : ℕ → List ℕ
 own_name worker = codes "d" ++ decimal worker
 
--- the user's seed
+-- the seed of a worker's user
 abbrev pub own_seed : ℕ → List ℕ
 own_seed worker = codes "drill" ++ decimal worker
 
--- the user's algorithm
+-- the algorithm of a worker's user: MD5 and SHA-1 in turn
 abbrev pub own_algo : ℕ → Algo
 own_algo worker = if worker % 2 == 0 then Md5 else Sha1
 
--- the phrase of all users in the drill of n
+-- the pass phrase of all users in the drill of n
 abbrev pub drill_phrase : ℕ → List ℕ
 drill_phrase n = codes "drill phrase " ++ decimal n
 
@@ -26,14 +26,14 @@ drill_phrase n = codes "drill phrase " ++ decimal n
 abbrev pub session_count : ℕ → ℕ
 session_count n = 8 * n
 
--- the password at a count of the chain of a worker's user
+-- the password of this number in the chain of a worker's user
 abbrev pub own_password : ℕ → ℕ → ℕ → ℕ
 own_password n worker count = chain_of (own_algo worker) (own_seed worker) (drill_phrase n) count
 
--- where each earlier login went well: the password that was accepted last before a session, ..
+-- the password that was accepted last before a session, if every earlier login went well
 abbrev pub current_password : ℕ → ℕ → ℕ → ℕ
 current_password n worker session = own_password n worker (session_count n - logins_before n worker session)
 
--- .. and the one that is right in it
+-- the password that is right in a session, if every earlier login went well
 abbrev pub right_password : ℕ → ℕ → ℕ → ℕ
 right_password n worker session = own_password n worker (session_count n - logins_before n worker session - 1)

@@ -13,25 +13,27 @@ use Rattle.drill_plan.specs.declared.class.Class.TheVariants.{LogsIn, Repeats, E
 use Rattle.drill_plan.specs.Classes.{class_of}
 use Rattle.drill_plan.specs.Passwords.{current_password, own_name, right_password}
 
--- the least state that a child leaves to its successor
+-- the smallest state that a child can export
 abbrev pub least_record : List ℕ
 least_record = state_bytes (record { terminal = []; unread = []; lines = 0; bytes = 0 })
 
--- what the child before the login asks in a session of this class, for this user, who has this current password and this next one
+-- what the child before the login asks in a session of this class, by the user's current password and the right one
 abbrev pub early_requests_by : List ℕ → ℕ → ℕ → Class → List RequestValue
 early_requests_by user current right LogsIn = Banner ∷ Challenge user ∷ Reply (password_text right) ∷ Export least_record ∷ []
 early_requests_by user current right Repeats = Challenge user ∷ Reply (password_text current) ∷ Finish ∷ []
 early_requests_by user current right Exports = Export least_record ∷ []
 early_requests_by user current right BreaksOff = Challenge user ∷ Abandon ∷ Challenge (codes "nobody") ∷ []
 
--- what the user's child asks
+-- what the user's child asks in a session of this class: only a login has one
 abbrev pub user_requests_by : Class → List RequestValue
 user_requests_by LogsIn = Import ∷ OpenFile 3 (codes "notes") ∷ WriteAt 1 0 (codes "drill") ∷ ReadAt 1 0 16 ∷ CloseFile 1 ∷ Finish ∷ []
 user_requests_by _ = []
 
+-- what the child before the login asks in a session of the drill
 abbrev pub early_requests : ℕ → ℕ → ℕ → List RequestValue
 early_requests n worker session = early_requests_by (own_name worker) (current_password n worker session) (right_password n worker session) (class_of n worker session)
 
+-- what the user's child asks in a session of the drill
 abbrev pub user_requests : ℕ → ℕ → ℕ → List RequestValue
 user_requests n worker session = user_requests_by (class_of n worker session)
 
@@ -39,7 +41,7 @@ user_requests n worker session = user_requests_by (class_of n worker session)
 abbrev pub drill_requests : ℕ → ℕ → ℕ → List RequestValue
 drill_requests n worker session = early_requests n worker session ++ user_requests n worker session
 
--- an ask is that of a request of the table: a challenge at any moment, a reply by a password's hexadecimal digits alone
+-- an ask is that of a request of the table: a CHALLENGE at any moment, a REPLY in hexadecimal digits alone
 abbrev pub IsAskFor : RequestValue → Ask → Type 0
 IsAskFor Banner ask = ask ≡ asks.Banner
 IsAskFor (Challenge user) ask = (name : Name) × (now : ℕ) × (name_bytes name ≡ user) × (ask ≡ asks.Challenge name now)

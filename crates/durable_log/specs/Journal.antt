@@ -6,7 +6,7 @@ use Rattle.outside.specs.Told.{Goes}
 use Rattle.durable_log.specs.Disk.{DiskState, Story, AtEachMoment, moment_of, settled, states_of}
 use Rattle.durable_log.specs.Records.{HasRecords, opened}
 
--- the image that has these records and a closed gate, and nothing behind it
+-- the bytes of a durable log that has exactly these records
 abbrev pub image_of : List (List ℕ) → List ℕ
 image_of records = codes "OTJ1" ++ (opened records ++ 0 ∷ [])
 

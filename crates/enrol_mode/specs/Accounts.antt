@@ -6,7 +6,7 @@ use Rattle.account_file.specs.Entries.{AccountEntry, account_entry}
 use Rattle.account_writer.specs.Written.{IsTextOf}
 use Rattle.enrol_mode.specs.Words.{EnrolParts}
 
--- what a setup's file says of the account that the parts ask for, of this phrase
+-- what a setup file says of the new account: enabled, without grants, with the password of this phrase
 abbrev pub new_entry : EnrolParts → List ℕ → AccountEntry
 new_entry parts phrase = record {
   name = parts.name;
@@ -19,7 +19,7 @@ new_entry parts phrase = record {
   grants = [];
 }
 
--- this text spells that account alone, and with it a setup behind whose file it stands
+-- this text spells the account that was asked for, alone or appended to the file of a setup
 pub record IsEnrolText (parts : EnrolParts) (phrase text : List ℕ) : Type 0 where
   pub account : Account
   pub entry : account_entry account ≡ new_entry parts phrase

@@ -9,21 +9,21 @@ use Rattle.enrol_mode.specs.declared.fault.EnrolFault.TheVariants as faults
 use Rattle.enrol_mode.specs.Accounts.{IsEnrolText}
 use Rattle.enrol_mode.specs.Words.{EnrolParts}
 
--- a phrase was received, in at most 4,096 bytes, and this was sent
+-- a phrase was received, in at most 4,096 bytes, and exactly this was sent
 pub record TookPhrase (phrase sent : List ℕ) (before after : Link) : Type 0 where
   pub accepted : phrase_of before.left ≡ Some phrase
   pub received : List ℕ
   pub few : length received ≤ 4096
   pub passed : Exchanged received sent before after
 
--- a phrase was received, and its account's text sent
+-- a phrase was received, and the text of its account was sent
 pub record Printed (parts : EnrolParts) (before after : Link) : Type 0 where
   pub phrase : List ℕ
   pub text : List ℕ
   pub spells : IsEnrolText parts phrase text
   pub took : TookPhrase phrase text before after
 
--- a phrase was received, and some first part of its account's text sent
+-- a phrase was received, and some first part of its account's text was sent
 pub record PrintedPart (parts : EnrolParts) (before after : Link) : Type 0 where
   pub phrase : List ℕ
   pub text : List ℕ
@@ -31,13 +31,12 @@ pub record PrintedPart (parts : EnrolParts) (before after : Link) : Type 0 where
   pub count : ℕ
   pub took : TookPhrase phrase (take count text) before after
 
--- a phrase was received, and nothing sent
+-- a phrase was received, and nothing was sent
 pub record OnlyTook (before after : Link) : Type 0 where
   pub phrase : List ℕ
   pub took : TookPhrase phrase [] before after
 
--- what came of the words' parts, by what the ends told before and after, and whether a call on them failed: each answer
--- with all that it says
+-- what each end of `enrol` means: the account was printed, whole or in part, or nothing was sent
 abbrev pub IsOutcome : EnrolParts → Option Link → Option Link → Type 0 → Result (Unit {0}) EnrolFault → Type 0
 IsOutcome parts before after EndsFailed (Ok _) = Goes (Printed parts) before after
 IsOutcome parts before after EndsFailed (Err faults.OutOfMemory) = Goes OnlyTook before after

@@ -23,7 +23,7 @@ abbrev pub is_denial_by : ℕ → Decision → Bool
 is_denial_by rule (decisions.Deny first detail) = first == rule
 is_denial_by rule _ = false
 
--- a session ended for a reason of this kind
+-- the reason of an end is of this kind
 abbrev pub is_of_kind : EndKind → Why → Bool
 is_of_kind kinds.Finished whys.Finished = true
 is_of_kind kinds.ChildEnded whys.ChildEnded = true
@@ -40,7 +40,7 @@ abbrev pub is_end_of : EndKind → Ask → Bool
 is_end_of kind (asks.End why) = is_of_kind kind why
 is_end_of kind _ = false
 
--- an event is one of what is counted
+-- an event is one that this count counts
 abbrev pub is_counted : Counted → Event → Bool
 is_counted Sessions e = opens e
 is_counted Events e = true
@@ -50,6 +50,6 @@ is_counted Accepted e = accepts e
 is_counted (Rule rule) e = is_denial_by rule e.decision
 is_counted (End kind) e = is_end_of kind e.ask
 
--- how many events of a journal are
+-- how many events of a journal a count counts
 abbrev pub count_in : List Event → Counted → ℕ
 count_in journal counted = count_by (is_counted counted) journal

@@ -9,7 +9,7 @@ use Rattle.journal_counts.specs.declared.counted.EndKind.{EndKind}
 use Rattle.journal_counts.specs.declared.counted.EndKind.TheVariants as kinds
 use Rattle.journal_counts.specs.Counted.{count_in}
 
--- a kind of end as it is spelled
+-- the word of a kind of end
 abbrev pub kind_word : EndKind → List ℕ
 kind_word kinds.Finished = codes "finished"
 kind_word kinds.ChildEnded = codes "child-ended"
@@ -20,7 +20,7 @@ kind_word kinds.LinkFault = codes "link-fault"
 kind_word kinds.KeeperFault = codes "keeper-fault"
 kind_word kinds.LogLost = codes "log-lost"
 
--- what is counted, as it is spelled
+-- the words of a count
 abbrev pub counted_words : Counted → List ℕ
 counted_words Sessions = codes "sessions"
 counted_words Events = codes "events"
@@ -30,15 +30,15 @@ counted_words Accepted = codes "accepted"
 counted_words (Rule rule) = codes "rule " ++ decimal rule
 counted_words (End kind) = codes "end " ++ kind_word kind
 
--- the line of these: how many a journal has
+-- the line of a count: its words and the number
 abbrev pub line_in : List Event → Counted → List ℕ
 line_in journal counted = counted_words counted ++ codes " " ++ decimal (count_in journal counted) ++ codes "\n"
 
--- the same, and none where there are none of these
+-- the line of a count, if it isn't 0
 abbrev pub line_where_some : List Event → Counted → List ℕ
 line_where_some journal counted = if count_in journal counted == 0 then [] else line_in journal counted
 
--- what has a line always, in this order
+-- the totals that always have a line, in this order
 abbrev pub totals : List Counted
 totals = Sessions ∷ Events ∷ Permitted ∷ Denied ∷ Accepted ∷ []
 
@@ -46,18 +46,18 @@ totals = Sessions ∷ Events ∷ Permitted ∷ Denied ∷ Accepted ∷ []
 abbrev pub end_kinds : List EndKind
 end_kinds = kinds.Finished ∷ kinds.ChildEnded ∷ kinds.Truncated ∷ kinds.BadFrame ∷ kinds.Violation ∷ kinds.LinkFault ∷ kinds.KeeperFault ∷ kinds.LogLost ∷ []
 
--- a line of each total
+-- a line for each total
 unfoldable pub totals_text : List Event → List ℕ
 totals_text journal = flat_map (line_in journal) totals
 
--- a line of each of the 22 rules that came, in rising order
+-- a line for each of the 22 rules that denied something, in rising order
 unfoldable pub rules_text : List Event → List ℕ
 rules_text journal = flat_map (λ rule. line_where_some journal (Rule rule)) (range_with_len 1 22)
 
--- a line of each kind of end that came
+-- a line for each kind of end that came
 unfoldable pub ends_text : List Event → List ℕ
 ends_text journal = flat_map (λ kind. line_where_some journal (End kind)) end_kinds
 
--- what a journal comes to
+-- the counts of a journal as `drill` prints them: totals, then rules, then kinds of ends
 abbrev pub counts_text : List Event → List ℕ
 counts_text journal = totals_text journal ++ rules_text journal ++ ends_text journal

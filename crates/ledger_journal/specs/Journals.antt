@@ -18,7 +18,8 @@ use Rattle.ledger_journal.specs.declared.answer.RecoverError.{RecoverError}
 use Rattle.ledger_journal.specs.declared.answer.RecoverError.TheVariants as errors
 use Rattle.ledger_journal.specs.Recovering.{IsOwn}
 
--- the journal of a run with a setup of which nothing was lost: it is legal, its asks are proper, it has at most as many events as a run makes, and they are in the ranges of their types
+-- a whole journal of a run by this setup: legal, proper, nothing lost, within the limit of events, each number in its
+-- range
 pub record IsWhole (setup : Settings) (journal : List Event) : Type 0 where
   pub in_range : IsInRange setup
   pub legal : IsLegal setup journal
@@ -27,37 +28,38 @@ pub record IsWhole (setup : Settings) (journal : List Event) : Type 0 where
   pub few : length journal ≤ EVENTS_LIMIT
   pub typed : AllByRecursion IsTyped journal
 
--- the lines of events, a record each, where so many stand before them
+-- the records of these events, numbered on from so many before them
 abbrev pub records_after : ℕ → List Event → List (List ℕ)
 records_after count [] = []
 records_after count (e ∷ events) = line_of (count + 1) e ∷ records_after (count + 1) events
 
--- the lines of a journal, numbered from 1
+-- the records of a journal: its lines, numbered from 1
 abbrev pub records_of : List Event → List (List ℕ)
 records_of journal = records_after 0 journal
 
--- the sequence and the current password of an account, as a ledger knows them and as a journal says
+-- the sequence and the current password of an account as a ledger knows them
 abbrev pub chain_known : AccountState → ℕ × ℕ
 chain_known state = (state.sequence, current_of state)
 
+-- the sequence and the current password of an account after a journal
 abbrev pub chain_after : List Event → Account → ℕ × ℕ
 chain_after journal account = (current_sequence journal account, current_password journal account)
 
--- the ledger has come to what the journal says of each account
+-- a journal's lines were read, and the ledger knows of each account what the journal says
 pub record IsBackAt (setup : Settings) (journal : List Event) (r : Recovered) : Type 0 where
   pub lines : r.lines ≡ length journal
   pub accepted : r.accepted ≡ count_by accepts journal
   pub made : r.ledger.setup ≡ setup
   pub chains : map chain_known r.ledger.accounts ≡ map (chain_after journal) setup.accounts
 
--- the setup has what the journal says, and the ledger is the setup's own
+-- a journal's lines were read, the setup has what they say already, and the ledger knows just what the setup says
 pub record IsThereAlready (setup : Settings) (journal : List Event) (r : Recovered) : Type 0 where
   pub lines : r.lines ≡ length journal
   pub accepted : r.accepted ≡ count_by accepts journal
   pub already : r.already ≡ list_any accepts journal
   pub own : IsOwn setup r.ledger
 
--- a log is recovered, or memory is wanted
+-- a log was recovered so, or memory ran out
 abbrev pub IsRecoveredAs : (Recovered → Type 0) → Result Recovered RecoverError → Type 0
 IsRecoveredAs P (Ok r) = P r
 IsRecoveredAs P (Err errors.OutOfMemory) = Unit {0}

@@ -12,7 +12,7 @@ use Rattle.ledger_journal.specs.declared.login.Login.{Login}
 use Rattle.ledger_journal.specs.Lines.{line_at}
 use Rattle.ledger_journal.specs.Logins.{Verifies, left_of, logins_of, state_after}
 
--- the record at this place, counted from 1, stands behind more lines than a run makes, or isn't a line with its place as its number
+-- the record at this place, counted from 1, is beyond the most lines of a run, or no line with its place as number
 pub record IsNoLine (records : List (List ℕ)) (number : ℕ) : Type 0 where
   pub place : ℕ
   pub bytes : List ℕ
@@ -20,7 +20,7 @@ pub record IsNoLine (records : List (List ℕ)) (number : ℕ) : Type 0 where
   pub counted : number ≡ place + 1
   pub fault : (EVENTS_LIMIT < number) ⊎ (line_at number bytes ≡ None)
 
--- of the replies that have to be spent in order, the one of this line doesn't verify behind those before it
+-- of the replies that have to be spent in order, the one of this line doesn't verify after those before it
 pub record IsRefused (setup : Settings) (left : List Login) (number : ℕ) : Type 0 where
   pub before : List Login
   pub login : Login
@@ -29,11 +29,11 @@ pub record IsRefused (setup : Settings) (left : List Login) (number : ℕ) : Typ
   pub counted : number ≡ login.line
   pub refused : Verifies setup before login → ⊥
 
--- the record at this place has a fault
+-- the record at this place has a fault: it is no line with its number, or its reply doesn't verify
 abbrev pub HasFault : Settings → List (List ℕ) → ℕ → Type 0
 HasFault setup records number = IsNoLine records number ⊎ IsRefused setup (left_of setup (logins_of setup records)) number
 
--- it is the first
+-- the record at this place has a fault, and none before it has one
 pub record IsFirstFault (setup : Settings) (records : List (List ℕ)) (number : ℕ) : Type 0 where
   pub here : HasFault setup records number
   pub none_before : (earlier : ℕ) → earlier < number → HasFault setup records earlier → ⊥
@@ -49,11 +49,12 @@ pub record IsOwn (setup : Settings) (l : LedgerParts) : Type 0 where
   pub made : l.setup ≡ setup
   pub states : l.accounts ≡ map new_state setup.accounts
 
+-- no replies are left
 abbrev pub is_none_left : List Login → Bool
 is_none_left [] = true
 is_none_left (login ∷ left) = false
 
--- what stands in the records of a log without a fault
+-- what records without a fault bring back: their counts, whether the setup had all replies, and the ledger
 pub record IsRecovered (setup : Settings) (records : List (List ℕ)) (r : Recovered) : Type 0 where
   pub no_fault : (number : ℕ) → HasFault setup records number → ⊥
   pub lines : r.lines ≡ length records
@@ -62,7 +63,7 @@ pub record IsRecovered (setup : Settings) (records : List (List ℕ)) (r : Recov
   pub ledger : HasAccepted setup (left_of setup (logins_of setup records)) r.ledger
   pub own : r.already ≡ true → IsOwn setup r.ledger
 
--- what is answered of these records; memory may be wanted
+-- what recovery answers for these records: what they bring back, or their first fault; memory may run out
 abbrev pub IsAnswerOf : Settings → List (List ℕ) → Result Recovered RecoverError → Type 0
 IsAnswerOf setup records (Ok r) = IsRecovered setup records r
 IsAnswerOf setup records (Err errors.NoLog) = ⊥
@@ -74,7 +75,7 @@ pub record HasSome (image : List ℕ) : Type 0 where
   pub records : List (List ℕ)
   pub has : HasRecords image records
 
--- an image has records where it isn't answered that it is no log
+-- an image has records, unless the answer is that it is no log or memory ran out
 abbrev pub IsLogOr : List ℕ → Result Recovered RecoverError → Type 0
 IsLogOr image (Ok r) = HasSome image
 IsLogOr image (Err errors.NoLog) = HasSome image → ⊥

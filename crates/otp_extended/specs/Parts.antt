@@ -1,7 +1,7 @@
 -- Believed: the parts of a text between its colons.
 use Rattle.std.specs.Prelude.{ℕ, ◌==◌, List, [], ◌∷◌, if◌then◌else◌}
 
--- a byte at the front of the first part
+-- the parts with one byte more, at the front of the first
 abbrev pub put_before : ℕ → List (List ℕ) → List (List ℕ)
 put_before c [] = (c ∷ []) ∷ []
 put_before c (part ∷ parts) = (c ∷ part) ∷ parts

@@ -25,11 +25,11 @@ abbrev pub spent_of : Response → ℕ
 spent_of (Plain current) = current
 spent_of (Init current algo sequence seed password) = current
 
--- a fault, where it applies
+-- a fault, if it applies
 abbrev pub fault_if : Bool → RenewFault → List RenewFault
 fault_if applies fault = if applies then fault ∷ [] else []
 
--- the new password is the current one, the one that was accepted last, or what the current one hashes to by the new algorithm
+-- the new password is the current one, the one accepted last, or what the current one hashes to by the new algorithm
 abbrev pub is_loop : Account → Response → Bool
 is_loop account (Plain current) = false
 is_loop account (Init current algo sequence seed password) =
@@ -49,21 +49,23 @@ abbrev pub faults_of : Account → Response → List RenewFault
 faults_of account response =
     fault_if (not account.enabled) Disabled ++ (fault_if (account.sequence == 0) Exhausted ++ chain_faults account response)
 
+-- the first of some faults, if there is one
 abbrev pub first_of : List RenewFault → Option RenewFault
 first_of [] = None
 first_of (fault ∷ faults) = Some fault
 
--- the new chain that a response begins for the account of a number
+-- the new chain that a response begins, for the account of this number
 abbrev pub new_chain_of : ℕ → Response → Result Renewed RenewFault
 new_chain_of number (Plain current) = Err NotInit
 new_chain_of number (Init current algo sequence seed password) =
     Ok (record { account = number; algo = algo; seed = seed; sequence = sequence; password = password })
 
--- the first fault, or the new chain where there is none
+-- the first fault, or the new chain if there is none
 abbrev pub judged : Option RenewFault → ℕ → Response → Result Renewed RenewFault
 judged (Some fault) number response = Err fault
 judged None number response = new_chain_of number response
 
+-- the new chain or the first fault, if the user has an account
 abbrev pub renewal_by : Option ℕ → Option Account → Response → Result Renewed RenewFault
 renewal_by (Some number) (Some account) response = judged (first_of (faults_of account response)) number response
 renewal_by _ _ response = Err Unknown
@@ -86,11 +88,12 @@ accounts_with (account ∷ accounts) (suc place) new = account ∷ accounts_with
 abbrev pub renewed_setup : Settings → Renewed → Settings
 renewed_setup setup new = record setup { accounts = accounts_with setup.accounts new.account new }
 
--- no permitted REPLY for the user has this password, unless an earlier one for that user stands before it
+-- no permitted REPLY for the user has this password, unless an earlier permitted one for the user stands before it
 pub record IsNotNext (journal : List Event) (user : Name) (password : ℕ) : Type 0 where
   pub refused : (k : ℕ) (e : Event) → slice_get journal k ≡ Some e → replies_of (take k journal) user ≡ [] → reply_for user (record { before = take k journal; event = e }) ≢ Some password
 
--- a user's account has a new chain, all other accounts and all other keys are as before, and no legal journal of the new setup begins that user's replies with the password that was spent
+-- the user's account has the new chain, all else is as before, and no legal journal of the new setup first accepts the
+-- spent password
 pub record IsRenewed (before after : Settings) (user : Name) (spent : ℕ) (new : Renewed) : Type 0 where
   pub account : Account
   pub numbered : account_number before user ≡ Some new.account

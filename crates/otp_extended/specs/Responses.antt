@@ -19,7 +19,7 @@ use Rattle.otp_extended.specs.declared.response.Response.TheVariants.{Plain, Ini
 use Rattle.otp_extended.specs.declared.response.ResponseFault.{ResponseFault}
 use Rattle.otp_extended.specs.declared.response.ResponseFault.TheVariants as faults
 
--- the kind that a word names, in any letter case
+-- the kind of response that a word names, in any letter case
 unfoldable pub kind_of : List ℕ → Option Kind
 kind_of word =
     let lower = map to_ascii_lowercase word in
@@ -29,19 +29,20 @@ kind_of word =
     else (if bytes_eq lower (codes "init-word") then Some (kinds.Init Words)
     else None)))
 
--- a text spells a password in a form: 16 hexadecimal digits with spaces and tabs anywhere, or six words of the dictionary in any letter case with right check bits
+-- a text spells a password in this form: 16 hexadecimal digits with blanks anywhere, or six words with right check bits
 abbrev pub Spells : List (List ℕ) → Form → List ℕ → ℕ → Type 0
 Spells dictionary Hexadecimal text password = hex_reading text ≡ Some password
 Spells dictionary Words text password = (password < 2 ^ 64) × IsSixWords dictionary text password
 
--- a text spells some password, or none
+-- a text spells some password
 abbrev pub SpellsSome : List (List ℕ) → Form → List ℕ → Type 0
 SpellsSome dictionary form text = (password : ℕ) × Spells dictionary form text password
 
+-- a text spells no password
 abbrev pub SpellsNone : List (List ℕ) → Form → List ℕ → Type 0
 SpellsNone dictionary form text = (password : ℕ) → Spells dictionary form text password → ⊥
 
--- a text is the parameters of a new chain: the word of an algorithm, one to four digits of a number from 1, and a seed in any letter case, with spaces and tabs between and nowhere else
+-- a text is a new chain's parameters: algorithm, number from 1 and seed, with spaces or tabs between and nowhere else
 pub record AreParams (text : List ℕ) (algo : Algo) (sequence : ℕ) (seed : List ℕ) : Type 0 where
   pub gap : List ℕ
   pub digits : List ℕ
@@ -55,20 +56,21 @@ pub record AreParams (text : List ℕ) (algo : Algo) (sequence : ℕ) (seed : Li
   pub legal : is_seed_text name ≡ true
   pub in_lower_case : seed ≡ map to_ascii_lowercase name
 
--- a text is some parameters, or none
+-- a text is the parameters of some chain
 abbrev pub IsSomeParams : List ℕ → Type 0
 IsSomeParams text = (algo : Algo) × (sequence : ℕ) × (seed : List ℕ) × AreParams text algo sequence seed
 
+-- a text is the parameters of no chain
 abbrev pub IsNoParams : List ℕ → Type 0
 IsNoParams text = (algo : Algo) (sequence : ℕ) (seed : List ℕ) → AreParams text algo sequence seed → ⊥
 
--- what is read of one part: a password, or that it spells none
+-- what one part reads as: a password, or that it spells none
 abbrev pub IsPlainOf : List (List ℕ) → Form → List ℕ → Result Response ResponseFault → Type 0
 IsPlainOf dictionary form current (Ok (Plain password)) = Spells dictionary form current password
 IsPlainOf dictionary form current (Err faults.Current) = SpellsNone dictionary form current
 IsPlainOf dictionary form current _ = ⊥
 
--- what is read of three parts: a password, the parameters of a new chain and its password; or the first of them that doesn't read
+-- those three parts: a password, the parameters of the new chain, and its password; or the first that doesn't read
 abbrev pub IsInitOf : List (List ℕ) → Form → List ℕ → List ℕ → List ℕ → Result Response ResponseFault → Type 0
 IsInitOf dictionary form current params new (Ok (Init spent algo sequence seed password)) =
     Spells dictionary form current spent × AreParams params algo sequence (seed_bytes seed) × Spells dictionary form new password
@@ -77,21 +79,23 @@ IsInitOf dictionary form current params new (Err faults.Params) = SpellsSome dic
 IsInitOf dictionary form current params new (Err faults.New) = SpellsSome dictionary form current × IsSomeParams params × SpellsNone dictionary form new
 IsInitOf dictionary form current params new _ = ⊥
 
--- what is read behind the word of a kind: one part, or three, or the fault that they are not so many
+-- a plain response has one part after the kind's word
 abbrev pub IsPlain : List (List ℕ) → Form → List (List ℕ) → Result Response ResponseFault → Type 0
 IsPlain dictionary form (current ∷ []) result = IsPlainOf dictionary form current result
 IsPlain dictionary form _ result = result ≡ Err faults.Parts
 
+-- a response that begins a new chain has three parts after the kind's word
 abbrev pub IsInit : List (List ℕ) → Form → List (List ℕ) → Result Response ResponseFault → Type 0
 IsInit dictionary form (current ∷ params ∷ new ∷ []) result = IsInitOf dictionary form current params new result
 IsInit dictionary form _ result = result ≡ Err faults.Parts
 
+-- what the parts after the kind's word read as, by that kind
 abbrev pub IsReadingBy : List (List ℕ) → Option Kind → List (List ℕ) → Result Response ResponseFault → Type 0
 IsReadingBy dictionary None parts result = result ≡ Err faults.Kind
 IsReadingBy dictionary (Some (kinds.Plain form)) parts result = IsPlain dictionary form parts result
 IsReadingBy dictionary (Some (kinds.Init form)) parts result = IsInit dictionary form parts result
 
--- what is read of the parts of a text between its colons: the response, or the first fault
+-- what the parts of a text between its colons read as: a response, or the first fault
 abbrev pub IsReading : List (List ℕ) → List (List ℕ) → Result Response ResponseFault → Type 0
 IsReading dictionary (word ∷ part ∷ parts) result = IsReadingBy dictionary (kind_of word) (part ∷ parts) result
 IsReading dictionary _ result = result ≡ Err faults.Kind

@@ -8,7 +8,8 @@ use Rattle.policy_model.specs.declared.account.Account.{Account}
 use Rattle.policy_model.specs.Settings.{Settings}
 use Rattle.policy_model.specs.Cases.{is_holder}
 
--- what is known of an account: the accepted passwords in the order of acceptance, of which the setup's is the first; how many passwords its chain still has; the session that took it last, 0 where none did, and when; the session that holds it
+-- what is known of an account: its accepted passwords in order, how many it has left, who took it last and when, who
+-- holds it
 pub record AccountState : Type 0 where
   pub algo : Algo
   pub enabled : Bool
@@ -18,35 +19,35 @@ pub record AccountState : Type 0 where
   pub moment : ℕ
   pub holder : Option ℕ
 
--- the setup, its accounts, how many passwords were spent, and how many may be
+-- a ledger: the setup, what is known of its accounts, how many passwords were spent and how many may be
 pub record LedgerParts : Type 0 where
   pub setup : Settings
   pub accounts : List AccountState
   pub spent : ℕ
   pub cap : ℕ
 
--- any account
+-- what stands for an account that isn't there
 abbrev pub no_state : AccountState
 no_state = record { algo = algos.Md5; enabled = false; accepted = []; sequence = 0; taker = 0; moment = 0; holder = None }
 
--- the account of a number
+-- what a ledger knows of the account of this number
 abbrev pub state_at : LedgerParts → ℕ → AccountState
 state_at l account = slice_index_or l.accounts account no_state
 
--- a password was accepted before
+-- a password of this account was accepted before, or is the setup's
 abbrev pub was_accepted : AccountState → ℕ → Bool
 was_accepted state password = list_any (nat_eq password) state.accepted
 
--- the password that was accepted last
+-- the current password of an account: the one accepted last
 abbrev pub current_of : AccountState → ℕ
 current_of state = unwrap_or (last_or None state.accepted) 0
 
--- a password hashes to the current one, and wasn't accepted before
+-- a password hashes to an account's current one and wasn't accepted before
 pub record IsNextPassword (state : AccountState) (password : ℕ) : Type 0 where
   pub hashes : hash_of state.algo password ≡ current_of state
   pub unused : was_accepted state password ≡ false
 
--- an account before the first event
+-- what is known of an account before the first event
 abbrev pub new_state : Account → AccountState
 new_state a = record {
   algo = a.algo;

@@ -1,4 +1,4 @@
--- Believed: when the mode `otp` must answer so, where the files and the ends tell.
+-- Believed: when the mode `otp` must answer so, where the files and the ends report.
 use Rattle.std.specs.Prelude.{◌≡◌, ◌⊎◌, ℕ, true, List, Option, Some, None, Result, Ok, Err}
 use Rattle.outside.specs.Files.{Contents}
 use Rattle.outside.specs.Link.{Link}
@@ -11,7 +11,7 @@ use Rattle.otp_mode.specs.Outcome.{ends_at_list}
 use Rattle.otp_mode.specs.Phrase.{phrase_of}
 use Rattle.otp_mode.specs.Words.{OtpParts}
 
--- the text of the list of this name is told, and is judged so
+-- the files report, and the named word list is judged so
 pub record IsJudged (contents : Option Contents) (name : List ℕ) (judgement : Result (List (List ℕ)) DictFault) : Type 0 where
   pub files : Contents
   pub told : contents ≡ Some files
@@ -19,7 +19,7 @@ pub record IsJudged (contents : Option Contents) (name : List ℕ) (judgement : 
   pub there : list_text (files name) ≡ Some text
   pub judged : dictionary_of text ≡ judgement
 
--- the ends tell, and the input has this phrase, or none
+-- the ends report, and the input has this phrase, or none
 pub record HasPhrase (before after : Option Link) (phrase : Option (List ℕ)) : Type 0 where
   pub first : Link
   pub last : Link
@@ -27,13 +27,13 @@ pub record HasPhrase (before after : Option Link) (phrase : Option (List ℕ)) :
   pub still_told : after ≡ Some last
   pub has : phrase_of first.left ≡ phrase
 
--- the list that the parts name, if they name one, is there and accepted
+-- the word list, if one is named, is there and accepted
 abbrev pub ListIsGood : Option Contents → Option (List ℕ) → Type 0
 ListIsGood contents None = Unit {0}
 ListIsGood contents (Some name) = (words : List (List ℕ)) × IsJudged contents name (Ok words)
 
--- refusals come exactly where there is what they refuse, and success, unless something failed or
--- memory was wanted, where there is nothing to refuse
+-- a bad list or a missing phrase is refused, unless something fails first; otherwise `otp` succeeds, unless something
+-- fails or memory runs out
 pub record IsExact (parts : OtpParts) (contents : Option Contents) (before after : Option Link) (ReadFailed EndsFailed : Type 0) (result : Result (Unit {0}) OtpFault) : Type 0 where
   pub list_refused : (name : List ℕ) (fault : DictFault) → parts.list ≡ Some name → IsJudged contents name (Err fault) → (result ≡ Err (faults.ListRefused fault)) ⊎ (result ≡ Err faults.ReadFailed) ⊎ (result ≡ Err faults.OutOfMemory)
   pub phrase_refused : HasPhrase before after None → (result ≡ Err faults.PhraseRefused) ⊎ (result ≡ Err faults.EndsFailed) ⊎ (ends_at_list result ≡ true)

@@ -19,7 +19,7 @@ abbrev pub fault_of_phrase : PhraseFault → OtpFault
 fault_of_phrase phrase_faults.EndsFailed = faults.EndsFailed
 fault_of_phrase phrase_faults.Refused = faults.PhraseRefused
 
--- the exit status of a program that ends by a fault
+-- the exit status of each fault of the mode `otp`
 abbrev pub fault_status : OtpFault → ℕ
 fault_status faults.ReadFailed = 3
 fault_status faults.ListMissing = 4
@@ -28,7 +28,7 @@ fault_status faults.OutOfMemory = 9
 fault_status faults.EndsFailed = 11
 fault_status faults.PhraseRefused = 12
 
--- the exit status of a program that ends by what came of the mode
+-- the exit status for what came of the mode `otp`
 abbrev pub status_of : Result (Unit {0}) OtpFault → ℕ
 status_of (Ok _) = 0
 status_of (Err fault) = fault_status fault

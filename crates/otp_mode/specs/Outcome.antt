@@ -11,23 +11,23 @@ use Rattle.otp_mode.specs.Output.{otp_text}
 use Rattle.otp_mode.specs.Phrase.{phrase_of}
 use Rattle.otp_mode.specs.Words.{OtpParts}
 
--- these are the words of the list that the parts name, if they name one
+-- these are the words of the list that is named, if one is
 abbrev pub HasWords : Option Contents → Option (List ℕ) → Option (List (List ℕ)) → Type 0
 HasWords contents None None = Unit {0}
 HasWords contents (Some name) (Some words) = IsJudgedSo contents name (Ok words)
 HasWords contents _ _ = ⊥
 
--- the file of the list that the parts name is not there
+-- the word list that is named isn't there
 abbrev pub IsListMissing : Option Contents → Option (List ℕ) → Type 0
 IsListMissing contents None = ⊥
 IsListMissing contents (Some name) = IsMissing contents name
 
--- the list that the parts name is refused by its first fault
+-- the word list that is named is refused by this fault
 abbrev pub IsListRefused : Option Contents → Option (List ℕ) → DictFault → Type 0
 IsListRefused contents None fault = ⊥
 IsListRefused contents (Some name) fault = IsJudgedSo contents name (Err fault)
 
--- a phrase was received, in at most 4,096 bytes, and its password sent
+-- a phrase was received, in at most 4,096 bytes, and the lines of its password were sent
 pub record Printed (parts : OtpParts) (words : Option (List (List ℕ))) (before after : Link) : Type 0 where
   pub phrase : List ℕ
   pub accepted : phrase_of before.left ≡ Some phrase
@@ -35,7 +35,7 @@ pub record Printed (parts : OtpParts) (words : Option (List (List ℕ))) (before
   pub few : length received ≤ 4096
   pub passed : Exchanged received (otp_text parts words phrase) before after
 
--- at most 4,096 bytes were received of which the pass phrase is refused, and nothing was sent
+-- at most 4,096 bytes were received, they hold no pass phrase, and nothing was sent
 pub record RefusedPhrase (before after : Link) : Type 0 where
   pub refused : phrase_of before.left ≡ None
   pub received : List ℕ
@@ -48,7 +48,7 @@ pub record OnlyReceived (before after : Link) : Type 0 where
   pub few : length received ≤ 4096
   pub passed : Exchanged received [] before after
 
--- a phrase was received, in at most 4,096 bytes, and some first part of its password's lines sent
+-- a phrase was received, in at most 4,096 bytes, and some first part of its password's lines was sent
 pub record PrintedPart (parts : OtpParts) (words : Option (List (List ℕ))) (before after : Link) : Type 0 where
   pub phrase : List ℕ
   pub accepted : phrase_of before.left ≡ Some phrase
@@ -66,9 +66,8 @@ IsPrinting parts words before after EndsFailed (Err faults.PhraseRefused) =
     Goes RefusedPhrase before after
 IsPrinting parts words before after EndsFailed (Err _) = ⊥
 
--- what came of the words' parts, by what the files tell, what the ends told before and after, and
--- whether a reading of a file and a call on the ends failed: each answer with all that it says;
--- where the mode ended at the word list, the ends are as before
+-- what each end of `otp` means: the password was printed, whole or in part, or why not; at a bad list nothing is
+-- received
 abbrev pub IsOutcome : OtpParts → Option Contents → Option Link → Option Link → Type 0 → Type 0 → Result (Unit {0}) OtpFault → Type 0
 IsOutcome parts contents before after ReadFailed EndsFailed (Ok _) =
     (words : Option (List (List ℕ))) × HasWords contents parts.list words × Goes (Printed parts words) before after
@@ -85,7 +84,7 @@ IsOutcome parts contents before after ReadFailed EndsFailed (Err faults.EndsFail
 IsOutcome parts contents before after ReadFailed EndsFailed (Err faults.PhraseRefused) =
     ((words : Option (List (List ℕ))) × HasWords contents parts.list words) × Goes RefusedPhrase before after
 
--- whether the mode ended at the word list, before the phrase was asked for
+-- the mode `otp` ended at the word list, before it asked for the phrase
 abbrev pub ends_at_list : Result (Unit {0}) OtpFault → Bool
 ends_at_list (Ok _) = false
 ends_at_list (Err faults.ReadFailed) = true

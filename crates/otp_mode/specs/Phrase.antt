@@ -5,11 +5,10 @@ use Rattle.std.specs.List.{list_all}
 use Rattle.request_catalogue.specs.Texts.{is_printable}
 use Rattle.otp_mode.specs.Lines.{first_line}
 
--- a pass phrase: 10 to 63 bytes of printable ASCII (RFC 2289, section 6.0, of which 63 is the upper
--- bound of this program)
+-- a pass phrase: 10 to 63 printable bytes (RFC 2289, section 6.0; 63 is this program's upper bound)
 unfoldable pub is_phrase : List ℕ → Bool
 is_phrase line = nat_le 10 (length line) && nat_le (length line) 63 && list_all is_printable line
 
--- the pass phrase that an input has: its first line, where that is one
+-- the pass phrase of an input: its first line, if that is one
 unfoldable pub phrase_of : List ℕ → Option (List ℕ)
 phrase_of input = then_some (is_phrase (first_line input)) (first_line input)

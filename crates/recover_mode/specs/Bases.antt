@@ -10,17 +10,17 @@ use Rattle.recover_mode.specs.declared.error.RecoveryError.{RecoveryError}
 use Rattle.recover_mode.specs.declared.error.RecoveryError.TheVariants as errors
 use Rattle.recover_mode.specs.Words.{RecoverParts}
 
--- the image of a log: the first 271,581,189 bytes of its file, and where there is none that of no records
+-- the image of a log: the first 271,581,189 bytes of its file; without a file, the image of no records
 abbrev pub image_in : Option (List ℕ) → List ℕ
 image_in None = image_of []
 image_in (Some bytes) = take 271581189 bytes
 
--- the setup's file spells the setup, and the log's has the image
+-- the setup file spells this setup, and the log's file has this image
 pub record HasBasis (parts : RecoverParts) (setup : Settings) (image : List ℕ) (files : Contents) : Type 0 where
   pub spelled : setup_in files parts.setup ≡ Some (Ok (entries_of setup))
   pub logged : image ≡ image_in (files parts.log)
 
--- why there is no setup or no image: a reading failed, the setup's file is missing or refused, or memory was wanted
+-- why there is no setup or no image: a read failed, memory ran out, or the setup's file is missing or refused
 abbrev pub IsFileError : Option Contents → List ℕ → Type 0 → RecoveryError → Type 0
 IsFileError contents name ReadFailed errors.ReadFailed = ReadFailed
 IsFileError contents name ReadFailed errors.SetupMissing = IsSetupError contents name ReadFailed setup_errors.Missing

@@ -21,12 +21,13 @@ error_of_setup setup_errors.OutOfMemory = errors.OutOfMemory
 error_of_setup setup_errors.Missing = errors.SetupMissing
 error_of_setup (setup_errors.Refused fault) = errors.SetupRefused fault
 
+-- the error of a log that isn't recovered, with its number
 abbrev pub error_of_log : RecoverError → RecoveryError
 error_of_log log_errors.NoLog = errors.LogRefused 0
 error_of_log (log_errors.Line number) = errors.LogRefused number
 error_of_log log_errors.OutOfMemory = errors.OutOfMemory
 
--- the exit status of a program that ends by an error
+-- the exit status of each error of the mode `recover`
 abbrev pub error_status : RecoveryError → ℕ
 error_status errors.ReadFailed = 3
 error_status errors.SetupMissing = 4
@@ -36,7 +37,7 @@ error_status errors.OutOfMemory = 9
 error_status errors.ReplaceFailed = 8
 error_status errors.SendFailed = 11
 
--- the exit status of a program that ends by what came of the mode
+-- the exit status for what came of the mode `recover`
 abbrev pub status_of : Result Recovery RecoveryError → ℕ
 status_of (Ok recovery) = 0
 status_of (Err error) = error_status error

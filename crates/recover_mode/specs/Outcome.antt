@@ -12,12 +12,12 @@ use Rattle.recover_mode.specs.Bases.{HasBasis, IsFileError}
 use Rattle.recover_mode.specs.Recovering.{AreTexts, IsPut, IsRefused}
 use Rattle.recover_mode.specs.Words.{RecoverParts}
 
--- no setup was read, or no image
+-- no setup was read, or no image of the log; every file is as it was
 pub record IsUnread (parts : RecoverParts) (old new : Option Contents) (ReadFailed : Type 0) (error : RecoveryError) : Type 0 where
   pub why : IsFileError new parts.setup ReadFailed error
   pub files : Goes SameFiles old new
 
--- the files hold a setup, and a log that is refused by this number
+-- the files hold a setup and a log that is refused by this number, and are as they were
 pub record IsUnrecovered (parts : RecoverParts) (number : ℕ) (old new : Option Contents) : Type 0 where
   pub setup : Settings
   pub image : List ℕ
@@ -25,7 +25,7 @@ pub record IsUnrecovered (parts : RecoverParts) (number : ℕ) (old new : Option
   pub refused : IsRefused setup image number
   pub files : Goes SameFiles old new
 
--- the files, as they stood before, hold a setup and a log that bring back a ledger, and this came of its writing and sending
+-- the files, as they stood before, hold a setup and a log that is recovered, and this came of writing and sending that
 pub record IsRecovered (parts : RecoverParts) (old new : Option Contents) (before after : Option Link) (ReplaceFailed EndsFailed : Type 0) (result : Result Recovery RecoveryError) : Type 0 where
   pub setup : Settings
   pub image : List ℕ
@@ -34,8 +34,8 @@ pub record IsRecovered (parts : RecoverParts) (old new : Option Contents) (befor
   pub made : AreTexts parts setup image texts
   pub put : IsPut texts old new before after ReplaceFailed EndsFailed result
 
--- what came of the mode, by what the files and the ends told before and after, and whether a reading or a replacing of a file and a
--- call on the ends failed; where nothing is recovered or memory was wanted, nothing is written, sent or received
+-- what each end of `recover` means: what was recovered is written and sent, or why not; where nothing is recovered
+-- nothing changes
 abbrev pub IsOutcome : RecoverParts → Option Contents → Option Contents → Option Link → Option Link → Type 0 → Type 0 → Type 0 → Result Recovery RecoveryError → Type 0
 IsOutcome parts old new before after ReadFailed ReplaceFailed EndsFailed (Ok recovery) =
     IsRecovered parts old new before after ReplaceFailed EndsFailed (Ok recovery)
@@ -50,6 +50,6 @@ IsOutcome parts old new before after ReadFailed ReplaceFailed EndsFailed (Err er
 IsOutcome parts old new before after ReadFailed ReplaceFailed EndsFailed (Err error) =
     IsUnread parts old new ReadFailed error × (after ≡ before)
 
--- each file but the setup's and the log's is as it was
+-- every file but the setup's and the log's is as it was
 pub record Spares (parts : RecoverParts) (before after : Contents) : Type 0 where
   pub others : (other : List ℕ) → other ≢ parts.setup → other ≢ parts.log → after other ≡ before other

@@ -24,7 +24,7 @@ use Rattle.recover_mode.specs.Errors.{error_of_log}
 use Rattle.recover_mode.specs.Lines.{recovery_line}
 use Rattle.recover_mode.specs.Words.{RecoverParts}
 
--- this is what a setup and an image bring back: it is no log just where the image has no records, and else the answer depends on the setup and the records alone; what a run logged comes back, and is there already where the setup has it
+-- what a setup and an image bring back: it depends on the setup and the records alone, and a run's log comes back
 pub record IsBroughtBack (setup : Settings) (image : List ℕ) (answer : Result Recovered RecoverError) : Type 0 where
   pub log : IsLogOr image answer
   pub exact : (records : List (List ℕ)) → HasRecords image records → IsAnswerOf setup records answer
@@ -37,12 +37,12 @@ pub record HasFirstFault (setup : Settings) (image : List ℕ) (number : ℕ) : 
   pub has : HasRecords image records
   pub first : IsFirstFault setup records number
 
--- what is wrong with a log that is refused by this number: by 0 that its image has no records, else the first record with a fault
+-- what a log is refused for: 0 says that it is no durable log, any other number is its first record with a fault
 abbrev pub IsLogFault : Settings → List ℕ → ℕ → Type 0
 IsLogFault setup image zero = HasSome image → ⊥
 IsLogFault setup image (suc place) = HasFirstFault setup image (suc place)
 
--- the log is refused by this number, as it brings back nothing
+-- the log is refused by this number, since it brings back nothing (`IsLogFault`)
 pub record IsRefused (setup : Settings) (image : List ℕ) (number : ℕ) : Type 0 where
   pub error : RecoverError
   pub answered : IsBroughtBack setup image (Err error)
@@ -64,7 +64,7 @@ pub record AreTextsOf (parts : RecoverParts) (setup : Settings) (recovered : Rec
   pub accepted : texts.recovery.accepted ≡ recovered.accepted
   pub line : string_bytes texts.line ≡ recovery_line texts.recovery
 
--- what is written and sent: the bytes spell the setup with the ledger's sequences and passwords
+-- what `recover` writes and sends: a file that spells the setup as it was recovered, and a line with the counts
 pub record AreTexts (parts : RecoverParts) (setup : Settings) (image : List ℕ) (texts : Texts) : Type 0 where
   pub recovered : Recovered
   pub answered : IsBroughtBack setup image (Ok recovered)
@@ -75,17 +75,18 @@ pub record AreTexts (parts : RecoverParts) (setup : Settings) (image : List ℕ)
   pub accepted : texts.recovery.accepted ≡ recovered.accepted
   pub line : string_bytes texts.line ≡ recovery_line texts.recovery
 
--- the setup's file has the bytes and the log's holds the image of no records, as it does too where both have one name; each other file is as it was
+-- the setup file, unless it is the log's, has these bytes, the log's has no records any more, and every other file is
+-- as it was
 pub record AreWritten (texts : Texts) (before after : Contents) : Type 0 where
   pub setup : texts.setup ≢ texts.log → after texts.setup ≡ Some texts.bytes.items
   pub log : IsFresh (after texts.log)
   pub others : (other : List ℕ) → other ≢ texts.setup → other ≢ texts.log → after other ≡ before other
 
--- nothing is written, or the setup alone, or the log too
+-- nothing was written, or the setup alone, or the log too
 pub record MayBeWritten (texts : Texts) (before after : Contents) : Type 0 where
   pub one : SameFiles before after ⊎ (Replaced texts.setup texts.bytes.items before after ⊎ AreWritten texts before after)
 
--- the files were written, and then the line sent, or what failed of these
+-- the files were written and then the line was sent, or which of these failed
 abbrev pub IsPut : Texts → Option Contents → Option Contents → Option Link → Option Link → Type 0 → Type 0 → Result Recovery RecoveryError → Type 0
 IsPut texts old new before after ReplaceFailed EndsFailed (Ok recovery) =
     (recovery ≡ texts.recovery) × Goes (AreWritten texts) old new × Goes (Exchanged [] (string_bytes texts.line)) before after

@@ -17,36 +17,37 @@ use Rattle.recover_mode.specs.declared.line.Recovery.{Recovery}
 use Rattle.recover_mode.specs.Bases.{image_in}
 use Rattle.recover_mode.specs.Words.{RecoverParts}
 
--- the files have a setup, and a log of the lines of this journal of a run with it
+-- the files have a setup, and a log of exactly this whole journal of a run by it
 pub record HasRun (parts : RecoverParts) (setup : Settings) (journal : List Event) (files : Contents) : Type 0 where
   pub spelled : setup_in files parts.setup ≡ Some (Ok (entries_of setup))
   pub whole : IsWhole setup journal
   pub logged : HasRecords (image_in (files parts.log)) (records_of journal)
 
--- the same of a run that began with the first setup, and the setup has what the journal says of each account already
+-- the same log of a run by the first setup, but the setup file already has what the journal says of each account
 pub record HasRunAlready (parts : RecoverParts) (first setup : Settings) (journal : List Event) (files : Contents) : Type 0 where
   pub spelled : setup_in files parts.setup ≡ Some (Ok (entries_of setup))
   pub whole : IsWhole first journal
   pub already : setup.accounts ≡ map (account_after journal) first.accounts
   pub logged : HasRecords (image_in (files parts.log)) (records_of journal)
 
--- the setup's file spells this setup, where it isn't the log's
+-- the setup file spells this setup, unless the log has the same name
 abbrev pub IsSpelled : RecoverParts → Settings → Contents → Type 0
 IsSpelled parts setup files = parts.setup ≢ parts.log → option_map setup_of (files parts.setup) ≡ Some (Ok (entries_of setup))
 
--- the counts are those of the journal
+-- the counts of a recovery are those of this journal
 pub record IsCounted (journal : List Event) (recovery : Recovery) : Type 0 where
   pub lines : recovery.lines ≡ length journal
   pub accepted : recovery.accepted ≡ count_by accepts journal
 
--- the log of a journal isn't refused, and once the files are written this setup is spelled
+-- `recover` doesn't refuse the log of this journal, and once it has written, the setup file spells this setup
 abbrev pub IsReturned : RecoverParts → Settings → List Event → Contents → Result Recovery RecoveryError → Type 0
 IsReturned parts setup journal files (Ok recovery) = IsCounted journal recovery × IsSpelled parts setup files
 IsReturned parts setup journal files (Err errors.SendFailed) = IsSpelled parts setup files
 IsReturned parts setup journal files (Err (errors.LogRefused number)) = ⊥
 IsReturned parts setup journal files (Err _) = Unit {0}
 
--- of a run's log the setup after its journal is written; where the setup has it already, that setup itself
+-- from a whole run's log, `recover` writes the setup after the run's journal; a setup that has it already stays as it
+-- is
 pub record BringsBack (parts : RecoverParts) (result : Result Recovery RecoveryError) (old new : Contents) : Type 0 where
   pub logged : (setup : Settings) (journal : List Event) → HasRun parts setup journal old → IsReturned parts (setup_after setup journal) journal new result
   pub again : (first setup : Settings) (journal : List Event) → HasRunAlready parts first setup journal old → IsReturned parts setup journal new result

@@ -14,18 +14,18 @@ use Rattle.renew_mode.specs.declared.error.RenewError.{RenewError}
 use Rattle.renew_mode.specs.declared.error.RenewError.TheVariants as errors
 use Rattle.renew_mode.specs.declared.basis.Basis.{Basis}
 
--- the file of this name spells the setup, and the file that the setup names has the words
+-- the named file spells the setup, and the file that the setup names has the words
 pub record HasBasis (name : List ℕ) (basis : Basis) (files : Contents) : Type 0 where
   pub spelled : setup_in files name ≡ Some (Ok (entries_of basis.setup))
   pub listed : IsJudgedSo (Some files) basis.setup.words (Ok basis.dictionary)
 
--- the file of this name spells a setup, and the word list of the name that it gives was not read
+-- the named file spells a setup, and the word list that it names wasn't read
 pub record IsListError (contents : Option Contents) (name : List ℕ) (ReadFailed : Type 0) (error : ListError) : Type 0 where
   pub setup : Settings
   pub spelled : IsSetupIn contents name setup
   pub unread : IsListFault contents setup.words ReadFailed error
 
--- why there is no setup or no word list: a reading failed, a file is missing or refused, or memory was wanted
+-- why there is no setup or no word list: a read failed, memory ran out, or a file is missing or refused
 abbrev pub IsFileError : Option Contents → List ℕ → Type 0 → RenewError → Type 0
 IsFileError contents name ReadFailed errors.ReadFailed = ReadFailed
 IsFileError contents name ReadFailed errors.SetupMissing = IsSetupError contents name ReadFailed setup_errors.Missing
@@ -35,18 +35,17 @@ IsFileError contents name ReadFailed (errors.WordsRefused fault) = IsListError c
 IsFileError contents name ReadFailed errors.OutOfMemory = Unit {0}
 IsFileError contents name ReadFailed _ = ⊥
 
--- the durable log that is named, if one is, is there and has no record
+-- a durable log that is named is there and has no records
 abbrev pub HasFreshLog : Option (List ℕ) → Contents → Type 0
 HasFreshLog None files = Unit {0}
 HasFreshLog (Some log) files = IsFresh (files log)
 
--- there is all that a renewal rests on: setup and word list are these, and the log is fresh
+-- the files have all that a renewal needs: this setup and word list, and a fresh log, if one is named
 pub record IsReady (parts : RenewParts) (basis : Basis) (files : Contents) : Type 0 where
   pub has : HasBasis parts.setup basis files
   pub fresh : HasFreshLog parts.log files
 
--- where the files tell, there are a setup and its word list, and the log that is named isn't there or has something
--- else than no record
+-- setup and word list are there, but the log that is named is missing or isn't fresh, if the files report
 pub record IsUnfresh (parts : RenewParts) (contents : Option Contents) : Type 0 where
   pub log : List ℕ
   pub named : parts.log ≡ Some log
@@ -54,7 +53,7 @@ pub record IsUnfresh (parts : RenewParts) (contents : Option Contents) : Type 0 
   pub has : IfSome contents (HasBasis parts.setup basis)
   pub unfresh : IfSome contents (λ files. IsFresh (files log) → ⊥)
 
--- why the input wasn't asked for: no setup or no word list was read, or the log isn't fresh
+-- why no response was asked for: no setup or no word list was read, or the log isn't fresh
 abbrev pub IsUnready : RenewParts → Option Contents → Type 0 → RenewError → Type 0
 IsUnready parts contents ReadFailed errors.LogNotFresh = IsUnfresh parts contents
 IsUnready parts contents ReadFailed error = IsFileError contents parts.setup ReadFailed error

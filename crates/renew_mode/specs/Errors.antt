@@ -22,7 +22,7 @@ error_of_list list_errors.OutOfMemory = errors.OutOfMemory
 error_of_list list_errors.Missing = errors.WordsMissing
 error_of_list (list_errors.Refused fault) = errors.WordsRefused fault
 
--- the exit status of a program that ends by an error
+-- the exit status of each error of the mode `renew`
 abbrev pub error_status : RenewError → ℕ
 error_status errors.ReadFailed = 3
 error_status errors.SetupMissing = 4
@@ -35,7 +35,7 @@ error_status errors.OutOfMemory = 9
 error_status errors.SendFailed = 11
 error_status errors.LogNotFresh = 13
 
--- the exit status of a program that ends by what came of the mode
+-- the exit status for what came of the mode `renew`
 abbrev pub status_of : Result Renewed RenewError → ℕ
 status_of (Ok renewed) = 0
 status_of (Err error) = error_status error

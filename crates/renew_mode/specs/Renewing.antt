@@ -18,26 +18,26 @@ use Rattle.renew_mode.specs.declared.error.RenewError.TheVariants as errors
 use Rattle.renew_mode.specs.declared.basis.Basis.{Basis}
 use Rattle.renew_mode.specs.declared.texts.Texts.{Texts}
 
--- what is written and sent of a renewal: the bytes spell the new setup
+-- what `renew` writes and sends: a file that spells the new setup, and a line with the new sequence
 pub record AreTexts (parts : RenewParts) (renewal : Renewal) (texts : Texts) : Type 0 where
   pub file : texts.file ≡ parts.setup
   pub spelled : setup_of texts.bytes.items ≡ Ok (entries_of renewal.setup)
   pub line : texts.line.items ≡ renewed_line parts.user renewal.renewed.sequence
 
--- this came of the first line of the input as a response of the user; nothing was sent
+-- what came of the input's first line as a response of the user; nothing was sent
 pub record ComesOf (parts : RenewParts) (basis : Basis) (before after : Option Link) (EndsFailed : Type 0) (result : Result Renewal RenewalFault) : Type 0 where
   pub user : Name
   pub named : name_bytes user ≡ parts.user
   pub comes : renewals.IsOutcome basis.setup basis.dictionary user before after EndsFailed result
 
--- the response was received, and renews the account; a setup file with it was to be written, and the line to be sent
+-- the response was received and renews the account, and this is to be written and sent
 pub record IsMade (parts : RenewParts) (basis : Basis) (renewed : Renewed) (texts : Texts) (before between : Option Link) : Type 0 where
   pub renewal : Renewal
   pub renewed_is : renewed ≡ renewal.renewed
   pub received : ComesOf parts basis before between ⊥ (Ok renewal)
   pub texts_are : AreTexts parts renewal texts
 
--- the file was replaced, and then the line sent, or what failed of these
+-- the setup file was replaced and then the line was sent, or which of these failed
 abbrev pub IsPut : Texts → Option Contents → Option Contents → Option Link → Option Link → Type 0 → Type 0 → Result (Unit {0}) RenewError → Type 0
 IsPut texts old new before after ReplaceFailed EndsFailed (Ok _) =
     Goes (Replaced texts.file texts.bytes.items) old new × Goes (Exchanged [] texts.line.items) before after
@@ -47,7 +47,7 @@ IsPut texts old new before after ReplaceFailed EndsFailed (Err errors.SendFailed
     EndsFailed × Goes (Replaced texts.file texts.bytes.items) old new × SendsPart texts.line.items before after
 IsPut texts old new before after ReplaceFailed EndsFailed (Err _) = ⊥
 
--- what came of a response, by what the files and the ends told before and after, and whether a replacing and a call on the ends failed
+-- what came of a response: it was received and the renewal put in place, or which of these failed
 abbrev pub IsRenewing : RenewParts → Basis → Option Contents → Option Contents → Option Link → Option Link → Type 0 → Type 0 → Result Renewed RenewError → Type 0
 IsRenewing parts basis old new before after ReplaceFailed EndsFailed (Ok renewed) =
     (texts : Texts) × (between : Option Link) × IsMade parts basis renewed texts before between × IsPut texts old new between after ReplaceFailed EndsFailed (Ok tt)
