@@ -1,4 +1,4 @@
--- Believed: the bytes that are written for a setup, and for one account after it.
+-- Believed: the bytes written for a setup, and for one account after it.
 use Rattle.std.specs.Prelude.{ℕ, ◌≡◌, false, true, List, [], ◌∷◌, ◌++◌, map, codes, Result, Ok, IsUtf8}
 use Rattle.std.specs.List.{list_all}
 use Rattle.toml.specs.Data.{get_member}

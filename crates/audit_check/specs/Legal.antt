@@ -1,4 +1,5 @@
--- Believed: a legal log: each event is of one of the setup's workers, with the session and the decision that the policy gives. More than one decision may stand only where a reply's readings decide, which the log doesn't show.
+-- Believed: a legal log: each event is of one of the setup's workers, with the session and the decision that the policy
+-- gives. More than one decision may stand only where a reply's readings decide, which the log doesn't show.
 use Rattle.std.specs.Prelude.{ℕ, ◌≡◌, ◌<◌, ◌==◌, ◌&&◌, ◌||◌, Bool, true, false, not, List, length, take, slice_index_or, Option}
 use Rattle.std.specs.Option.{option_and_then, option_map_or}
 use Rattle.request_catalogue.specs.declared.kind.Kind.TheVariants as kinds

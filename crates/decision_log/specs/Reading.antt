@@ -1,4 +1,4 @@
--- Believed: the line that a text is, or the fault of its first part that doesn't read.
+-- Believed: reading a line of the log, up to the first part that doesn't read.
 use Rattle.std.specs.Prelude.{ℕ, ◌^◌, List, codes, Result, Ok, find}
 use Rattle.std.specs.Bool.{then_some}
 use Rattle.std.specs.Str.{bytes_eq}

@@ -1,4 +1,4 @@
--- Believed: the events whose numbers are in the ranges of their types.
+-- Believed: events whose numbers are in the ranges of their types.
 use Rattle.std.specs.Prelude.{◌<◌, ◌^◌}
 use Rattle.policy_model.specs.declared.event.Decision.{Decision}
 use Rattle.policy_model.specs.declared.event.Decision.TheVariants.{Permit, Deny, Lost}

@@ -1,4 +1,4 @@
--- Believed: what a durable log holds, and what each image that a crash may leave of it holds.
+-- Believed: what a durable log holds, whatever a crash leaves of it.
 use Rattle.std.specs.Prelude.{◌≡◌, ℕ, ◌+◌, ◌-◌, ◌*◌, ◌/◌, ◌^◌, ◌<◌, ◌≤◌, min, Bool, false, All, List, [], ◌∷◌, ◌++◌, codes, length, take, drop, Option, None, option_map, if◌then◌else◌, ◌==◌, zero, suc}
 use Rattle.std.specs.Int.{w16, from_le_bytes, to_le_bytes}
 use Rattle.std.specs.List.{concat}

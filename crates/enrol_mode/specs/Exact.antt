@@ -1,4 +1,4 @@
--- Believed: when the mode `enrol` must answer so, where the ends report.
+-- Believed: when the mode `enrol` has to end so.
 use Rattle.std.specs.Prelude.{◌≡◌, ◌⊎◌, ℕ, List, Option, Some, None, Result, Ok, Err}
 use Rattle.outside.specs.Link.{Link}
 use Rattle.otp_mode.specs.Exact.{HasPhrase}

@@ -1,4 +1,4 @@
--- Believed: the journals of a run, the records that their lines make, and what recovery from them comes to.
+-- Believed: a run's journal, its records, and what recovery makes of them.
 use Rattle.std.specs.Prelude.{ℕ, ◌≡◌, ◌≤◌, ◌+◌, false, List, [], ◌∷◌, count_by, length, map, Result, Ok, Err}
 use Rattle.std.specs.List.{AllByRecursion, list_any}
 use Rattle.policy_model.specs.declared.account.Account.{Account}

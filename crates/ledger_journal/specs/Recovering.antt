@@ -1,4 +1,4 @@
--- Believed: what recovery answers, by the setup and the records of an image.
+-- Believed: what recovery answers for the records of a log.
 use Rattle.std.specs.Prelude.{ℕ, ◌≡◌, ◌<◌, ◌+◌, ◌⊎◌, ◌&&◌, Bool, true, false, not, List, [], ◌∷◌, ◌++◌, length, map, slice_get, Some, None, Result, Ok, Err}
 use Rattle.policy_model.specs.declared.account.Account.{Account}
 use Rattle.policy_model.specs.declared.ranges.TheConstants.{EVENTS_LIMIT}

@@ -1,4 +1,4 @@
--- Believed: a session that logs in: what it asks, and what has to hold of its user and of the other sessions.
+-- Believed: a session that logs in, and what has to hold meanwhile.
 use Rattle.std.specs.Prelude.{ℕ, ◌≡◌, ◌≢◌, ◌<◌, ◌≤◌, ◌+◌, ◌-◌, ◌==◌, Bool, true, false, Option, Some}
 use Rattle.std.specs.Prelude.{List, [], ◌∷◌, ◌++◌, length, filter}
 use Rattle.std.specs.List.{list_all, list_any}

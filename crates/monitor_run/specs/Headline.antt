@@ -43,8 +43,8 @@ pub record SessionsInOrder (service : Service) (journal : List Event) : Type 0 w
 abbrev pub EachScene : {P : Type 0} → (P → Option Scene) → List P → (ℕ → Scene → Type 0) → Type 0
 EachScene {P} scene posts Holds = (worker : ℕ) (post : P) → slice_get posts worker ≡ Some post → IfSome (scene post) (Holds worker)
 
--- a post reports exactly its worker's sessions: their operations, the bytes sent, taken and left unread, and at most
--- one last accept besides
+-- what a post reports, if it does, is exactly its worker's sessions: operations, bytes sent, taken and left unread, and
+-- at most one last accept
 pub record ConversationsMatch {P : Type 0} (service : Service) (scene : P → Option Scene) (journal : List Event) (posts : List P) : Type 0 where
   pub held : EachScene scene posts (λ worker s. (sittings : List Sitting) × (last : LastAccept) × AreSittingsOf service journal worker sittings × IsStory sittings last s)
 
@@ -59,7 +59,7 @@ abbrev pub lost_by : List Event → ℕ → Bool
 lost_by journal worker = list_any (λ e. e.worker == worker && is_lost e.decision) journal
 
 -- a worker that no accept stopped and that lost no decision opened exactly as many sessions as the setup has
--- connections
+-- connections, if its post reports
 pub record RunsToQuota {P : Type 0} (setup : Settings) (scene : P → Option Scene) (journal : List Event) (posts : List P) : Type 0 where
   pub quota : EachScene scene posts (λ worker s. list_any is_stop s.acts ≡ false → lost_by journal worker ≡ false → openings_by journal worker ≡ setup.connections)
 
@@ -92,14 +92,14 @@ pub record FaultEndsAreCounted {P : Type 0} (faults : P → Faults) (journal : L
   pub link : (worker : ℕ) (post : P) → slice_get posts worker ≡ Some post → ends_by is_link_end journal worker ≤ (faults post).link
   pub keeper : (worker : ℕ) (post : P) → slice_get posts worker ≡ Some post → ends_by is_keeper_end journal worker ≤ (faults post).keeper
 
--- each post counts exactly the failed accepts and starts that it reports
+-- each post, if it reports, counts exactly the failed accepts and starts that it reports
 pub record FaultsAreCounted {P : Type 0} (scene : P → Option Scene) (faults : P → Faults) (posts : List P) : Type 0 where
   pub each : (worker : ℕ) (post : P) → slice_get posts worker ≡ Some post → IfSome (scene post) (λ s. CountsAsTold s (faults post))
 
 -- ---- completeness
 
--- a post counts no failed accept, no failed start and no link fault; faults of connections and of users' files may be
--- counted, since they are answered
+-- a post counts no failed accept, start or link; of connections and users' files, whose failures are answered, it may
+-- count some
 pub record IsFaultless {P : Type 0} (faults : P → Faults) (post : P) : Type 0 where
   pub no_accept_fault : (faults post).accept ≡ 0
   pub no_keeper_fault : (faults post).keeper ≡ 0

@@ -1,4 +1,4 @@
--- Believed: what contracts see of a ledger, and what each call makes of it.
+-- Believed: a ledger as contracts see it, and what each call makes of it.
 use Rattle.std.specs.Prelude.{ℕ, ◌≡◌, Bool, false, ◌+◌, ◌-◌, List, [], ◌∷◌, ◌++◌, map, slice_index_or, slice_set, Option, Some, None, nat_eq, unwrap_or, if◌then◌else◌}
 use Rattle.std.specs.List.{last_or, list_any}
 use Rattle.otp_hash.specs.declared.chain.Algo.{Algo}

@@ -1,4 +1,4 @@
--- Believed: when the mode `otp` must answer so, where the files and the ends report.
+-- Believed: when the mode `otp` has to end so.
 use Rattle.std.specs.Prelude.{◌≡◌, ◌⊎◌, ℕ, true, List, Option, Some, None, Result, Ok, Err}
 use Rattle.outside.specs.Files.{Contents}
 use Rattle.outside.specs.Link.{Link}

@@ -1,4 +1,4 @@
--- Believed: the faults, and those that are handed on.
+-- Believed: the faults of the mode `otp`, and their statuses.
 use Rattle.std.specs.Prelude.{ℕ, Result, Ok, Err}
 use Rattle.file_front.specs.declared.list.ListError.{ListError}
 use Rattle.file_front.specs.declared.list.ListError.TheVariants as list_errors

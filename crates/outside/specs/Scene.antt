@@ -1,4 +1,4 @@
--- Believed: what a post reports, and what each of its calls adds to that.
+-- Believed: what a post reports, and what each call adds to that.
 use Rattle.std.specs.Prelude.{◌≡◌, ℕ, ◌-◌, ◌^◌, min, Bool, true, false, List, [], ◌∷◌, ◌++◌, count_by, slice_get, take, zero, suc, unwrap_or, Option, Some, None, option_map, Result, Ok, Err, IfSome}
 use Rattle.outside.specs.declared.act.Failed.{Failed}
 use Rattle.outside.specs.declared.act.Role.{Role}

@@ -1,4 +1,5 @@
--- Believed: what a session is shown before anyone has logged in by it: this depends only on what it asks and was told before.
+-- Believed: what a session is shown before a login: it depends only on the session's own dialogue.
+-- before.
 use Rattle.std.specs.Prelude.{ℕ, ◌≡◌, ◌+◌, Bool, true, false, not, ◌&&◌, List, filter, map, take, Option, Some, None, slice_get}
 use Rattle.request_catalogue.specs.declared.kind.Kind.{Kind}
 use Rattle.policy_model.specs.declared.event.Ask.{Ask}
@@ -44,8 +45,8 @@ asks_in journal session = filter (is_own session is_between) journal
 abbrev pub told_in : List Event → ℕ → List Told
 told_in journal session = map told_of (asks_in journal session)
 
--- a stranger's ask at this place: its session is open, has no accepted REPLY so far, and it is no CHALLENGE and not
--- lost
+-- a stranger's ask at this place: its session was opened and has no accepted REPLY so far, and it is no CHALLENGE, no
+-- end and not lost
 pub record IsStrangersAsk (journal : List Event) (place : ℕ) (e : Event) : Type 0 where
   pub stands : slice_get journal place ≡ Some e
   pub opened : has_event (take place journal) e.session opens ≡ true

@@ -1,4 +1,4 @@
--- Believed: what can be read off the one list of all events.
+-- Believed: what can be read off the journal, the one list of all events of all sessions.
 use Rattle.std.specs.Prelude.{ℕ, Bool, ◌&&◌, ◌||◌, ◌==◌, not, List, [], ◌∷◌, ◌++◌, filter, count_by, Option, None, if◌then◌else◌}
 use Rattle.std.specs.List.{last_or, list_any}
 use Rattle.std.specs.Option.{option_map_or}

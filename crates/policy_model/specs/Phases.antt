@@ -1,4 +1,9 @@
--- Believed: the phases of a session, and the phase table.
+-- Believed: the phases of a session, of which it has the first that applies, and the phase table:
+--   1. over: the session has no permitted opening, or an event that ends it (`ends_session`)
+--   2. user: it has a permitted EXPORT
+--   3. verified: it has a permitted REPLY
+--   4. challenged: of its permitted CHALLENGEs, all its REPLYs and its permitted ABANDONs the last one is a CHALLENGE
+--   5. before the login; so a denied REPLY leads back here, and a denied second opening ends the open session
 use Rattle.std.specs.Prelude.{ℕ, Bool, false, not, ◌||◌, List, if◌then◌else◌}
 use Rattle.std.specs.List.{list_any}
 use Rattle.std.specs.Option.{option_map_or}

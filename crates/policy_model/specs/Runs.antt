@@ -1,4 +1,4 @@
--- Believed: what holds of a journal at each moment of a run, and of a worker's session while it is served.
+-- Believed: what holds of a journal throughout a run.
 use Rattle.std.specs.Prelude.{ℕ, ◌≡◌, ◌≢◌, ◌≤◌, ◌<◌, ◌⊎◌, true, List}
 use Rattle.std.specs.List.{AllByRecursion}
 use Rattle.policy_model.specs.declared.event.Event.{Event}

@@ -1,4 +1,6 @@
 -- Believed: what an operator settles before a run, and the ranges of a setup.
+-- An account has a name, a user number, an algorithm, a seed, a sequence (how many passwords its chain has left), the
+-- password accepted last, whether it is enabled, and grants: each a file's label and a mode, 1 read, 2 write, 3 both.
 use Rattle.std.specs.Prelude.{ℕ, ◌≡◌, ◌≤◌, ◌*◌, ◌+◌, Bool, true, not, ◌&&◌, ◌==◌, List, [], ◌∷◌, length, codes, nat_le, Option, position}
 use Rattle.std.specs.Int.{to_be_bytes, w64}
 use Rattle.std.specs.List.{list_all, list_any}

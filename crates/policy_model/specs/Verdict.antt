@@ -1,10 +1,17 @@
--- Believed: the verdict on an ask, by the whole list of events before it: the first rule that applies. A definition stands below those that it uses, so read from the last section up:
---   1. an opening, an end, any other ask (verdict_of)
---   2. a session that is over, or has made all its asks (request_verdict)
---   3. a frame that is no request, and the table (own_verdict, row_verdict)
---   4. CHALLENGE (challenge_verdict)
---   5. REPLY (reply_verdict)
---   6. what a session that is logged in asks (kind_verdict)
+-- Believed: the verdict on an ask, by all events before it: the first rule that applies. Rules 9 to 11 stand in older
+-- logs alone. A definition stands below those that it uses, so read from the last section up:
+--   1. an opening: rule 6 if the worker has an open session, otherwise a new one's number; an end: rule 6 if it has
+--      none (`verdict_of`)
+--   2. any other ask: rule 6 without a session or in one that is over, rule 1 once all asks are made
+--      (`request_verdict`)
+--   3. a frame that is no request: its own rule, 2 to 5; a request: by the table, rules 6 and 7 (`own_verdict`,
+--      `row_verdict`)
+--   4. CHALLENGE: rule 8; a decoy for who can't log in; rule 12; otherwise the next password's number
+--      (`challenge_verdict`)
+--   5. REPLY: to a decoy rules 14 and 16, otherwise rules 13 and 14, the next password, rules 15 and 16
+--      (`reply_verdict`)
+--   6. READ and WRITE: rules 17 and 18; OPEN: rules 19 to 21; CLOSE: rule 17; INFO: rule 22; all else: a permit
+--      (`kind_verdict`)
 use Rattle.std.specs.Prelude.{ℕ, ◌≤◌, ◌+◌, ◌-◌, ◌==◌, ◌&&◌, ◌||◌, Bool, false, not, List, [], ◌++◌, length, Option, Some, None, is_none, nat_eq, nat_le, nat_lt, unwrap_or, bit_and, if◌then◌else◌}
 use Rattle.std.specs.List.{find, list_any}
 use Rattle.std.specs.Option.{option_and_then, option_map_or, option_to_list}

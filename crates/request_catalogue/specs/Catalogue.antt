@@ -1,4 +1,4 @@
--- Believed: the catalogue of requests: what may be asked, and the one payload of each request.
+-- Believed: the thirteen requests, and the one payload of each.
 use Rattle.std.specs.Prelude.{◌≡◌, ℕ, ◌^◌, ◌<◌, ◌≤◌, List, [], ◌∷◌, ◌++◌, length, IsTrue}
 use Rattle.std.specs.Int.{w16, w32, w64, to_le_bytes}
 use Rattle.request_catalogue.specs.declared.width.Width.{Width}

@@ -1,4 +1,4 @@
--- Believed: the catalogue as a table, a row a kind, and what is wrong with a message that is no request.
+-- Believed: the table of requests, and what is wrong with any other message.
 use Rattle.std.specs.Prelude.{◌≡◌, ◌≢◌, ℕ, ◌+◌, ◌%◌, List, [], ◌∷◌, length, drop, Option, Some, None, Result, Err, ok_or, if◌then◌else◌, nat_le, ◌==◌, ◌&&◌}
 use Rattle.std.specs.Bool.{then_some}
 use Rattle.std.specs.Int.{w16, w32, w64}

@@ -1,4 +1,4 @@
--- Believed: what contracts see of a name, a label and a note: their bytes.
+-- Believed: the bytes of a name, a label and a note.
 use Rattle.std.specs.Prelude.{ℕ, List}
 use Rattle.fixed_list.specs.FixedList.{list_of}
 use Rattle.request_catalogue.specs.declared.texts.Name.{Name}

@@ -1,4 +1,4 @@
--- Believed: the rules for the bytes of names, labels, notes and typed replies.
+-- Believed: the rules for names, labels, notes and typed replies.
 use Rattle.std.specs.Prelude.{ℕ, Bool, false, List, [], ◌∷◌, length, nat_le, ◌==◌, ◌&&◌, ◌||◌}
 use Rattle.std.specs.List.{list_all}
 use Rattle.std.specs.Char.{is_ascii_lowercase, is_ascii_digit}

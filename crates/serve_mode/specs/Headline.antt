@@ -1,4 +1,4 @@
--- Believed: what is promised of the mode `serve`, beside what is promised of a run.
+-- Believed: what the mode `serve` promises besides what its run does.
 use Rattle.std.specs.Prelude.{◌≡◌, ◌≢◌, ◌⊎◌, ℕ, Bool, true, false, ◌==◌, List, [], ◌∷◌, length, Option, Result, Ok, Err}
 use Rattle.std.specs.List.{list_any}
 use Rattle.policy_laws.specs.Consequences.{HasConsequences}

@@ -1,4 +1,4 @@
--- Believed: places of the journal, and the steps that a worker takes there.
+-- Believed: a worker's steps at their places in the journal.
 use Rattle.std.specs.Prelude.{ℕ, ◌==◌, List, map, filter, Option}
 use Rattle.std.specs.List.{flat_map}
 use Rattle.imsg_frame.specs.Message.{Message}

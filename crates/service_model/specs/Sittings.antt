@@ -1,4 +1,5 @@
--- Believed: one session of a worker, and all of them.
+-- Believed: one session of a worker, and all of them. A session whose end is itself lost ends for its own reason: its
+-- worker accepts once more, and then that opening is lost.
 use Rattle.std.specs.Prelude.{◌≡◌, ◌≢◌, ℕ, Bool, true, false, List, [], ◌∷◌, ◌++◌, map, Option, Some, None, IsSomeAnd, option_to_list}
 use Rattle.std.specs.List.{AllByRecursion, flat_map, list_any}
 use Rattle.std.specs.Option.{option_map_or}

@@ -1,4 +1,4 @@
--- Believed: who a session is logged in as, and which files its handles are of, at a place.
+-- Believed: who a session is logged in as, and the files of its handles.
 use Rattle.std.specs.Prelude.{ℕ, Option, option_map}
 use Rattle.std.specs.Option.{option_and_then, option_map_or}
 use Rattle.request_catalogue.specs.declared.texts.Label.{Label}

@@ -1,4 +1,4 @@
--- Believed: the setup in a file, with the word list that it names, or why there is none.
+-- Believed: the setup and the word list in files, or why there are none.
 use Rattle.std.specs.Prelude.{◌≡◌, ℕ, ◌==◌, Bool, List, Option, Result, Ok, IfSome}
 use Rattle.std.specs.Bool.{then_some}
 use Rattle.std.specs.List.{list_all, list_any}

@@ -1,4 +1,4 @@
--- Believed: the state that bytes spell and the import record that they spell, or their first fault.
+-- Believed: reading an exported state and an import record.
 use Rattle.std.specs.Prelude.{ℕ, List, codes, drop, length, take, Result, Ok, Err, nat_le, slice_index, ◌==◌, ◌&&◌}
 use Rattle.std.specs.Bool.{then_some}
 use Rattle.std.specs.Int.{w16, w32}

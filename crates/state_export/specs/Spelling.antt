@@ -1,4 +1,4 @@
--- Believed: the exported state and the import record, and the one spelling of each.
+-- Believed: an exported state and an import record, and their spellings.
 use Rattle.std.specs.Prelude.{ℕ, ◌^◌, ◌<◌, ◌≤◌, List, ◌∷◌, ◌++◌, codes, length, IsTrue}
 use Rattle.std.specs.Int.{w16, w32, to_le_bytes}
 use Rattle.request_catalogue.specs.Texts.{is_name}

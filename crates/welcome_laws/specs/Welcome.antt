@@ -1,4 +1,4 @@
--- Believed: what has to hold so that a user is welcomed, and what a welcome is.
+-- Believed: when a user has to be welcomed, and what a welcome is.
 use Rattle.std.specs.Prelude.{◌≡◌, ℕ, zero, ◌+◌, ◌*◌, ◌≤◌, Bool, true, false, Option, Some, Result}
 use Rattle.std.specs.Prelude.{List, [], ◌∷◌, ◌++◌, codes, count_by, length}
 use Rattle.std.specs.List.{AllByRecursion, list_any}
