@@ -115,7 +115,7 @@ error_status (errors.SetupRefused fault) = 5
 error_status errors.OutOfMemory = 9
 error_status errors.EndsFailed = 11
 
--- the exit status for what came of the mode `audit`
+-- the exit status of the mode `audit`
 abbrev pub status_of : Result Audit AuditError → ℕ
 status_of (Ok answer) = answer_status answer
 status_of (Err error) = error_status error

@@ -43,7 +43,7 @@ fault_status faults.ReadFailed = 3
 fault_status faults.OutOfMemory = 9
 fault_status faults.EndsFailed = 11
 
--- the exit status for what came of the mode `check`
+-- the exit status of the mode `check`
 abbrev pub status_of : Result Finding CheckFault → ℕ
 status_of (Ok finding) = finding_status finding
 status_of (Err fault) = fault_status fault

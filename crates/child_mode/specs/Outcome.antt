@@ -25,7 +25,7 @@ end_status ends.LinkFault = 11
 end_status ends.Unreadable = 12
 end_status _ = 0
 
--- the exit status for what came of a child's mode
+-- the exit status of a child's mode
 abbrev pub run_status : ChildRun → ℕ
 run_status (runs.Ended end) = end_status end
 run_status runs.OutOfMemory = 9

@@ -60,7 +60,7 @@ challenged_by (Reply text) answer before = false
 challenged_by Abandon answer before = not (is_permitted answer) && before
 challenged_by _ _ before = before
 
--- a challenge is open, as far as the child was told
+-- a challenge is open, by what the child was answered
 abbrev pub is_challenged : List Exchange → Bool
 is_challenged [] = false
 is_challenged (e ∷ before) = challenged_by e.request e.answer (is_challenged before)

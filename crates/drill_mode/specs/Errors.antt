@@ -11,7 +11,7 @@ error_status errors.OutOfMemory = 9
 error_status errors.CeasedToTell = 9
 error_status errors.EndsFailed = 11
 
--- the exit status for what came of the mode `drill`
+-- the exit status of the mode `drill`
 abbrev pub status_of : Result (Vec Event Global) DrillError → ℕ
 status_of (Ok journal) = 0
 status_of (Err error) = error_status error

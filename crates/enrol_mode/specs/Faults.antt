@@ -16,7 +16,7 @@ fault_status faults.OutOfMemory = 9
 fault_status faults.EndsFailed = 11
 fault_status faults.PhraseRefused = 12
 
--- the exit status for what came of the mode `enrol`
+-- the exit status of the mode `enrol`
 abbrev pub status_of : Result (Unit {0}) EnrolFault → ℕ
 status_of (Ok _) = 0
 status_of (Err fault) = fault_status fault

@@ -1,4 +1,4 @@
--- Believed: how a header tells the frame's length and its flags, by the width of the frames.
+-- Believed: how a header gives a frame's length and flags, in each width.
 use Rattle.std.specs.Prelude.{ℕ, ◌+◌, ◌*◌, ◌^◌, ◌%◌, List, ◌++◌, take, drop}
 use Rattle.std.specs.Int.{w16, w32, to_le_bytes, from_le_bytes}
 use Rattle.request_catalogue.specs.declared.width.Width.{Width}

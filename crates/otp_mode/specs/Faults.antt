@@ -28,7 +28,7 @@ fault_status faults.OutOfMemory = 9
 fault_status faults.EndsFailed = 11
 fault_status faults.PhraseRefused = 12
 
--- the exit status for what came of the mode `otp`
+-- the exit status of the mode `otp`
 abbrev pub status_of : Result (Unit {0}) OtpFault → ℕ
 status_of (Ok _) = 0
 status_of (Err fault) = fault_status fault

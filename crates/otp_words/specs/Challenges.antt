@@ -33,8 +33,8 @@ pub record IsNumber (digits : List ℕ) (n : ℕ) : Type 0 where
   pub legal : is_number_text digits ≡ true
   pub value : n ≡ decimal_value digits
 
--- a text begins with a challenge: the algorithm's word, a number, a seed in any letter case, blanks between, then a
--- space or newline, the last byte used
+-- a text begins with a challenge: algorithm's word, number, seed in any letter case, blanks between, and a space or
+-- newline after, `used` bytes in all
 pub record BeginsWithChallenge (text : List ℕ) (algo : Algo) (n : ℕ) (seed : List ℕ) (used : ℕ) : Type 0 where
   pub gap : List ℕ
   pub digits : List ℕ

@@ -45,8 +45,8 @@ asks_in journal session = filter (is_own session is_between) journal
 abbrev pub told_in : List Event → ℕ → List Told
 told_in journal session = map told_of (asks_in journal session)
 
--- a stranger's ask at this place: its session was opened and has no accepted REPLY so far, and it is no CHALLENGE, no
--- end and not lost
+-- a stranger's ask at this place: its session was opened and has no accepted REPLY so far; it is no CHALLENGE, no end,
+-- not lost
 pub record IsStrangersAsk (journal : List Event) (place : ℕ) (e : Event) : Type 0 where
   pub stands : slice_get journal place ≡ Some e
   pub opened : has_event (take place journal) e.session opens ≡ true

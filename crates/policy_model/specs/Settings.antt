@@ -94,7 +94,7 @@ passes s = are_texts s && are_counts s && are_numbers s.info && nat_le (events_m
 abbrev pub account_number : Settings → Name → Option ℕ
 account_number s user = position (λ a. same_name a.name user) s.accounts
 
--- the setup by which `serve` runs where no file is named
+-- the setup of `serve` where no file is named
 abbrev pub plain_settings : Settings
 plain_settings = record {
   socket = codes "otplogd.sock";

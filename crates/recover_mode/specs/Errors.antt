@@ -37,7 +37,7 @@ error_status errors.OutOfMemory = 9
 error_status errors.ReplaceFailed = 8
 error_status errors.SendFailed = 11
 
--- the exit status for what came of the mode `recover`
+-- the exit status of the mode `recover`
 abbrev pub status_of : Result Recovery RecoveryError → ℕ
 status_of (Ok recovery) = 0
 status_of (Err error) = error_status error

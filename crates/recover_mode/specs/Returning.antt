@@ -23,7 +23,7 @@ pub record HasRun (parts : RecoverParts) (setup : Settings) (journal : List Even
   pub whole : IsWhole setup journal
   pub logged : HasRecords (image_in (files parts.log)) (records_of journal)
 
--- the same log of a run by the first setup, but the setup file already has what the journal says of each account
+-- the log of a run by a first setup, where the setup file already has what the journal says of each account
 pub record HasRunAlready (parts : RecoverParts) (first setup : Settings) (journal : List Event) (files : Contents) : Type 0 where
   pub spelled : setup_in files parts.setup ≡ Some (Ok (entries_of setup))
   pub whole : IsWhole first journal

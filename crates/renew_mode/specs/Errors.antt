@@ -35,7 +35,7 @@ error_status errors.OutOfMemory = 9
 error_status errors.SendFailed = 11
 error_status errors.LogNotFresh = 13
 
--- the exit status for what came of the mode `renew`
+-- the exit status of the mode `renew`
 abbrev pub status_of : Result Renewed RenewError → ℕ
 status_of (Ok renewed) = 0
 status_of (Err error) = error_status error

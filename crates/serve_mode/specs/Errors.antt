@@ -28,7 +28,7 @@ error_status errors.AcceptFailed = 10
 error_status errors.ReplaceFailed = 8
 error_status errors.LogNotFresh = 13
 
--- the exit status for what came of the mode `serve`
+-- the exit status of the mode `serve`
 abbrev pub status_of : Result (Unit {0}) ServeError → ℕ
 status_of (Ok done) = 0
 status_of (Err error) = error_status error

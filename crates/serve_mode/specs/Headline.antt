@@ -75,7 +75,7 @@ pub record ServeHasCause {P : Type 0} (status : ℕ) (journal : List Event) (pos
   pub unbegun : posts ≡ [] → journal ≡ []
   pub read_fault : status ≡ 3 → ReadRose
   pub listen_fault : status ≡ 6 → ListenRose
-  -- once a decision is lost, the status is 7, or 9 where memory ran out later
+  -- once a decision is lost, the status is 7 or 9
   pub lost : has_lost journal ≡ true → (status ≡ 7) ⊎ (status ≡ 9)
   pub log_lost : status ≡ 7 → (has_lost journal ≡ true) × LogRose
   pub accept_fault : status ≡ 10 → SomeAcceptFailed scene faults posts

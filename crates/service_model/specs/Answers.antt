@@ -1,4 +1,4 @@
--- Believed: what a child is told of its requests.
+-- Believed: what a child is answered to its requests.
 use Rattle.std.specs.Prelude.{ℕ, ◌==◌, nat_lt, List, [], filter_map, find, slice_get, Option, Some, None, if◌then◌else◌}
 use Rattle.std.specs.Int.{w32, to_le_bytes}
 use Rattle.std.specs.List.{flat_map}

@@ -81,7 +81,7 @@ pub record LastSent (end : PartEnd) (whole sent : List ℕ) : Type 0 where
   pub cut : (n : ℕ) × (sent ≡ take n whole)
   pub all : end ≢ EndsSession whys.LinkFault → sent ≡ whole
 
--- what one child had of a session: its requests, the whole answers to them, the bytes that passed, and how it ended
+-- what one child had of a session: its requests, their whole answers, the bytes that passed, and how it ended
 pub record IsPart (service : Service) (exported : List ℕ) (end : PartEnd) (part : Part) : Type 0 where
   pub each : AllByRecursion (IsRequestStep service) (requests_of part)
   pub on : AllByRecursion GoesOn part.served

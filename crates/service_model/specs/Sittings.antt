@@ -88,7 +88,8 @@ abbrev pub NoneBehindLoss : List Sitting → Type 0
 NoneBehindLoss [] = Unit {0}
 NoneBehindLoss (sitting ∷ behind) = (ends_worker sitting ≡ true → behind ≡ []) × NoneBehindLoss behind
 
--- these sessions, one after the other, are all of a worker's events; one that lost a decision is the last
+-- these sessions, one after the other, are all of a worker's events; one whose opening was lost, or that ended by a
+-- loss, is the last
 pub record AreSittingsOf (service : Service) (journal : List Event) (worker : ℕ) (sittings : List Sitting) : Type 0 where
   pub places : worker_places journal worker ≡ step_places (flat_map all_steps sittings)
   pub each : AllByRecursion (IsSitting service) sittings
