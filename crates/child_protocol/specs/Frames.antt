@@ -10,7 +10,7 @@ use Rattle.request_catalogue.specs.Reading.{request_of}
 use Rattle.child_protocol.specs.declared.turn.Turn.{Turn}
 use Rattle.child_protocol.specs.declared.turn.Turn.TheVariants as turns
 
--- a child reads and writes narrow frames; its requests and their replies are the same bytes in wide ones
+-- a child reads and writes narrow frames; as wide ones its requests and their replies would be the same bytes
 abbrev pub frame_width : Width
 frame_width = widths.Narrow
 

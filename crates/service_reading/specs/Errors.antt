@@ -10,7 +10,7 @@ use Rattle.service_reading.specs.declared.error.ServiceError.{ServiceError}
 use Rattle.service_reading.specs.declared.error.ServiceError.TheVariants as errors
 use Rattle.service_reading.specs.Found.{service_in}
 
--- why a setup or its word list wasn't read: a read failed, memory ran out, or the files say so
+-- why a setup or its word list wasn't read: a read failed, memory ran out, or the files, if they report, say so
 abbrev pub IsServiceError : List Key → Option Contents → List ℕ → Type 0 → ServiceError → Type 0
 IsServiceError forms contents name ReadFailed errors.Failed = ReadFailed
 IsServiceError forms contents name ReadFailed errors.OutOfMemory = Unit {0}
