@@ -160,12 +160,16 @@ abbrev pub own_verdict : Settings → List Event → ℕ → Ask → Decision
 own_verdict setup journal session (asks.Bad rule detail) = Deny rule detail
 own_verdict setup journal session ask = option_map_or (λ kind. row_verdict setup journal session ask kind (table_row (phase_of journal session) kind)) (kind_of ask) (Permit 0)
 
+-- 2. any other ask
+
 -- a child's ask: rule 6 without an open session or in one that is over, rule 1 once the session made all its asks
 abbrev pub request_verdict : Settings → List Event → ℕ → Ask → Decision
 request_verdict setup journal session ask =
     if session == 0 || is_over journal session then Deny NOT_IN_PHASE (request_number ask)
     else (if ask_count journal session == setup.requests then Deny ASKS_SPENT setup.requests
     else own_verdict setup journal session ask)
+
+-- 1. an opening, an end, any other ask
 
 -- the policy's verdict on what a worker asks after these events: the first rule that applies, otherwise a permit
 unfoldable pub verdict_of : Settings → List Event → ℕ → Ask → Decision
