@@ -55,7 +55,7 @@ def measure(width, frame, piece, programs):
 
 
 print("width   frame  piece program")
-for width, frames in (("narrow", (24, 4_096, 16_384)), ("wide", (24, 4_096, 16_384, 65_536))):
+for width, frames in (("narrow", (24, 4_096, 6_144, 16_384)), ("wide", (24, 4_096, 16_384, 49_152, 65_536))):
     programs = ["ours", "plain"]
     if width == "narrow" and os.path.exists(f"{work}/openbsd"):
         programs.append("openbsd")

@@ -4,3 +4,4 @@ pub mod Cuts
 pub mod Arrays
 pub mod Taking
 pub mod Pieces
+pub mod Turning

@@ -1,4 +1,4 @@
-ghost use Rattle.std.specs.Prelude.{◌≡◌, ◌+◌, ◌-◌, ◌≤◌, ◌<◌, ◌++◌, ◌↔◌, [], IfOk, IsTrue, length, take, min};
+ghost use Rattle.std.specs.Prelude.{◌≡◌, ◌+◌, ◌-◌, ◌≤◌, ◌<◌, ◌++◌, ◌↔◌, [], IfOk, IsTrue, length, take, drop, min};
 ghost use Rattle.std.specs.Borrow.{sem};
 ghost use Rattle.request_catalogue.specs.Widths.{frame_max};
 ghost use Rattle.imsg_frame.specs.Message.{header_bytes, FitsFields};
@@ -32,6 +32,8 @@ pub struct Reader {
     ring: HeapCircularBuffer<u8>,
     // How many bytes the frame given last has.
     given: usize,
+    // Where in the ring's memory its first byte is taken to stand. Only the speed depends on it.
+    place: usize,
 }
 
 impl Model for Reader {
@@ -67,6 +69,7 @@ impl Reader {
             width,
             ring,
             given: 0,
+            place: 0,
         })
     }
 
@@ -98,20 +101,35 @@ impl Reader {
         ensures max { self.new.max ≡ self.old.max }
         ensures empty { self.new.bytes ≡ [] }
     {
-        self.given = 0;
+        self.leave();
         self.ring.clear();
     }
 
-    // Takes the frame given last out of the ring.
+    // Where the ring's first byte stands after the frame given last has left. Where the bytes lay across the end of
+    // the ring's memory, `contiguous` has moved those past it in front of the others.
+    fn next_place(&self) -> usize {
+        let capacity = self.ring.capacity();
+        let past = self
+            .place
+            .saturating_add(self.ring.len())
+            .saturating_sub(capacity);
+        let next = self.place.saturating_sub(past).saturating_add(self.given);
+        if capacity <= next { 0 } else { next }
+    }
+
+    // Takes the frame given last, if it is still there, out of the ring.
     fn leave(&mut self)
         ensures width { self.new.width ≡ self.old.width }
         ensures max { self.new.max ≡ self.old.max }
         ensures given { self.new.given ≡ [] }
         ensures bytes { self.new.bytes ≡ self.old.bytes }
     {
-        let held = self.held();
-        self.given = 0;
-        self.ring.truncate_front(held);
+        if 0 < self.given {
+            let held = self.held();
+            self.place = self.next_place();
+            self.given = 0;
+            self.ring.truncate_front(held);
+        }
     }
 
     /// Takes as many bytes of the piece, from its front, as there is room for, and answers how many.
@@ -122,6 +140,13 @@ impl Reader {
         ensures max { self.new.max ≡ self.old.max }
     {
         self.leave();
+        // A frame that lies across the end of the ring's memory costs a move of all that the ring has.
+        let capacity = self.ring.capacity();
+        let end = self.place.saturating_add(self.ring.len());
+        if capacity / 2 < self.place && end <= capacity && capacity - end < piece.len() {
+            move_to_front(&mut self.ring, &piece[..capacity - end]);
+            self.place = 0;
+        }
         self.ring.fill_from_slice(piece)
     }
 
@@ -165,6 +190,38 @@ impl Reader {
     {
         self.ring.make_contiguous()
     }
+}
+
+// How many bytes of a ring are moved at a time.
+const PIECE: usize = 512;
+
+// Moves the first bytes of a ring to its back.
+fn rotate(ring: &mut HeapCircularBuffer<u8>, count: usize)
+    requires fits { length ring.old.items ≤ ring.old.capacity }
+    requires there { count ≤ length ring.old.items }
+    ensures items { ring.new.items ≡ drop count ring.old.items ++ take count ring.old.items }
+    ensures capacity { ring.new.capacity ≡ ring.old.capacity }
+{
+    let mut piece = [0; PIECE];
+    let mut left = count;
+    while 0 < left {
+        let some = &mut piece[..left.min(PIECE)];
+        let read = ring.read_into(some);
+        let _ = ring.fill_from_slice(some);
+        left -= read;
+    }
+}
+
+// Moves a ring's bytes to the front of its memory. The filler has as many bytes as there are places from them to the
+// end of that memory; the ring is without them again in the end.
+fn move_to_front(ring: &mut HeapCircularBuffer<u8>, filler: &[u8])
+    requires fits { length ring.old.items ≤ ring.old.capacity }
+    ensures same { ring.new ≡ ring.old }
+{
+    let held = ring.len();
+    let _ = ring.fill_from_slice(filler);
+    rotate(ring, held);
+    ring.truncate_front(held);
 }
 
 // The first bytes of two slices, one after the other, copied to `spare` where the first slice hasn't so many.
