@@ -6,9 +6,11 @@ mod logged;
 mod parts;
 mod readers;
 mod reading;
+mod typed;
 mod words;
 mod writing;
 
 pub use logged::{LineFault, Logged, LoggedAsk};
 pub use reading::read_line;
+pub use typed::is_typed;
 pub use writing::line;

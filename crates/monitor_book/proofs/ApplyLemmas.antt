@@ -15,6 +15,7 @@ use Rattle.policy_model.specs.Journal.{has_lost, kept_events}
 use Rattle.policy_model.specs.Legal.{next_event}
 use Rattle.policy_model.specs.Settings.{Settings, events_max, quota_of}
 use Rattle.decision_log.specs.Log.{line_of}
+use Rattle.decision_log.specs.Typed.{IsTyped}
 use Rattle.session_core.specs.Parts.{CoreParts, setup_of}
 use Rattle.session_core.specs.Standing.{HasRoom, KeepsSetup, Stands}
 use Rattle.turn_cell.specs.Facts.{replies_of}
@@ -67,17 +68,27 @@ writes_line (Err e) line held_old held_new faults_old faults_new ok part counts 
   counted = kept;
 }
 
--- what is written is the line of the event that follows
+-- the event is the one that follows
+pub event_is : (book : BookParts) (worker : ℕ) (ask : Ask) (event : Event) → IsBook book → book.lost ≡ false → ((journal : List Event) → Stands book.core journal → event ≡ next_event (setup_of book.core) journal worker ask) → event ≡ next_event (setup_of book.core) book.journal worker ask
+event_is book worker ask event kept none is =
+    let all : kept_events book.journal ≡ book.journal = kept_all book.journal (kept.history.known ∙ none) in
+    is book.journal (subst (λ xs. Stands book.core xs) all kept.history.stands)
+
+-- and its numbers are in the ranges of their types
+pub typed_is : (book : BookParts) (worker : ℕ) (ask : Ask) (event : Event) → IsBook book → is_proper ask ≡ true → ((journal : List Event) → Stands book.core journal → event ≡ next_event (setup_of book.core) journal worker ask) → (is_proper event.ask ≡ true → IsTyped event) → book.lost ≡ false → IsTyped (next_event (setup_of book.core) book.journal worker ask)
+typed_is book worker ask event kept proper is typed none =
+    let follows = event_is book worker ask event kept none is in
+    subst IsTyped follows (typed (ap (λ (x : Event). is_proper x.ask) follows ∙ proper))
+
+-- what is written is its line
 pub line_is : (book : BookParts) (worker : ℕ) (ask : Ask) (event : Event) (number len : ℕ) (out rest : List ℕ) → IsBook book → book.lost ≡ false → ((journal : List Event) → Stands book.core journal → event ≡ next_event (setup_of book.core) journal worker ask) → number ≡ length book.journal + 1 → len ≡ length (line_of number event) → out ≡ line_of number event ++ rest → take len out ≡ line_of (length book.journal + 1) (next_event (setup_of book.core) book.journal worker ask)
 line_is book worker ask event number len out rest kept none is counted long written =
-    let all : kept_events book.journal ≡ book.journal = kept_all book.journal (kept.history.known ∙ none) in
-    let follows : event ≡ next_event (setup_of book.core) book.journal worker ask = is book.journal (subst (λ xs. Stands book.core xs) all kept.history.stands) in
     let front : take len out ≡ line_of number event = ap (λ n. take n out) long ∙ ap (λ xs. take (length (line_of number event)) xs) written ∙ take-append_seam (line_of number event) rest in
-    front ∙ ap (λ n. line_of n event) counted ∙ ap (line_of (length book.journal + 1)) follows
+    front ∙ ap (λ n. line_of n event) counted ∙ ap (line_of (length book.journal + 1)) (event_is book worker ask event kept none is)
 
 -- the book behind the event
-pub book_push : (book : BookParts) (new : CoreParts) (lost : Bool) (worker : ℕ) (ask : Ask) (e : Event) (held : Option (List ℕ)) (faults : ℕ) → IsBook book → IsAsked book.core book.journal worker → is_proper ask ≡ true → WritesLine book.lost lost (line_of (length book.journal + 1) (next_event (setup_of book.core) book.journal worker ask)) book.held held book.faults faults → KeepsSetup book.core new → Settles lost worker ask book.core new e → IsBook (book_parts new (book.journal ++ e ∷ []) lost book.held_first held book.faults_first faults)
-book_push book new lost worker ask e held faults kept asked proper line same settled =
+pub book_push : (book : BookParts) (new : CoreParts) (lost : Bool) (worker : ℕ) (ask : Ask) (e : Event) (held : Option (List ℕ)) (faults : ℕ) → IsBook book → IsAsked book.core book.journal worker → is_proper ask ≡ true → (book.lost ≡ false → IsTyped (next_event (setup_of book.core) book.journal worker ask)) → WritesLine book.lost lost (line_of (length book.journal + 1) (next_event (setup_of book.core) book.journal worker ask)) book.held held book.faults faults → KeepsSetup book.core new → Settles lost worker ask book.core new e → IsBook (book_parts new (book.journal ++ e ∷ []) lost book.held_first held book.faults_first faults)
+book_push book new lost worker ask e held faults kept asked proper typed line same settled =
     let stays : book.lost ≡ true → lost ≡ true = λ h. (line.again h).0 in
     let came : IsEntered book.core new book.journal lost worker ask e = entered book.core new book.journal book.lost lost worker ask e kept.history stays settled in
     let follows : next_event (setup_of book.core) book.journal worker ask ≡ next_event (setup_of book.core) book.journal e.worker e.ask = ap (λ n. next_event (setup_of book.core) book.journal n ask) (sym came.its) ∙ ap (next_event (setup_of book.core) book.journal e.worker) (sym came.asks) in
@@ -86,7 +97,7 @@ book_push book new lost worker ask e held faults kept asked proper line same set
     (subst (λ b. WritesLine (has_lost book.journal) b (line_of (length book.journal + 1) (next_event (setup_of book.core) book.journal worker ask)) book.held held book.faults faults) (sym came.decided)
     (subst (λ b. WritesLine b lost (line_of (length book.journal + 1) (next_event (setup_of book.core) book.journal worker ask)) book.held held book.faults faults) (sym kept.history.known) line)) in
     record {
-      history = history_push book.core new book.journal book.lost lost worker ask e kept.history stays came same.setup_is same.cap_is proper asked.who asked.quota;
+      history = history_push book.core new book.journal book.lost lost worker ask e kept.history stays came same.setup_is same.cap_is proper asked.who asked.quota typed;
       logged = subst (λ (s : Settings). IsLogged s (book.journal ++ e ∷ []) book.held_first held book.faults_first faults) (sym same.setup_is)
           (logged_push (setup_of book.core) book.journal e book.held_first book.held held book.faults_first book.faults faults kept.logged own (λ h. came.is (sym came.decided ∙ h) ∙ follows));
     }

@@ -1,6 +1,7 @@
 -- A book's history goes on by one event.
 use Rattle.std.proofs.Common.{◌≡◌, ℕ, suc, ◌<◌, ◌≤◌, Bool, true, false, ◌||◌, not, cond, List, [], ◌∷◌, ◌++◌, length, refl, sym, ap, subst, ◌∙◌, arith}
 use Rattle.std.specs.Prelude.{filter}
+use Rattle.std.specs.List.{AllByRecursion}
 use Rattle.std.proofs.lemmas.Bool.{false≢true}
 use Rattle.policy_model.specs.declared.event.Ask.{Ask}
 use Rattle.policy_model.specs.declared.event.Decision.TheVariants.{Lost}
@@ -11,6 +12,7 @@ use Rattle.policy_model.specs.Legal.{IsNext, event_with, next_event}
 use Rattle.policy_model.specs.Runs.{IsRun}
 use Rattle.policy_model.specs.Settings.{IsInRange, Settings, events_max, quota_of}
 use Rattle.policy_model.proofs.Runs.{IsRun-none, IsRun-push, has_lost-push}
+use Rattle.decision_log.specs.Typed.{IsTyped}
 use Rattle.session_core.specs.Parts.{CoreParts, setup_of}
 use Rattle.session_core.specs.Standing.{HasRoom, Stands}
 use Rattle.session_core.proofs.ReplayLemmas.{begun_few}
@@ -20,7 +22,9 @@ use Rattle.turn_cell.proofs.Counts.{at_most, room_for, within_more}
 use Rattle.monitor_book.specs.Entering.{Settles}
 use Rattle.monitor_book.specs.Kept.{BookParts, IsBook, IsHistory, IsWithinQuota, worker_of}
 use Rattle.monitor_book.proofs.EventLemmas.{lost_kept}
+use Rattle.monitor_book.specs.Lines.{decided_in}
 use Rattle.monitor_book.proofs.LogLemmas.{kept_all, kept_lost}
+use Rattle.monitor_book.proofs.TypedLemmas.{typed_push}
 
 -- how long a list is at most that is filtered
 pub filter_few : {X : Type 0} (p : X → Bool) (xs : List X) → length (filter p xs) ≤ length xs
@@ -38,6 +42,7 @@ history_none core range stands sessions = record {
   stands = stands;
   known = refl;
   within = ((λ n le. refl), (λ n. omega arith));
+  typed = tt;
   sessions = sessions;
 }
 
@@ -102,16 +107,20 @@ entered core new journal true false worker ask e history stays settled = absurd 
 entered core new journal false false worker ask e history stays settled = entered_kept core new journal worker ask e history.known history settled
 
 -- the book behind the event
-pub history_push : (core new : CoreParts) (journal : List Event) (before lost : Bool) (worker : ℕ) (ask : Ask) (e : Event) → IsHistory core journal before → (before ≡ true → lost ≡ true) → IsEntered core new journal lost worker ask e → setup_of new ≡ setup_of core → new.ledger.cap ≡ core.ledger.cap → is_proper ask ≡ true → worker < (setup_of core).workers → length (replies_of worker_of worker journal) < quota_of (setup_of core) → IsHistory new (journal ++ e ∷ []) lost
-history_push core new journal before lost worker ask e history stays entered setup cap proper low left =
+pub history_push : (core new : CoreParts) (journal : List Event) (before lost : Bool) (worker : ℕ) (ask : Ask) (e : Event) → IsHistory core journal before → (before ≡ true → lost ≡ true) → IsEntered core new journal lost worker ask e → setup_of new ≡ setup_of core → new.ledger.cap ≡ core.ledger.cap → is_proper ask ≡ true → worker < (setup_of core).workers → length (replies_of worker_of worker journal) < quota_of (setup_of core) → (before ≡ false → IsTyped (next_event (setup_of core) journal worker ask)) → IsHistory new (journal ++ e ∷ []) lost
+history_push core new journal before lost worker ask e history stays entered setup cap proper low left typed =
     let below : e.worker < (setup_of core).workers = subst (λ n. n < (setup_of core).workers) (sym entered.its) low in
     let few : length (replies_of worker_of (worker_of e) journal) < quota_of (setup_of core) = subst (λ n. length (replies_of worker_of n journal) < quota_of (setup_of core)) (sym entered.its) left in
+    let follows : next_event (setup_of core) journal worker ask ≡ next_event (setup_of core) journal e.worker e.ask =
+    ap (λ n. next_event (setup_of core) journal n ask) (sym entered.its) ∙ ap (next_event (setup_of core) journal e.worker) (sym entered.asks) in
     record {
       in_range = subst IsInRange (sym setup) history.in_range;
       run = subst (λ (s : Settings). IsRun s (journal ++ e ∷ [])) (sym setup) (IsRun-push (setup_of core) journal e history.run entered.next (ap is_proper entered.asks ∙ proper) below);
       stands = entered.stands;
       known = has_lost-push journal e ∙ rw (history.known, entered.decided) (join before lost stays);
       within = subst (λ (s : Settings). IsWithinQuota s (journal ++ e ∷ [])) (sym setup) (within_more worker_of (setup_of core).workers (quota_of (setup_of core)) journal e history.within below few);
+      typed = subst (λ (s : Settings). AllByRecursion IsTyped (decided_in s (journal ++ e ∷ []))) (sym setup)
+          (typed_push (setup_of core) journal e history.typed (λ h. entered.decided ∙ stays (sym history.known ∙ h)) (λ h. entered.is (sym entered.decided ∙ h) ∙ follows) (λ h. subst IsTyped follows (typed (sym history.known ∙ h))));
       sessions = omega (arith, history.sessions, cap, ap events_max setup);
     } where
       join : (b l : Bool) → (b ≡ true → l ≡ true) → (b || l) ≡ l

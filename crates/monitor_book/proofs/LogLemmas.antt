@@ -36,7 +36,7 @@ kept_all (e ∷ es) h = go (is_lost e.decision) h (kept_all es) where
   go false h rest = ap (λ xs. e ∷ xs) (rest h)
 
 -- and no lost event is found
-find_none : (journal : List Event) → has_lost journal ≡ false → find (λ e. is_lost e.decision) journal ≡ None
+pub find_none : (journal : List Event) → has_lost journal ≡ false → find (λ e. is_lost e.decision) journal ≡ None
 find_none [] h = refl
 find_none (e ∷ es) h = go (is_lost e.decision) h (find_none es) where
   go : (b : Bool) → (b || has_lost es) ≡ false → (has_lost es ≡ false → find (λ x. is_lost x.decision) es ≡ None) → cond b (Some e) (find (λ x. is_lost x.decision) es) ≡ None
@@ -119,7 +119,7 @@ logs_cut setup journal e old new none lost gained = λ first before. go first ol
   go (Some f) (Some o) (Some n) gain before = cut_held setup journal e f o n gained.0 none lost before gain
 
 -- where one was lost, the first that is found stays
-find_again : (journal : List Event) (e : Event) → has_lost journal ≡ true → find (λ x. is_lost x.decision) (journal ++ e ∷ []) ≡ find (λ x. is_lost x.decision) journal
+pub find_again : (journal : List Event) (e : Event) → has_lost journal ≡ true → find (λ x. is_lost x.decision) (journal ++ e ∷ []) ≡ find (λ x. is_lost x.decision) journal
 find_again [] e h = absurd (false≢true h)
 find_again (x ∷ xs) e h = go (is_lost x.decision) h (find_again xs e) where
   go : (b : Bool) → (b || has_lost xs) ≡ true → (has_lost xs ≡ true → find (λ y. is_lost y.decision) (xs ++ e ∷ []) ≡ find (λ y. is_lost y.decision) xs) → cond b (Some x) (find (λ y. is_lost y.decision) (xs ++ e ∷ [])) ≡ cond b (Some x) (find (λ y. is_lost y.decision) xs)

@@ -1,7 +1,9 @@
 -- Inner: what a book keeps.
 use Rattle.std.specs.Prelude.{◌≡◌, ℕ, ◌≤◌, ◌+◌, Bool, true, false, List, [], length, Option}
+use Rattle.std.specs.List.{AllByRecursion}
 use Rattle.std.specs.Option.{option_map_or}
 use Rattle.decision_log.specs.Log.{line_of}
+use Rattle.decision_log.specs.Typed.{IsTyped}
 use Rattle.outside.specs.Told.{Rose}
 use Rattle.policy_model.specs.declared.event.Event.{Event}
 use Rattle.policy_model.specs.Journal.{has_lost, kept_events}
@@ -11,7 +13,7 @@ use Rattle.policy_model.specs.Settings.{IsInRange, Settings, events_max, quota_o
 use Rattle.session_core.specs.Parts.{CoreParts, setup_of}
 use Rattle.session_core.specs.Standing.{Stands}
 use Rattle.turn_cell.specs.Facts.{IsWithin}
-use Rattle.monitor_book.specs.Lines.{LogMatches}
+use Rattle.monitor_book.specs.Lines.{LogMatches, decided_in}
 
 -- the line that a lost event would have had behind those that were kept, where there is one
 abbrev pub lost_line_of : Settings → List Event → Option Event → List ℕ
@@ -46,13 +48,14 @@ worker_of e = e.worker
 abbrev pub IsWithinQuota : Settings → List Event → Type 0
 IsWithinQuota setup journal = IsWithin worker_of setup.workers (quota_of setup) journal
 
--- the setup is in its ranges; the journal is legal, of the setup's workers and within their quotas; the core stands for the events that were kept, and has room for a session of each event
+-- the setup is in its ranges; the journal is legal, of the setup's workers and within their quotas, and the events that were decided are in the ranges of their types; the core stands for the events that were kept, and has room for a session of each event
 pub record IsHistory (core : CoreParts) (journal : List Event) (lost : Bool) : Type 0 where
   pub in_range : IsInRange (setup_of core)
   pub run : IsRun (setup_of core) journal
   pub stands : Stands core (kept_events journal)
   pub known : has_lost journal ≡ lost
   pub within : IsWithinQuota (setup_of core) journal
+  pub typed : AllByRecursion IsTyped (decided_in (setup_of core) journal)
   pub sessions : events_max (setup_of core) ≤ core.ledger.cap
 
 -- the log has the journal's lines behind what it held at first, and an event was lost exactly by a fault of the log

@@ -1,6 +1,6 @@
 -- Believed: what the log holds of a journal.
-use Rattle.std.specs.Prelude.{◌≡◌, ℕ, ◌+◌, List, [], ◌++◌, length, take, find, Option}
-use Rattle.std.specs.Option.{option_map_or}
+use Rattle.std.specs.Prelude.{◌≡◌, ℕ, ◌+◌, List, [], ◌++◌, length, take, find, Option, option_map}
+use Rattle.std.specs.Option.{option_map_or, option_to_list}
 use Rattle.outside.specs.Told.{Goes}
 use Rattle.policy_model.specs.declared.event.Event.{Event}
 use Rattle.policy_model.specs.Asks.{is_lost}
@@ -22,3 +22,11 @@ pub record HoldsLines (setup : Settings) (journal : List Event) (before after : 
 -- where the log reports: it holds what it held and the lines of the journal (`HoldsLines`)
 abbrev pub LogMatches : Settings → List Event → Option (List ℕ) → Option (List ℕ) → Type 0
 LogMatches setup journal before after = Goes (HoldsLines setup journal) before after
+
+-- the event whose line was lost first, as the policy decides it, if one was
+abbrev pub lost_event : Settings → List Event → Option Event
+lost_event setup journal = option_map (λ e. next_event setup (kept_events journal) e.worker e.ask) (find (λ e. is_lost e.decision) journal)
+
+-- the events that a run decided: those that it kept, and that one
+abbrev pub decided_in : Settings → List Event → List Event
+decided_in setup journal = kept_events journal ++ option_to_list (lost_event setup journal)

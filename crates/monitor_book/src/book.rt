@@ -10,7 +10,7 @@ ghost use Rattle.session_core.specs.Standing.{Stands};
 
 use crate::entering::{event_of, settle};
 use crate::opened::Opened;
-use decision_log::line;
+use decision_log::{is_typed, line};
 use outside::Sink;
 use policy_model::{Ask, Event};
 use session_core::Core;
@@ -128,6 +128,7 @@ impl<K: Sink> Object for Book<K> {
     fn apply(&mut self, who: u32, call: Ask) -> Event {
         let decision = self.core.decide(who, &call);
         let event = event_of(&self.core, who, &call, &decision);
+        is_typed(&event);
         let mut text = [0; LINE_MAX];
         let len = line(self.journal.len() as u32 + 1, &event, &mut text);
         let lost = self.lost || self.log.append(&text[..len]).is_err();

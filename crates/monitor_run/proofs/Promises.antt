@@ -1,8 +1,10 @@
 -- All that a run promises, from what its workers did and what its book keeps.
 use Rattle.std.proofs.Common.{◌≡◌, ℕ, ◌≤◌, Bool, true, false, List, length, Option, Some, sym, subst}
+use Rattle.std.specs.List.{AllByRecursion}
+use Rattle.decision_log.specs.Typed.{IsTyped}
 use Rattle.monitor_book.specs.declared.opened.Opened.{Opened}
 use Rattle.monitor_book.specs.Kept.{BookParts, IsBook}
-use Rattle.monitor_book.specs.Lines.{LogMatches}
+use Rattle.monitor_book.specs.Lines.{LogMatches, decided_in}
 use Rattle.outside.specs.declared.faults.Faults.{Faults}
 use Rattle.outside.specs.Scene.{Scene}
 use Rattle.outside.specs.Told.{Rose}
@@ -23,6 +25,7 @@ use Rattle.monitor_run.proofs.Headline.{answered_whole, conversations_match, fau
 pub record BookSays (setup : Settings) (journal : List Event) (held_old held_new : Option (List ℕ)) (log_old log_new : ℕ) : Type 0 where
   pub in_range : IsInRange setup
   pub run : IsRun setup journal
+  pub typed : AllByRecursion IsTyped (decided_in setup journal)
   pub lines : LogMatches setup journal held_old held_new
   pub rose : has_lost journal ≡ true → Rose log_old log_new
   pub kept : has_lost journal ≡ false → log_new ≡ log_old
@@ -30,7 +33,7 @@ pub record BookSays (setup : Settings) (journal : List Event) (held_old held_new
 pub book_says : (setup : Settings) (book : BookParts) (held : Option (List ℕ)) (faults : ℕ) → IsBook book → Some (record { setup = setup; held = held; faults = faults }) ≡ Some (opened_of book) → BookSays setup book.journal held book.held faults book.faults
 book_says setup book held faults is told =
     let same : record { setup = setup; held = held; faults = faults } ≡ opened_of book = once _ _ told in
-    subst (λ (o : Opened). BookSays o.setup book.journal o.held book.held o.faults book.faults) (sym same) (record { in_range = is.history.in_range; run = is.history.run; lines = is.logged.lines; rose = is.logged.rose; kept = is.logged.kept })
+    subst (λ (o : Opened). BookSays o.setup book.journal o.held book.held o.faults book.faults) (sym same) (record { in_range = is.history.in_range; run = is.history.run; typed = is.history.typed; lines = is.logged.lines; rose = is.logged.rose; kept = is.logged.kept })
   where
     once : (a b : Opened) → Some a ≡ Some b → a ≡ b
     once a b e = cc
@@ -42,7 +45,7 @@ book_setup opened book told = cc
 pub run_promises : {P : Type 0} (service : Service) (failed : Bool) (journal : List Event) (posts : List P) (scene : P → Option Scene) (faults : P → Faults) (held_old held_new : Option (List ℕ)) (log_old log_new : ℕ) → RunEnded service failed journal posts scene faults → BookSays service.setup journal held_old held_new log_old log_new → length journal ≤ 1048576 → length posts ≡ service.setup.workers → FaultsAreCounted scene faults posts → RunPromises service failed journal posts scene faults held_old held_new log_old log_new
 run_promises service failed journal posts scene faults held_old held_new log_old log_new ended says few one_each counted =
     record {
-      legal = record { legal = says.run.legal; proper = says.run.proper; workers = says.run.workers; few = few };
+      legal = record { legal = says.run.legal; proper = says.run.proper; workers = says.run.workers; few = few; typed = says.typed };
       sessions = sessions_in_order service failed journal posts scene faults ended;
       conversations = conversations_match service failed journal posts scene faults ended;
       log = says.lines;

@@ -4,7 +4,8 @@ use Rattle.std.specs.List.{AllByRecursion, last_or, list_any}
 use Rattle.std.specs.Option.{option_map_or}
 use Rattle.policy_laws.specs.Consequences.{HasConsequences}
 use Rattle.policy_laws.specs.Strangers.{ShowsNoAccounts}
-use Rattle.monitor_book.specs.Lines.{LogMatches}
+use Rattle.decision_log.specs.Typed.{IsTyped}
+use Rattle.monitor_book.specs.Lines.{LogMatches, decided_in}
 use Rattle.outside.specs.Told.{Rose}
 use Rattle.outside.specs.declared.faults.Faults.{Faults}
 use Rattle.outside.specs.Scene.{CountsAsTold, Scene, is_failed_accept}
@@ -25,12 +26,13 @@ use Rattle.welcome_laws.specs.Welcome.{UsersGetIn}
 -- ---- the journal is legal
 
 -- every event is the policy's decision on those before it, or lost like all later ones; asks are proper, workers the
--- setup's, events within the limit
+-- setup's, events within the limit, numbers within their types
 pub record JournalIsLegal (setup : Settings) (journal : List Event) : Type 0 where
   pub legal : IsLegal setup journal
   pub proper : AllByRecursion IsProperEvent journal
   pub workers : AllByRecursion (IsOfWorker setup) journal
   pub few : length journal ≤ EVENTS_LIMIT
+  pub typed : AllByRecursion IsTyped (decided_in setup journal)
 
 -- each worker's events are whole sessions, one after the other, and none follows a lost opening or a session that ended
 -- by a loss

@@ -18,7 +18,8 @@ use Rattle.session_laws.proofs.ByEvents.{by_legal_events}
 use Rattle.session_laws.proofs.NextEvents.{kept_goes_on, legal_goes_on}
 use Rattle.monitor_book.proofs.LogLemmas.{kept_all, kept_lost}
 use Rattle.ledger_journal.specs.Journals.{IsWhole}
-use Rattle.recovery_law.specs.Surviving.{IsRunOf, decided_in, lost_event}
+use Rattle.monitor_book.specs.Lines.{decided_in, lost_event}
+use Rattle.recovery_law.specs.Surviving.{IsRunOf}
 
 module _ {X : Type 0} (P : X → Type 0) where
   all_filter : (q : X → Bool) (xs : List X) → AllByRecursion P xs → AllByRecursion P (filter q xs)

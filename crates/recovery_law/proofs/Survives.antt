@@ -23,7 +23,8 @@ use Rattle.ledger_journal.proofs.LineLemmas.{event_is_line, records_len, writabl
 use Rattle.line_log.specs.Kept.{IsLineLog, LineParts, given_of}
 use Rattle.monitor_book.specs.Lines.{HoldsLines, lost_line}
 use Rattle.monitor_book.specs.Kept.{lost_line_of}
-use Rattle.recovery_law.specs.Surviving.{HasFirst, IsRunOf, LosesNoEvent, decided_in, lost_event}
+use Rattle.monitor_book.specs.Lines.{decided_in, lost_event}
+use Rattle.recovery_law.specs.Surviving.{HasFirst, IsRunOf, LosesNoEvent}
 use Rattle.recovery_law.proofs.Cutting.{IsFirst, IsLast, same_lines}
 use Rattle.recovery_law.proofs.Decided.{first_whole}
 

@@ -1,29 +1,20 @@
 -- Inner: what a crash at any moment of a run leaves of its log, and what recovery makes of that.
-use Rattle.std.specs.Prelude.{◌≡◌, ℕ, ◌≤◌, ◌+◌, ◌-◌, ◌/◌, min, Bool, false, List, ◌++◌, length, take, find, Option, option_map, Result}
+use Rattle.std.specs.Prelude.{◌≡◌, ℕ, ◌≤◌, ◌+◌, ◌-◌, ◌/◌, min, Bool, false, List, length, take, Result}
 use Rattle.std.specs.List.{AllByRecursion}
-use Rattle.std.specs.Option.{option_to_list}
 use Rattle.policy_model.specs.declared.event.Event.{Event}
 use Rattle.policy_model.specs.declared.ranges.TheConstants.{EVENTS_LIMIT}
-use Rattle.policy_model.specs.Asks.{is_lost}
 use Rattle.policy_model.specs.Journal.{kept_events}
-use Rattle.policy_model.specs.Legal.{IsLegal, next_event}
+use Rattle.policy_model.specs.Legal.{IsLegal}
 use Rattle.policy_model.specs.Runs.{IsProperEvent}
 use Rattle.policy_model.specs.Settings.{IsInRange, Settings}
 use Rattle.decision_log.specs.Typed.{IsTyped}
+use Rattle.monitor_book.specs.Lines.{decided_in}
 use Rattle.durable_log.specs.Disk.{AtEachMoment, Story, moment_of, states_of}
 use Rattle.durable_log.specs.Records.{HasRecords}
 use Rattle.ledger_journal.specs.declared.answer.Recovered.{Recovered}
 use Rattle.ledger_journal.specs.declared.answer.RecoverError.{RecoverError}
 use Rattle.ledger_journal.specs.Journals.{IsBackAt, IsRecoveredAs, records_of}
 use Rattle.ledger_journal.specs.Recovering.{IsAnswerOf}
-
--- the event whose line was lost first, as the policy decides it, if one was
-abbrev pub lost_event : Settings → List Event → Option Event
-lost_event setup journal = option_map (λ e. next_event setup (kept_events journal) e.worker e.ask) (find (λ e. is_lost e.decision) journal)
-
--- the events that a run decided: those that it kept, and that one
-abbrev pub decided_in : Settings → List Event → List Event
-decided_in setup journal = kept_events journal ++ option_to_list (lost_event setup journal)
 
 -- the journal of a run: it is legal, its asks are proper, it has at most as many events as a run makes, and those that it decided are in the ranges of their types
 pub record IsRunOf (setup : Settings) (journal : List Event) : Type 0 where

@@ -351,7 +351,7 @@ log_unchanged setup (Some before) (Some after) gains = record { lines = (0, gain
 
 module _ {P : Type 0} (source : Source) (service : Service) (status : ℕ) (journal : List Event) (posts : List P) (scene : P → Option Scene) (faults : P → Faults) (events : journal ≡ []) (none : posts ≡ []) where
   legal : JournalIsLegal service.setup journal
-  legal = subst (JournalIsLegal service.setup) (sym events) (record { legal = IsLegal-none service.setup; proper = tt; workers = tt; few = omega arith })
+  legal = subst (JournalIsLegal service.setup) (sym events) (record { legal = IsLegal-none service.setup; proper = tt; workers = tt; few = omega arith; typed = tt })
 
   unserved_promises : (old new : Option Contents) (listens_old listens_new : Option (List SitePlace)) (held_old held_new : Option (List ℕ)) (ReadRose ReplaceRose ListenRose LogRose : Type 0)
       → is_run_status status ≡ false → Goes SameFiles old new → Gains listens_old [] listens_new → Gains held_old [] held_new → (NoFault ReadRose ReplaceRose ListenRose LogRose faults posts → status ≡ 9)

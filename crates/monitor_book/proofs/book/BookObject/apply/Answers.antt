@@ -9,7 +9,7 @@ use Rattle.session_core.specs.Parts.{CoreParts, setup_of}
 use Rattle.session_core.specs.Standing.{KeepsSetup}
 use Rattle.monitor_book.specs.Entering.{Settles}
 use Rattle.monitor_book.specs.Kept.{BookParts, book_parts}
-use Rattle.monitor_book.proofs.ApplyLemmas.{IsAsked, asked_of, book_push, event_few, event_room, line_is, settle_room, writes_line, writes_nothing}
+use Rattle.monitor_book.proofs.ApplyLemmas.{IsAsked, asked_of, book_push, event_few, event_room, line_is, settle_room, typed_is, writes_line, writes_nothing}
 use Rattle.monitor_book.proofs.LogLemmas.{WritesLine}
 use Rattle.monitor_book.proofs.book.BookObject.apply.Goals as goal
 use Rattle.monitor_book.proofs.book.BookObject.apply.Goals.{then-self, else-self}
@@ -77,8 +77,9 @@ invariant_of-self g c =
     ] in
     let same : KeepsSetup s.core c.settle-event.new.core = subst (λ (x : CoreParts). KeepsSetup x c.settle-event.new.core) core c.settle-event.ensures.kept in
     let settled : Settles c.if-self.lost c.args.who c.args.call s.core c.settle-event.new.core c.settle-event.result = subst (λ (x : CoreParts). Settles c.if-self.lost c.args.who c.args.call x c.settle-event.new.core c.settle-event.result) core c.settle-event.ensures.settled in
+    let typed = typed_is book c.args.who c.args.call c.event_of-event.result c.self.invariant.0 c.requires.proper c.event_of-event.ensures c.is_typed.ensures in
     let pushed : c.push_reserved.new.self.items ≡ s.journal.items ++ c.settle-event.result ∷ [] = c.push_reserved.ensures.items ∙ ap (λ (xs : List Event). xs ++ c.settle-event.result ∷ []) items in (
-      rw (pushed, held_first, faults_first) (book_push book c.settle-event.new.core c.if-self.lost c.args.who c.args.call c.settle-event.result (g.K.Sink.held t.log) (g.K.Sink.faults t.log) c.self.invariant.0 asked c.requires.proper writes same settled),
+      rw (pushed, held_first, faults_first) (book_push book c.settle-event.new.core c.if-self.lost c.args.who c.args.call c.settle-event.result (g.K.Sink.held t.log) (g.K.Sink.faults t.log) c.self.invariant.0 asked c.requires.proper typed writes same settled),
       omega (arith, c.self.invariant.1, room, c.push_reserved.ensures.capacity, ap (λ (x : Settings). events_max x) same.setup_is),
     )
 
