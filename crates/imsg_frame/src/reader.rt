@@ -32,7 +32,8 @@ pub struct Reader {
     ring: HeapCircularBuffer<u8>,
     // How many bytes the frame given last has.
     given: usize,
-    // Where in the ring's memory its first byte is taken to stand. Only the speed depends on it.
+    // Where in the ring's memory its first byte stands. Only the speed depends on it: bytes that lie across the end of
+    // that memory are moved before they are lent, one by one.
     place: usize,
 }
 
@@ -105,18 +106,6 @@ impl Reader {
         self.ring.clear();
     }
 
-    // Where the ring's first byte stands after the frame given last has left. Where the bytes lay across the end of
-    // the ring's memory, `contiguous` has moved those past it in front of the others.
-    fn next_place(&self) -> usize {
-        let capacity = self.ring.capacity();
-        let past = self
-            .place
-            .saturating_add(self.ring.len())
-            .saturating_sub(capacity);
-        let next = self.place.saturating_sub(past).saturating_add(self.given);
-        if capacity <= next { 0 } else { next }
-    }
-
     // Takes the frame given last, if it is still there, out of the ring.
     fn leave(&mut self)
         ensures width { self.new.width ≡ self.old.width }
@@ -126,7 +115,7 @@ impl Reader {
     {
         if 0 < self.given {
             let held = self.held();
-            self.place = self.next_place();
+            self.place = self.place.saturating_add(self.given);
             self.given = 0;
             self.ring.truncate_front(held);
         }
@@ -140,11 +129,12 @@ impl Reader {
         ensures max { self.new.max ≡ self.old.max }
     {
         self.leave();
-        // A frame that lies across the end of the ring's memory costs a move of all that the ring has.
-        let capacity = self.ring.capacity();
-        let end = self.place.saturating_add(self.ring.len());
-        if capacity / 2 < self.place && end <= capacity && capacity - end < piece.len() {
-            move_to_front(&mut self.ring, &piece[..capacity - end]);
+        let room = self
+            .ring
+            .capacity()
+            .saturating_sub(self.place.saturating_add(self.ring.len()));
+        if 0 < self.place && room < piece.len() {
+            move_to_front(&mut self.ring, &piece[..room]);
             self.place = 0;
         }
         self.ring.fill_from_slice(piece)
