@@ -25,7 +25,7 @@ ranks_cmp a b p q low high = grind (arith, nat_tests, low, high)
 pub turned : (a b : Kept) → kept_cmp a b ≡ Less → kept_cmp b a ≡ Greater
 turned a b h = kept_total.antisymm b a ∙ ap ordering_reverse h
 
-turned_back : (a b : Kept) → kept_cmp a b ≡ Greater → kept_cmp b a ≡ Less
+pub turned_back : (a b : Kept) → kept_cmp a b ≡ Greater → kept_cmp b a ≡ Less
 turned_back a b h = kept_total.antisymm b a ∙ ap ordering_reverse h
 
 -- two entries that compare equal are one
@@ -55,7 +55,7 @@ gap_found kept entry (Err i) rising bound position =
 pub entry_is : (k entry : Kept) → is_entry entry.account entry.password k ≡ is_eq (kept_cmp k entry)
 entry_is k entry = grind (arith, nat_tests)
 
-here_is : (kept : List Kept) (entry : Kept) (i : ℕ) → IsHere kept entry i → has_entry entry.account entry.password kept ≡ true
+pub here_is : (kept : List Kept) (entry : Kept) (i : ℕ) → IsHere kept entry i → has_entry entry.account entry.password kept ≡ true
 here_is kept entry i h = list_any_at (is_entry entry.account entry.password) kept i entry h.in_range (ap (is_entry entry.account entry.password) (h.same entry) ∙ grind (arith, nat_tests))
 
 gap_is : (kept : List Kept) (entry : Kept) (i : ℕ) → IsGap kept entry i → has_entry entry.account entry.password kept ≡ false

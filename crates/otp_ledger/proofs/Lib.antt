@@ -1,4 +1,5 @@
 pub mod KeptLemmas
+pub mod MergeLemmas
 pub mod PartLemmas
 pub mod PlacingLemmas
 pub mod RowLemmas

@@ -1,7 +1,9 @@
 pub mod Accounts
 pub mod Kept
+pub mod Passwords
 pub mod Names
 pub mod Rows
 pub mod Ledger
+pub mod Lending
 pub mod Decisions
 pub mod Standing

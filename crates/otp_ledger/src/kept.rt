@@ -1,6 +1,6 @@
-//! The accepted passwords of all accounts, in one rising array.
+//! A rising array of accepted passwords.
 
-ghost use Rattle.std.specs.Prelude.{◌≡◌, ◌<◌, ◌≤◌, ◌+◌, ◌*◌, ◌^◌, IfErr, IfOk, vec_capacity, vec_len};
+ghost use Rattle.std.specs.Prelude.{◌≡◌, ◌<◌, ◌≤◌, ◌+◌, ◌*◌, ◌^◌, false, IfErr, IfOk, vec_capacity, vec_len};
 ghost use Rattle.std.specs.List.{insert};
 ghost use Rattle.std.specs.Ordering.{is_lt};
 ghost use Rattle.otp_ledger.specs.Kept.{AddsEntry, IsGap, IsHere, IsRising, has_entry, kept_cmp};
@@ -49,6 +49,18 @@ fn search(kept: &[Kept], entry: &Kept) -> Result<usize, usize>
     ensures absent { IfErr result (IsGap kept.now entry.now) }
 {
     kept.binary_search_by(|other| compare(other, entry))
+}
+
+/// Where an entry goes that isn't there.
+pub(crate) fn gap_of(kept: &[Kept], entry: &Kept) -> usize
+    requires rising { IsRising kept.now }
+    requires absent { has_entry entry.now.account entry.now.password kept.now ≡ false }
+    ensures { IsGap kept.now entry.now result }
+{
+    match search(kept, entry) {
+        Ok(place) => place,
+        Err(place) => place,
+    }
 }
 
 /// Whether an entry is there.

@@ -1,15 +1,17 @@
 //! The ledger, and what an event makes of an account.
 
-ghost use Rattle.std.specs.Prelude.{◌≡◌, ◌<◌, ◌≤◌, ◌+◌, [], IfOk, IfSome, length, map, nat_le, vec_capacity, vec_len};
+ghost use Rattle.std.specs.Prelude.{◌≡◌, ◌<◌, ◌≤◌, ◌+◌, [], IfOk, IfSome, length, map, nat_le};
+ghost use Rattle.std.specs.Borrow.{sem};
 ghost use Rattle.policy_model.specs.Settings.{account_number};
 ghost use Rattle.otp_ledger.specs.Accounts.{IsNextPassword, current_of, ledger_holding, ledger_releasing, ledger_spending, new_ledger, state_at, was_accepted};
 ghost use Rattle.otp_ledger.specs.Kept.{AreEntries, IsRising};
+ghost use Rattle.otp_ledger.specs.Lending.{StaysSame};
 ghost use Rattle.otp_ledger.specs.Rows.{new_row, state_of};
 ghost use Rattle.otp_ledger.specs.Standing.{IsCurrent, StandsFor, StandsLeft, StandsReplied, StandsTaken};
 
-use crate::kept::{Kept, keep};
+use crate::kept::Kept;
 use crate::names::{Named, names_of, number_of};
-use crate::places::Places;
+use crate::passwords::Passwords;
 use crate::rows::{AccountRow, let_go, renew, row_of, take};
 use policy_model::{Account, Setup};
 use request_catalogue::Name;
@@ -32,8 +34,7 @@ pub struct Ledger {
     setup: Setup,
     names: Vec<Named>,
     rows: Vec<AccountRow>,
-    kept: Vec<Kept>,
-    places: Places,
+    passwords: Passwords,
     spent: u32,
     cap: u32,
 }
@@ -61,26 +62,6 @@ fn rows_of(alloc: Global, accounts: &[Account]) -> Result<Vec<AccountRow>, Alloc
     Ok(rows)
 }
 
-/// The stored passwords of accounts, with room for `cap` more.
-fn kept_of(alloc: Global, accounts: &[Account], cap: u32) -> Result<Vec<Kept>, AllocError>
-    requires { length accounts.now ≤ 1024 }
-    ensures rising { IfOk result (λ kept. IsRising kept.items) }
-    ensures entries { IfOk result (λ kept. AreEntries kept.items (map state_of (map new_row accounts.now))) }
-    ensures room { IfOk result (λ kept. vec_len kept + cap ≤ vec_capacity kept) }
-{
-    let mut kept = Vec::with_capacity(alloc, accounts.len() + cap as usize)?;
-    for (i, account) in accounts.iter().enumerate() {
-        keep(
-            &mut kept,
-            Kept {
-                account: i as u32,
-                password: account.password,
-            },
-        );
-    }
-    Ok(kept)
-}
-
 impl Ledger {
     /// The ledger of a setup before the first event. It has room for `cap` passwords that are accepted
     /// besides the setup's, and takes no memory later.
@@ -95,14 +76,12 @@ impl Ledger {
         let accounts = setup.parts().accounts.as_slice();
         let names = names_of(alloc, accounts)?;
         let rows = rows_of(alloc, accounts)?;
-        let kept = kept_of(alloc, accounts, cap)?;
-        let places = Places::new(alloc, accounts.len() as u32)?;
+        let passwords = Passwords::new(alloc, accounts, cap)?;
         Ok(Ledger {
             setup: setup.copy(alloc)?,
             names,
             rows,
-            kept,
-            places,
+            passwords,
             spent: 0,
             cap,
         })
@@ -132,11 +111,13 @@ impl Ledger {
     }
 
     /// The accepted passwords of all accounts, the setup's among them, by account and then by password.
-    pub fn kept(&self) -> &[Kept]
+    pub fn kept(&mut self) -> &[Kept]
         ensures rising { IsRising result.now }
-        ensures entries { AreEntries result.now self.now.accounts }
+        ensures entries { AreEntries result.now self.old.accounts }
+        ensures* same { sem 𝓛 (StaysSame self.entry) }
     {
-        self.kept.as_slice()
+        self.passwords.settle();
+        self.passwords.settled()
     }
 
     /// The number of the user's account, counted from 0.
@@ -162,8 +143,7 @@ impl Ledger {
         requires { account < length self.now.accounts }
         ensures { result ≡ was_accepted (state_at self.now account) password }
     {
-        self.places
-            .has_entry(self.kept.as_slice(), account, password)
+        self.passwords.has(account, password)
     }
 
     /// The account's sequence and the password that was accepted last.
@@ -200,8 +180,7 @@ impl Ledger {
         ensures value { self.new ≡ ledger_spending self.old account password }
         ensures stands { StandsReplied self.old account password self.new }
     {
-        keep(&mut self.kept, Kept { account, password });
-        self.places.shift(account);
+        self.passwords.accept(Kept { account, password });
         renew(&mut self.rows, account, password);
         self.spent += 1;
     }

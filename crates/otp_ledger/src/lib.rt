@@ -7,7 +7,9 @@
 mod judging;
 mod kept;
 mod ledger;
+mod merging;
 mod names;
+mod passwords;
 mod places;
 mod rows;
 

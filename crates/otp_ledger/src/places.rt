@@ -1,4 +1,4 @@
-//! Where the entries of each account are likely to stand among the accepted passwords.
+//! Where the entries of each account are likely to stand in the large array of accepted passwords.
 
 ghost use Rattle.std.specs.Prelude.{◌≡◌, ◌≤◌, IsTrue, length};
 ghost use Rattle.otp_ledger.specs.Kept.{IsRising, IsStart, IsStop, has_entry};
@@ -11,7 +11,7 @@ use std::alloc::{AllocError, Global};
 /// no contract speaks of it.
 #[derive(Drop)]
 pub(crate) struct Places {
-    firsts: Vec<u32>,
+    firsts: Vec<usize>,
 }
 
 impl Places {
@@ -19,26 +19,31 @@ impl Places {
     pub(crate) fn new(alloc: Global, accounts: u32) -> Result<Places, AllocError> {
         let mut firsts = Vec::with_capacity(alloc, accounts as usize)?;
         for account in 0..accounts {
-            firsts.push(account)?;
+            firsts.push(account as usize)?;
         }
         Ok(Places { firsts })
     }
 
-    /// An entry more stands among those of the account.
-    pub(crate) fn shift(&mut self, account: u32) {
-        for first in self.firsts.iter_mut().skip(account as usize + 1) {
-            *first = first.wrapping_add(1);
+    /// Entries more stand among those of their accounts; they rise.
+    pub(crate) fn shift(&mut self, entries: &[Kept]) {
+        let mut later = entries;
+        let mut before = 0usize;
+        for (account, first) in self.firsts.iter_mut().enumerate() {
+            let own = later
+                .iter()
+                .take_while(|entry| (entry.account as usize) < account)
+                .count();
+            later = later.get(own..).unwrap_or(&[]);
+            before = before.wrapping_add(own);
+            *first = first.wrapping_add(before);
         }
     }
 
     /// Where the account's entries are likely to begin and to end, in an array of so many.
     fn of(&self, account: u32, len: usize) -> (usize, usize) {
         let place = account as usize;
-        let first = self.firsts.get(place).map_or(0, |first| *first as usize);
-        let end = self
-            .firsts
-            .get(place + 1)
-            .map_or(len, |first| *first as usize);
+        let first = self.firsts.get(place).copied().unwrap_or(0);
+        let end = self.firsts.get(place + 1).copied().unwrap_or(len);
         (first, end)
     }
 

@@ -3,6 +3,7 @@ use Rattle.std.proofs.lemmas.List.{length-set}
 use Rattle.otp_ledger.specs.declared.rows.AccountRow.{AccountRow}
 use Rattle.otp_ledger.specs.Accounts.{LedgerParts, holding}
 use Rattle.otp_ledger.specs.Kept.{AreEntries}
+use Rattle.otp_ledger.specs.Passwords.{all_of}
 use Rattle.otp_ledger.specs.Rows.{held, no_row, state_of}
 use Rattle.policy_model.specs.Settings.{IsInRange}
 use Rattle.otp_ledger.specs.Standing.{StandsTaken}
@@ -19,8 +20,8 @@ invariant_of-self c =
     let row : AccountRow = held (get_or rows c.args.account no_row) c.args.session c.args.now in
     record {
       in_range = inv.in_range;
-      rising = inv.rising;
-      entries = subst (λ (rs : List AccountRow). AreEntries c.self.inside.kept.items (map state_of rs)) (sym c.take.ensures) (entries_row c.self.inside.kept.items rows row c.args.account inv.entries lt refl);
+      passwords = inv.passwords;
+      entries = subst (λ (rs : List AccountRow). AreEntries (all_of c.self.inside.passwords) (map state_of rs)) (sym c.take.ensures) (entries_row (all_of c.self.inside.passwords) rows row c.args.account inv.entries lt refl);
       few = rw c.take.ensures (few_set rows row c.args.account inv.few lt (inv.few c.args.account no_row lt));
       short = rw c.take.ensures (short_set rows row c.args.account inv.short lt (inv.short c.args.account no_row lt));
       room = inv.room;

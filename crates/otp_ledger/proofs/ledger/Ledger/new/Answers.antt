@@ -7,6 +7,7 @@ use Rattle.policy_model.specs.Settings.{IsInRange, Settings, is_account, same_na
 use Rattle.otp_ledger.specs.declared.rows.AccountRow.{AccountRow}
 use Rattle.otp_ledger.specs.Accounts.{LedgerParts}
 use Rattle.otp_ledger.specs.Kept.{AreEntries}
+use Rattle.otp_ledger.specs.Passwords.{all_of}
 use Rattle.otp_ledger.specs.Rows.{new_row, state_of}
 use Rattle.otp_ledger.specs.Standing.{StandsFor}
 use Rattle.otp_ledger.proofs.GoingLemmas.{accounts_legal}
@@ -21,11 +22,11 @@ invariant_of-result c =
     let copied : accounts ≡ c.in_ok-copy.field-0.accounts = own ∙ sym (ap (λ (s : Settings). s.accounts) c.in_ok-copy.ensures) in
     record {
       in_range = subst IsInRange (sym c.in_ok-copy.ensures) c.parts.ensures.in_range;
-      rising = c.in_ok-kept.ensures.rising;
-      entries = subst (λ (rs : List AccountRow). AreEntries c.in_ok-kept.kept.items (map state_of rs)) (sym c.in_ok-rows.ensures) c.in_ok-kept.ensures.entries;
+      passwords = c.in_ok-passwords.ensures.are;
+      entries = subst (λ (rs : List AccountRow). AreEntries (all_of c.in_ok-passwords.passwords) (map state_of rs)) (sym c.in_ok-rows.ensures) c.in_ok-passwords.ensures.entries;
       few = rw c.in_ok-rows.ensures (few_new accounts);
       short = rw c.in_ok-rows.ensures (short_new accounts (subst (λ (s : List Account). list_all is_account s ≡ true) (sym own) (accounts_legal c.args.setup.now c.parts.ensures.in_range)));
-      room = omega (arith, c.in_ok-kept.ensures.room);
+      room = omega (arith, c.in_ok-passwords.ensures.room);
       accounts = ap length c.in_ok-rows.ensures ∙ length-map accounts new_row ∙ ap length copied;
       named = c.in_ok-names.ensures.rising;
       numbers = λ user. c.in_ok-names.ensures.numbers user ∙ ap (position (λ (a : Account). same_name a.name user)) copied;

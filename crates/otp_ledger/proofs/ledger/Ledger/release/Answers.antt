@@ -3,6 +3,7 @@ use Rattle.std.proofs.lemmas.List.{length-set}
 use Rattle.otp_ledger.specs.declared.rows.AccountRow.{AccountRow}
 use Rattle.otp_ledger.specs.Accounts.{LedgerParts, releasing}
 use Rattle.otp_ledger.specs.Kept.{AreEntries}
+use Rattle.otp_ledger.specs.Passwords.{all_of}
 use Rattle.otp_ledger.specs.Rows.{no_row, released, state_of}
 use Rattle.otp_ledger.specs.Standing.{StandsLeft}
 use Rattle.otp_ledger.proofs.GoingLemmas.{stands_left}
@@ -18,8 +19,8 @@ invariant_of-self c =
     let row : AccountRow = released (get_or rows c.args.account no_row) c.args.session in
     record {
       in_range = inv.in_range;
-      rising = inv.rising;
-      entries = subst (λ (rs : List AccountRow). AreEntries c.self.inside.kept.items (map state_of rs)) (sym c.let_go.ensures) (entries_row c.self.inside.kept.items rows row c.args.account inv.entries lt refl);
+      passwords = inv.passwords;
+      entries = subst (λ (rs : List AccountRow). AreEntries (all_of c.self.inside.passwords) (map state_of rs)) (sym c.let_go.ensures) (entries_row (all_of c.self.inside.passwords) rows row c.args.account inv.entries lt refl);
       few = rw c.let_go.ensures (few_set rows row c.args.account inv.few lt (inv.few c.args.account no_row lt));
       short = rw c.let_go.ensures (short_set rows row c.args.account inv.short lt (inv.short c.args.account no_row lt));
       room = inv.room;

@@ -4,6 +4,7 @@ use Rattle.otp_hash.specs.Hashing.{hash_of}
 use Rattle.otp_ledger.specs.declared.rows.AccountRow.{AccountRow}
 use Rattle.otp_ledger.specs.Accounts.{AccountState, LedgerParts, accepting, current_of, no_state, state_at}
 use Rattle.otp_ledger.specs.Kept.{AreEntries}
+use Rattle.otp_ledger.specs.Passwords.{all_of}
 use Rattle.otp_ledger.specs.Rows.{no_row, spending, state_of}
 use Rattle.policy_model.specs.Settings.{IsInRange}
 use Rattle.otp_ledger.specs.Standing.{StandsReplied}
@@ -24,11 +25,11 @@ invariant_of-self c =
     let few : row.sequence ≤ row.start = inv.few c.args.account no_row lt in
     record {
       in_range = inv.in_range;
-      rising = c.keep.ensures.rising;
-      entries = subst (λ (rs : List AccountRow). AreEntries c.keep.new.kept.items (map state_of rs)) (sym c.renew.ensures) (entries_spend c.self.inside.kept.items c.keep.new.kept.items rows c.args.account c.args.password inv.entries lt (state_of-spending row c.args.password some few hashes) c.keep.ensures.entries);
+      passwords = c.accept.ensures.are;
+      entries = subst (λ (rs : List AccountRow). AreEntries (all_of c.accept.new.self) (map state_of rs)) (sym c.renew.ensures) (entries_spend (all_of c.self.inside.passwords) (all_of c.accept.new.self) rows c.args.account c.args.password inv.entries lt (state_of-spending row c.args.password some few hashes) c.accept.ensures.entries);
       few = rw c.renew.ensures (few_set rows (spending row c.args.password) c.args.account inv.few lt (omega (arith, few)));
       short = rw c.renew.ensures (short_set rows (spending row c.args.password) c.args.account inv.short lt (inv.short c.args.account no_row lt));
-      room = omega (arith, inv.room, c.keep.ensures.len, c.keep.ensures.capacity);
+      room = omega (arith, inv.room, c.accept.ensures.room);
       accounts = ap length c.renew.ensures ∙ length-set rows c.args.account (spending row c.args.password) ∙ inv.accounts;
       named = inv.named;
       numbers = inv.numbers;

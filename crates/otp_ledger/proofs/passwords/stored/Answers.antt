@@ -1,6 +1,6 @@
 use Rattle.std.proofs.Common.{arith}
 use Rattle.otp_ledger.proofs.EntryLemmas.{entries_more}
-use Rattle.otp_ledger.proofs.ledger.kept_of.Goals as goal
+use Rattle.otp_ledger.proofs.passwords.stored.Goals as goal
 
 pub loop-i-preserved : goal.loop-i-preserved
 loop-i-preserved c = record {

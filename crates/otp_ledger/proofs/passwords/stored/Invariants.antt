@@ -1,7 +1,7 @@
 use Rattle.std.proofs.Common.{◌≤◌, ◌+◌, length, map, take, vec_capacity, vec_len}
 use Rattle.otp_ledger.specs.Kept.{AreEntries, IsRising}
 use Rattle.otp_ledger.specs.Rows.{new_row, state_of}
-use Rattle.otp_ledger.proofs.ledger.kept_of.Given as goal
+use Rattle.otp_ledger.proofs.passwords.stored.Given as goal
 
 abbrev pub invariant-loop-i : goal.invariant-loop-i
 invariant-loop-i l = record {
