@@ -1,7 +1,7 @@
 ghost use Rattle.std.specs.Prelude.{◌<◌, length};
 
 use otp_extended::parts_with;
-use otp_hash::{Algo, Seed};
+use otp_hash::{Algo, Seed, step};
 use otp_ledger::*;
 use policy_model::{Account, Accounts, Decision, Grants, Setup, SetupParts};
 use request_catalogue::Name;
@@ -50,9 +50,9 @@ fn setup_of(alloc: Global, accounts: Vec<Account>) -> Result<Setup, Fail> {
     setup_with(alloc, plain.parts(), Accounts::of(accounts))
 }
 
-/// A ledger of a setup, with room for 8 passwords.
+/// A ledger of a setup, with room for all passwords that a test accepts.
 fn new_ledger(alloc: Global, setup: &Setup) -> Result<Ledger, Fail> {
-    Ok(Ledger::new(alloc, setup, 8)?)
+    Ok(Ledger::new(alloc, setup, 2_200)?)
 }
 
 /// The ledger of these accounts.
@@ -271,5 +271,124 @@ fn several_users(rt: HostRuntime) -> Result<(), Fail> {
     let kept = "0 stored\n0 last\n1 stored\n2 stored\n3 stored\n3 last";
     let accounts = four_users(rt.alloc())?;
     assert!(rt; accounts_leave(rt.alloc(), accounts, FOUR_USERS, kept)?);
+    Ok(())
+}
+
+/// How many passwords each of two accounts accepts: together more than twice as many as the small array holds.
+const MANY: u16 = 1_100;
+
+/// So many passwords in the order of acceptance, each the hash of the next, and the stored one before them.
+fn chain_of(alloc: Global, last: u64) -> Result<Vec<u64>, Fail> {
+    let mut passwords = Vec::new(alloc);
+    let mut password = last;
+    for _ in 0..=MANY {
+        passwords.push(password)?;
+        password = step(Algo::Md5, password);
+    }
+    passwords.reverse();
+    Ok(passwords)
+}
+
+/// An account that stores the first password of a chain.
+fn chained(text: &str, uid: u32, chain: &[u64], alloc: Global) -> Result<Account, Fail> {
+    let stored = *chain.first().ok_or("a password")?;
+    let mut account = account(text, uid, MANY, true, alloc)?;
+    account.password = stored;
+    Ok(account)
+}
+
+/// An account for each of two chains.
+fn two_chained(alloc: Global, first: &[u64], second: &[u64]) -> Result<Vec<Account>, Fail> {
+    let mut accounts = Vec::new(alloc);
+    accounts.push(chained("alice", 1000, first, alloc)?)?;
+    accounts.push(chained("bob", 1001, second, alloc)?)?;
+    Ok(accounts)
+}
+
+/// The passwords of two chains in turn.
+fn in_turn(alloc: Global, first: &[u64], second: &[u64]) -> Result<Vec<Kept>, Fail> {
+    let mut all = Vec::new(alloc);
+    for (one, other) in first.iter().zip(second) {
+        all.push(Kept {
+            account: 0,
+            password: *one,
+        })?;
+        all.push(Kept {
+            account: 1,
+            password: *other,
+        })?;
+    }
+    Ok(all)
+}
+
+/// Whether the ledger says of a password that it was accepted.
+fn has_accepted(ledger: &Ledger, entry: &Kept) -> bool {
+    (entry.account as usize) < ledger.len() && ledger.was_accepted(entry.account, entry.password)
+}
+
+/// Whether a password is accepted that wasn't before.
+fn accepts(ledger: &mut Ledger, entry: Kept) -> bool {
+    if (entry.account as usize) >= ledger.len() || has_accepted(ledger, &entry) {
+        return false;
+    }
+    ledger.hold(entry.account, 1, 0);
+    (entry.account as usize) < ledger.len() && spend(ledger, entry.account, 1, entry.password)
+}
+
+/// Whether all passwords after the two stored ones are accepted, one after the other.
+fn accepts_all(ledger: &mut Ledger, all: &[Kept]) -> bool {
+    for entry in all.iter().skip(2) {
+        if !accepts(ledger, *entry) {
+            return false;
+        }
+    }
+    true
+}
+
+/// Whether the ledger says of all that they were accepted.
+fn has_all(ledger: &Ledger, all: &[Kept]) -> bool {
+    all.iter().all(|entry| has_accepted(ledger, entry))
+}
+
+/// Whether the ledger accepts these passwords, and lends just these, as they rise.
+fn keeps_all(ledger: &mut Ledger, all: &[Kept], rising: &[Kept]) -> bool {
+    accepts_all(ledger, all)
+        && has_all(ledger, all)
+        && ledger.kept() == rising
+        && has_all(ledger, all)
+}
+
+/// Whether that is so of a ledger of these accounts.
+fn accounts_keep(
+    alloc: Global,
+    accounts: Vec<Account>,
+    all: &[Kept],
+    rising: &[Kept],
+) -> Result<bool, Fail> {
+    let mut ledger = ledger_of(alloc, accounts)?;
+    Ok(keeps_all(&mut ledger, all, rising))
+}
+
+/// These passwords, rising.
+fn rising_of(alloc: Global, all: &[Kept]) -> Result<Vec<Kept>, Fail> {
+    let mut rising = Vec::from_slice(alloc, all)?;
+    rising.sort()?;
+    Ok(rising)
+}
+
+/// Whether a ledger of two accounts keeps all passwords of their chains.
+fn chains_are_kept(alloc: Global, first: &[u64], second: &[u64]) -> Result<bool, Fail> {
+    let all = in_turn(alloc, first, second)?;
+    let rising = rising_of(alloc, all.as_slice())?;
+    let accounts = two_chained(alloc, first, second)?;
+    accounts_keep(alloc, accounts, all.as_slice(), rising.as_slice())
+}
+
+#[test]
+fn more_passwords_than_the_small_array_holds(rt: HostRuntime) -> Result<(), Fail> {
+    let alloc = rt.alloc();
+    let first = chain_of(alloc, LAST)?;
+    let second = chain_of(alloc, 1)?;
+    assert!(rt; chains_are_kept(alloc, first.as_slice(), second.as_slice())?);
     Ok(())
 }
