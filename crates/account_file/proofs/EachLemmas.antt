@@ -1,4 +1,4 @@
--- Items that are read one behind the other.
+-- Items that are read one after the other.
 use Rattle.std.proofs.Common.{◌≡◌, ℕ, zero, suc, ◌+◌, ◌<◌, ◌≤◌, Bool, true, false, not, List, [], ◌∷◌, ◌++◌, length, map, drop, get_or, refl, sym, ap, ◌∙◌, subst, arith, ◌||◌, Result, Ok, Err}
 use Rattle.std.specs.List.{list_all, list_any}
 use Rattle.std.proofs.lemmas.Bool.{and_parts, and_from, false≢true}
@@ -20,7 +20,7 @@ use Rattle.account_file.specs.Trees.{read_behind}
 abbrev pub nothing : Data
 nothing = array no_items
 
--- the items left, behind what was read so far, are read as all items
+-- the items left, after what was read so far, are read as all items
 pub record IsReadTo {A : Type 0} (read : List A → Data → Result A SetupFault) (all : List Data) (i : ℕ) (xs : List A) : Type 0 where
   pub so_far : read_behind read xs (drop i all) ≡ read_behind read [] all
 
@@ -28,7 +28,7 @@ pub record IsReadTo {A : Type 0} (read : List A → Data → Result A SetupFault
 pub read_none : {A : Type 0} (read : List A → Data → Result A SetupFault) (all : List Data) → IsReadTo read all 0 []
 read_none read all = record { so_far = refl }
 
--- an item, and those behind it
+-- an item, and those after it
 abbrev pub and_then : {A : Type 0} → (List A → Data → Result A SetupFault) → List A → List Data → Result A SetupFault → Result (List A) SetupFault
 and_then read xs rest r = r >>= (λ a. read_behind read (xs ++ a ∷ []) rest)
 
@@ -85,7 +85,7 @@ view_at [] i x lt e = absurd (omega arith)
 view_at (v ∷ vs) zero x lt e = ap view (sym e)
 view_at (v ∷ vs) (suc i) x lt e = view_at vs i x (omega arith) e
 
--- nothing is left behind the last
+-- nothing is left after the last
 pub none_left : (vs : List Value) (i : ℕ) → length vs ≤ i → drop i (map view vs) ≡ []
 none_left [] zero le = refl
 none_left [] (suc i) le = refl

@@ -29,7 +29,7 @@ after_some xs o = option_map (λ ys. xs ++ ys) o
 pub record IsSomeTo {A B : Type 0} (test : A → Option B) (all : List A) (i : ℕ) (xs : List B) : Type 0 where
   pub so_far : after_some xs (all_some test (drop i all)) ≡ all_some test all
 
--- nothing behind nothing
+-- nothing after nothing
 after_some-none : {B : Type 0} (o : Option (List B)) → after_some [] o ≡ o
 after_some-none None = refl
 after_some-none (Some ys) = refl

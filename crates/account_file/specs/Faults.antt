@@ -19,7 +19,7 @@ abbrev pub Reads : {A B : Type 0} → (A → B) → Result A SetupFault → Resu
 Reads view (Ok a) expected = expected ≡ Ok (view a)
 Reads view (Err fault) expected = expected ≡ Err fault
 
--- the same of a result that may be want of memory, of which nothing is said
+-- the same of a result that may be out of memory, of which nothing is said
 abbrev pub Answers : {A B : Type 0} → (A → B) → Result A SetupError → Result B SetupFault → Type 0
 Answers view (Ok a) expected = expected ≡ Ok (view a)
 Answers view (Err (Refused fault)) expected = expected ≡ Err fault

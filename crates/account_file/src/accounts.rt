@@ -60,7 +60,7 @@ fn each_account(alloc: Global, items: &[Value]) -> Result<Vec<Account>, SetupErr
     Ok(accounts)
 }
 
-/// The account at a place from 1, behind others.
+/// The account at a place from 1, after others.
 fn read_account(
     alloc: Global,
     item: &Value,

@@ -53,7 +53,7 @@ fn each_grant(alloc: Global, items: &[Value], account: u32) -> Result<Vec<Grant>
     Ok(grants)
 }
 
-/// A grant behind others of the account at a place from 1.
+/// A grant after others of the account at a place from 1.
 fn read_grant(item: &Value, account: u32, earlier: &[Grant]) -> Result<Grant, SetupFault>
     ensures read { Reads grant_entry result (read_grant account (map grant_entry earlier.now) (view item.now)) }
     ensures new { IfOk result (λ g. list_any (λ e. bytes_eq (label_bytes e.name) (label_bytes g.name)) earlier.now ≡ false) }

@@ -52,7 +52,7 @@ tries = 3
 hold = 30000
 ";
 
-/// An account behind it, which ends in a comment without a newline.
+/// An account after it, which ends in a comment without a newline.
 const ALICE: &str = "[[account]]
 name = \"alice\"
 uid = 1000
@@ -110,7 +110,7 @@ fn accounts_of_the_standard(rt: HostRuntime) -> Result<(), Fault> {
     Ok(())
 }
 
-/// Words of the mode, and behind a bar whether they are a command.
+/// Command lines of the mode, and after a bar whether they are a command.
 const WORDS: &str = "\
 enrol carol 1002 sha1 99 TeSt|yes
 enrol _c-1 1 md5 1 0aZ9|yes
@@ -170,7 +170,7 @@ fn accounts_in(alloc: Global, bytes: &[u8]) -> Result<String, AllocError> {
     lines_of(alloc, setup.parts().accounts.as_slice())
 }
 
-/// Whether a setup of these texts, one behind the other, has these accounts.
+/// Whether a setup of these texts, one after the other, has these accounts.
 fn has_accounts(alloc: Global, texts: &[&str], want: &str) -> Result<bool, AllocError> {
     let mut file = String::new(alloc);
     for text in texts {
@@ -179,7 +179,7 @@ fn has_accounts(alloc: Global, texts: &[&str], want: &str) -> Result<bool, Alloc
     Ok(accounts_in(alloc, file.as_bytes())?.as_str() == want)
 }
 
-/// Behind a setup that an operator wrote, with accounts or none, the texts are read as its last accounts.
+/// After a setup that an operator wrote, with accounts or none, the texts are read as its last accounts.
 #[test]
 fn an_account_behind_a_setup(rt: HostRuntime) -> Result<(), Fault> {
     let alloc = rt.alloc();

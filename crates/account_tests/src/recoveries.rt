@@ -202,7 +202,7 @@ fn told(alloc: Global, files: &mut MemFiles, log: &str, fails: &[Fail]) -> Resul
     Ok(told_of(alloc, outcome, ends.sent())?)
 }
 
-/// Whether the log holds no records behind a recovery, and both files are as they were behind a refusal.
+/// Whether the log holds no records after a recovery, and both files are as they were after a refusal.
 fn stands(alloc: Global, files: &MemFiles, row: &Row, image: &[u8]) -> Result<bool, AllocError> {
     if row.told.starts_with("0 ") {
         return holds(alloc, files, "log", &FRESH);

@@ -288,7 +288,7 @@ fn calls_that_fail(rt: HostRuntime) -> Result<(), Fault> {
     Ok(())
 }
 
-/// An input of so many spaces behind the response.
+/// An input of so many spaces after the response.
 fn long_input(alloc: Global, blanks: usize) -> Result<String, AllocError> {
     let mut input = String::from_str(alloc, INPUT)?;
     for _ in 0..blanks {

@@ -1,4 +1,4 @@
--- One account behind a setup that is written.
+-- One account after a setup that is written.
 use Rattle.std.proofs.Common.{◌≡◌, ℕ, zero, suc, Bool, true, false, cond, ◌||◌, ◌==◌, List, [], ◌∷◌, ◌++◌, map, length, Option, Some, None, option_and_then, option_map, Result, Ok, IsUtf8, codes, refl, sym, ap, ◌∙◌, subst, append_assoc, append-nil, eq-eqb, arith}
 use Rattle.std.specs.List.{list_all}
 use Rattle.std.specs.Str.Lossy.{utf8_valid_len}
@@ -30,7 +30,7 @@ use Rattle.account_writer.specs.Written.{IsFileOf, IsTextOf, accounts_of, with_a
 use Rattle.account_writer.proofs.AccountReads.{accounts_read}
 use Rattle.account_writer.proofs.SetupReads.{accounts_dated, accounts_flat, others, setup_dated, setup_flat, text_is_setup}
 
--- 1. Lines behind lines
+-- 1. Lines after lines
 
 -- the parts of a key before the last, and the last
 abbrev Key : Type 0
@@ -73,7 +73,7 @@ accounts_key = ([], codes "account")
 abbrev account_lines : Account → List Expression
 account_lines a = elements accounts_key (items_of (account_data a ∷ []))
 
--- those behind its header
+-- those after its header
 abbrev own_lines : Account → List Expression
 own_lines a = (pairs (account_members a) ++ sections (codes "account" ∷ []) (account_members a)) ++ []
 
@@ -110,7 +110,7 @@ setup_lines s (a ∷ accounts) =
     rw (all_tables accounts) (ap (λ (es : List Expression). pairs (others s) ++ es)
     (ap (λ (es : List Expression). own ++ es) (no_sections s) ∙ append-nil own))
 
--- behind what is written for a setup, the lines of an account are those of the setup with the account
+-- after what is written for a setup, the lines of an account are those of the setup with the account
 lines_more : (s : Settings) (a : Account) (bytes text : List ℕ)
     → IsDocumentText false (setup_members s (map account_data s.accounts)) bytes
     → IsLinesText false true (account_lines a) text
@@ -156,7 +156,7 @@ file_read s bytes is =
 pub alone_dated : (a : Account) → members_have_valid_dates (alone a) ≡ true
 alone_dated a = rw (accounts_dated (a ∷ [])) refl
 
--- 4. An account alone, behind an empty line
+-- 4. An account alone, after an empty line
 
 -- one more turn changes nothing that was read
 turn_more : (doc : Document) (m : ℕ) (d : Document)

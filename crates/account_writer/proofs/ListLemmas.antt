@@ -22,7 +22,7 @@ not_so : (a : Bool) → not a ≡ true → a ≡ false
 not_so true e = absurd (false≢true e)
 not_so false e = refl
 
--- an element behind others is none of these
+-- an element after others is none of these
 pub new_behind : {A : Type 0} (same : A → A → Bool) (before : List A) (x : A) (rest : List A) → are_distinct same (before ++ x ∷ rest) ≡ true → list_any (λ y. same y x) before ≡ false
 new_behind same [] x rest apart = refl
 new_behind same (y ∷ ys) x rest apart =

@@ -39,7 +39,7 @@ pub fn write_accounts(alloc: Global, setup: &Setup, ledger: &Ledger) -> Result<V
     Ok(text.into_bytes())
 }
 
-/// The bytes of an account's table, behind an empty line: what [`write_accounts`] writes for it behind
+/// The bytes of an account's table, after an empty line: what [`write_accounts`] writes for it after
 /// the other accounts of a setup.
 ///
 /// # Errors
@@ -66,7 +66,7 @@ fn printed(alloc: Global, table: &Table) -> Result<String, AllocError>
     }
 }
 
-/// A text behind an empty line.
+/// A text after an empty line.
 fn spaced(alloc: Global, text: &str) -> Result<Vec<u8>, AllocError>
     ensures bytes { IfOk result (λ bytes. bytes.items ≡ 10 ∷ text.now) }
     ensures utf8 { IfOk result (λ bytes. IsUtf8 bytes.items) }

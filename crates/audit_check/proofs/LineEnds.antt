@@ -189,7 +189,7 @@ record Continues (count : ℕ) (rest : List ℕ) (events given : List Event) : T
   pub left : rest ≡ lines_after (count + length events) more
   pub said : AreSaid (count + length events) more
 
--- the first of each are the same, and so is what stands behind
+-- the first of each are the same, and so is what stands after
 record SameFirst (count : ℕ) (rest : List ℕ) (e g : Event) (events given : List Event) : Type 0 where
   pub equal : e ≡ g
   pub rests : lines_after (count + 1) events ++ rest ≡ lines_after (count + 1) given

@@ -35,7 +35,7 @@ pub record OtherDenial (decision : Decision) : Type 0 where
 denied : (rule detail : ℕ) → (leb 14 rule && leb rule 16) ≡ false → OtherDenial (Deny rule detail)
 denied rule detail other = record { rule = rule; detail = detail; is = refl; other = other }
 
--- a verdict is that of the readings, or the same as without any and no want of one
+-- a verdict is that of the readings, or the same as without any and no lack of one
 pub record ReplyIs (free : Bool) (verdict silent decided : Decision) : Type 0 where
   pub opened : free ≡ true → verdict ≡ decided
   pub closed : free ≡ false → (verdict ≡ silent) × OtherDenial silent
@@ -95,7 +95,7 @@ reply_is setup before worker words hex =
 other_rule : (rule : ℕ) → (leb 14 rule && leb rule 16) ≡ false → eqb rule 14 ≡ false
 other_rule rule h = grind (arith, nat_tests)
 
--- the readings decide just where a reply without any is denied for the want of one
+-- the readings decide just where a reply without any is denied for the lack of one
 pub open_is : (setup : Settings) (before : List Event) (worker : ℕ) → is_no_reading (verdict_of setup before worker (asks.Reply None None)) ≡ readings_decide setup before (open_session_of before worker)
 open_is setup before worker = go (readings_decide setup before (open_session_of before worker)) refl where
   silent : (decoyed : Bool) (account : Option Account) → is_no_reading (by_readings decoyed before account []) ≡ true

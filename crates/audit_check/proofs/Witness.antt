@@ -24,7 +24,7 @@ use Rattle.audit_check.proofs.Alike.{Alike, alike_map, alike_session, alike_verd
 use Rattle.audit_check.proofs.Replies.{OtherDenial, permit_given, reply_is, silent_given}
 use Rattle.audit_check.proofs.Shown.{plain}
 
--- a denial by rule 14, 15 or 16 as one for want of a reading
+-- a denial by rule 14, 15 or 16 as one for lack of a reading
 abbrev pub as_silent : Decision → Decision
 as_silent (Deny rule detail) = cond (leb 14 rule && leb rule 16) (Deny 14 0) (Deny rule detail)
 as_silent d = d

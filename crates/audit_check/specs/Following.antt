@@ -14,12 +14,12 @@ rests_on_accounts (Permit value) = true
 rests_on_accounts (Deny rule detail) = nat_le USER_HELD rule && nat_le rule NO_MATCH
 rests_on_accounts Lost = false
 
--- a denial for want of a reading
+-- a denial for lack of a reading
 abbrev pub is_no_reading : Decision → Bool
 is_no_reading (Deny rule detail) = rule == NO_READING
 is_no_reading _ = false
 
--- a denial that may be one on a reply whose readings decide, behind a challenge that names a decoy or doesn't
+-- a denial that may be one on a reply whose readings decide, after a challenge that names a decoy or doesn't
 abbrev pub may_be_denied : ℕ → ℕ → Bool → Bool
 may_be_denied rule detail decoyed = detail == 0 && (rule == NO_READING || rule == NO_MATCH || rule == PASSWORD_USED && not decoyed)
 

@@ -225,7 +225,7 @@ fn is_next(setup: &Setup, history: &History, account: u32, password: u64) -> boo
     )
 }
 
-/// Whether a reply with this reading is permitted, behind the session's last permitted CHALLENGE.
+/// Whether a reply with this reading is permitted, after the session's last permitted CHALLENGE.
 pub(crate) fn permits(
     setup: &Setup,
     history: &History,

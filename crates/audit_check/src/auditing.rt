@@ -40,7 +40,7 @@ fn line_len(text: &[u8]) -> usize
     if at < text.len() { at + 1 } else { text.len() }
 }
 
-/// The event of a line that stands behind these, or what is wrong with it.
+/// The event of a line that stands after these, or what is wrong with it.
 fn next_event(setup: &Setup, history: &History, line: &[u8]) -> Result<Event, AuditWhy>
     requires { HasLog setup.now history.now }
     ensures { MatchResult result

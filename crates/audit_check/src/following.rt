@@ -1,4 +1,4 @@
-//! Whether an event may stand behind others in a log.
+//! Whether an event may stand after others in a log.
 
 ghost use Rattle.std.specs.Prelude.{◌≡◌, ◌≤◌, ◌^◌, ◌-◌, ◌<◌, IfSome, List, false, true, length};
 ghost use Rattle.std.specs.Bool.{MatchBool};
@@ -150,7 +150,7 @@ fn may_be_decided(setup: &Setup, history: &History, event: &Event) -> bool
 }
 
 /// Whether an event is a reply whose readings decide, by the policy's verdict on it: the policy denies
-/// it only for want of a reading.
+/// it only for lack of a reading.
 fn is_open(event: &Event, verdict: &Decision) -> bool
     requires { without_readings event.now.ask ≡ event.now.ask }
     ensures { (setup : Settings) (before : List Event) → verdict.now ≡ verdict_of setup before event.now.worker event.now.ask →
@@ -197,7 +197,7 @@ fn opening_session(history: &History, worker: u32, decision: &Decision) -> u32
     }
 }
 
-/// The session that an event with this ask and decision has behind these.
+/// The session that an event with this ask and decision has after these.
 fn session_after(history: &History, event: &Event) -> u32
     requires few { history.now.count < 2 ^ 32 - 1 }
     requires opened { history.now.opened ≤ history.now.count }
@@ -212,7 +212,7 @@ fn session_after(history: &History, event: &Event) -> u32
     }
 }
 
-/// Whether an event may stand in a log behind these.
+/// Whether an event may stand in a log after these.
 pub(crate) fn may_follow(setup: &Setup, history: &History, event: &Event) -> bool
     requires kept { HasLog setup.now history.now }
     requires few { history.now.count < 2 ^ 32 - 1 }

@@ -65,7 +65,7 @@ IsFileError-setup contents parts R setup_errors.OutOfMemory why = tt
 IsFileError-setup contents parts R setup_errors.Missing why = why
 IsFileError-setup contents parts R (setup_errors.Refused fault) why = why
 
--- an error of the log's file, behind the setup's
+-- an error of the log's file, after the setup's
 pub IsFileError-log : (before after : Option Contents) (parts : AuditParts) (setup : Settings) (first between last : ℕ) (error : AuditError) → Goes SameFiles before after → IsSetupIn before parts.setup setup → first ≤ between → IsLogError after parts.log (Rose between last) error → IsFileError after parts (Rose first last) error
 IsFileError-log before after parts setup first between last errors.ReadFailed goes spelled le why =
     Rose-within first between last last le why (omega arith)

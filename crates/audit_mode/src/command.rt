@@ -1,4 +1,4 @@
-//! The words of the mode.
+//! The command line of the mode.
 
 ghost use Rattle.std.specs.Prelude.{◌≡◌, ◌∷◌, map, option_map};
 ghost use Rattle.audit_mode.specs.Commands.{command_parts};
@@ -13,8 +13,8 @@ pub struct AuditCommand<'a> {
     pub log: &'a str,
 }
 
-/// Reads the words of a command line: the mode's word, and those behind it. `None` exactly where they
-/// are not `audit SETUP LOG`.
+/// Reads a command line: the mode's name, and the arguments after it. `None` exactly where it isn't
+/// `audit SETUP LOG`.
 pub fn read_audit_command<'a>(mode: &str, further: &[&'a str]) -> Option<AuditCommand<'a>>
     ensures { option_map command_parts result
         ≡ audit_command (mode.now ∷ map (λ word. word.now) further.now) }

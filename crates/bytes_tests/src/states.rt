@@ -47,7 +47,7 @@ fn states_written_and_read(rt: HostRuntime) -> Result<(), Fail> {
     Ok(())
 }
 
-/// What the least state is read as, cut behind so many bytes.
+/// What the least state is read as, cut after so many bytes.
 fn cut(len: usize) -> Option<StateFault> {
     match len {
         0..=3 => Some(StateFault::Magic),

@@ -11,7 +11,7 @@ use Rattle.check_mode.specs.declared.finding.Finding.{Finding}
 use Rattle.check_mode.specs.Findings.{finding_status, told_by}
 use Rattle.check_mode.specs.Lines.{line_of}
 
--- why nothing was found: a reading failed, or memory was wanted
+-- why nothing was found: a reading failed, or out of memory
 abbrev pub IsFileFault : Type 0 → CheckFault → Type 0
 IsFileFault ReadFailed faults.ReadFailed = ReadFailed
 IsFileFault ReadFailed faults.OutOfMemory = Unit {0}

@@ -1,4 +1,4 @@
-//! The words that the setup's launcher is given, which it hands on to the program of the child.
+//! The arguments that the setup's launcher is given, which it hands on to the program of the child.
 
 ghost use Rattle.std.specs.Prelude.{◌≡◌, ◌≤◌, ◌+◌, ◌++◌, ◌∷◌, drop, length};
 ghost use Rattle.std.specs.Fmt.{decimal};
@@ -9,15 +9,15 @@ ghost use Rattle.child_keeper.specs.Launching.{launch_text};
 use outside::Role;
 use text_line::{LINE_MAX, Line, put, put_number};
 
-/// The word for the child before the login.
+/// The first argument for the child before the login.
 pub const PRE_MODE: &str = "child-pre";
 
-/// The word for a user's child.
+/// The first argument for a user's child.
 pub const USER_MODE: &str = "child-user";
 
-/// Writes the words for a child of this role to the front of `out`, which has 80 bytes or more, and
+/// Writes the arguments for a child of this role to the front of `out`, which has 80 bytes or more, and
 /// gives their length: `child-pre SESSION` or `child-user SESSION UID NAME`, with one space between
-/// two words, and the numbers in decimal digits.
+/// two of them, and the numbers in decimal digits.
 pub fn launch_words(role: &Role, out: &mut [u8]) -> usize
     requires { 80 ≤ length out.old }
     ensures len { result ≡ length (launch_text role.now) }
@@ -30,7 +30,7 @@ pub fn launch_words(role: &Role, out: &mut [u8]) -> usize
     len
 }
 
-/// The words for a child of this role as a line.
+/// The arguments for a child of this role as a line.
 fn launch_line(role: &Role) -> Line
     ensures text { result.items ≡ launch_text role.now }
     ensures short { length result.items ≤ 80 }

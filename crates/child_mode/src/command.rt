@@ -1,4 +1,4 @@
-//! The words of the modes.
+//! The command lines of the modes.
 
 ghost use Rattle.std.specs.Prelude.{◌≡◌, ◌∷◌, map, option_map};
 ghost use Rattle.child_mode.specs.Commands.{parts_of};
@@ -22,8 +22,8 @@ pub enum ChildCommand {
     User { session: u32, uid: u32, user: Name },
 }
 
-/// Reads the words of a command line: the mode's word, and those behind it. `None` exactly where they
-/// are not `child-pre SESSION` or `child-user SESSION UID NAME`: the numbers are in decimal digits
+/// Reads a command line: the mode's name, and the arguments after it. `None` exactly where it is
+/// neither `child-pre SESSION` nor `child-user SESSION UID NAME`: the numbers are in decimal digits
 /// without a leading zero, and the name is one that an account can have.
 pub fn read_child_command(mode: &str, further: &[&str]) -> Option<ChildCommand>
     ensures { option_map parts_of result

@@ -93,7 +93,7 @@ begun role session stands len old new held l empty at has =
       passed = subst P (sym empty) (Exchanges-none l);
     }
 
--- a request was sent, and these bytes stand behind the replies before
+-- a request was sent, and these bytes stand after the replies before
 pub record Waits (role : Role) (session : ℕ) (stands : List AnswerValue → Type 0) (count : ℕ) (bytes : List ℕ) (before after : Option Link) : Type 0 where
   pub answers : List AnswerValue
   pub stands_for : stands answers
@@ -333,7 +333,7 @@ unreadable role role' session session' before after count bytes held old new k l
       );
     }
 
--- the end came instead of more bytes, behind less than a frame
+-- the end came instead of more bytes, after less than a frame
 pub brought : (end : ChildEnd) (old new held : List ℕ) (l : Option Link) (Took : Message → Turn → Type 0) → IsPartialFront frame_width 16384 old → Brings (Some end) old new l → (Some end ≡ Some ends.LinkEnded → new ≡ old) → Hears (Err end) Took new held l
 brought ends.Done old new held l Took front brings same = absurd brings
 brought ends.Spent old new held l Took front brings same = absurd brings

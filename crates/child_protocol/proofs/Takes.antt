@@ -56,7 +56,7 @@ at_command Other challenged kept history e keeps texts last = ((codes "what\n", 
 moved : (kept : Kept) (place : Place) (history : List Exchange) → Keeps kept history → Keeps (record kept { place = place }) history
 moved kept place history keeps = record { held = keeps.held; whole = keeps.whole; terminal = keeps.terminal; challenged = keeps.challenged; read = keeps.read; few_lines = keeps.few_lines; few_bytes = keeps.few_bytes }
 
--- the line in front was taken, or more bytes are wanted
+-- the line in front was taken, or more bytes are needed
 takes_front : (front : Front) (kept : Kept) (history : List Exchange) (turn : Turn) (old new : List ℕ) → Keeps kept history → texts_of history ≡ suc kept.lines
     → underway history ≡ front → front_of kept.held ≡ front → pre_next history ≡ Some (pre_first front kept.challenged)
     → IsTurn (Some (pre_first front kept.challenged)) turn old new → TakesTo history (kept_behind front kept) turn old new
@@ -122,7 +122,7 @@ keeps_said kept history text body keeps = record {
   few_bytes = more_few kept.read (length history) keeps.few_bytes;
 }
 
--- behind a text comes the next line
+-- after a text comes the next line
 pub saying_done : (kept after : Kept) (body : List ℕ) (turn : Turn) (old new : List ℕ) → kept.place ≡ places.Saying
     → IsTurn (Some (pre_first (front_of kept.held) kept.challenged)) turn old new → after ≡ kept_behind (front_of kept.held) kept → Takes kept (Done body) after turn old new
 saying_done kept after body turn old new place put after_is history stands =
@@ -157,7 +157,7 @@ keeps_read kept history body keeps few =
       few_bytes = grown kept.read (length history) (length body) keeps.few_bytes few;
     }
 
--- behind more bytes comes the line that is whole now, if one is
+-- after more bytes comes the line that is whole now, if one is
 reading_more : (kept after : Kept) (c : ℕ) (body : List ℕ) (turn : Turn) (old new : List ℕ) → kept.place ≡ places.Reading → length (c ∷ body) ≤ 512
     → IsTurn (Some (pre_first (front_of (kept.held ++ c ∷ body)) kept.challenged)) turn old new → after ≡ kept_behind (front_of (kept.held ++ c ∷ body)) (with_more kept (c ∷ body))
     → Takes kept (Done (c ∷ body)) after turn old new
@@ -235,7 +235,7 @@ begins kept after place after_is stands =
     let P : Kept → Type 0 = λ k. Stands k [] in
     subst P (sym after_is) (refl, record { keeps = moved kept places.Greeting [] keeps; texts = at.1.texts; goes_on = at.1.goes_on })
 
--- a text of this answer is sent, and behind it comes the next line
+-- a text of this answer is sent, and after it comes the next line
 pub takes_say : (kept after : Kept) (answer : AnswerValue) (text : List ℕ) (turn : Turn) (old new : List ℕ)
     → ((history : List Exchange) → Stands kept history → (request : RequestValue) × (pre_next history ≡ Some request) × (pre_next (exchange request answer ∷ history) ≡ Some (say text)) × IsOnLine after (exchange request answer ∷ history))
     → after.place ≡ places.Saying → IsTurn (Some (say text)) turn old new → Takes kept answer after turn old new

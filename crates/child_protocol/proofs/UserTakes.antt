@@ -72,7 +72,7 @@ at_command (Remark note) kept history e line text holds last = ((note, e), recor
 at_command Leave kept history e line text holds last = ((codes "bye\n", e), last)
 at_command Unknown kept history e line text holds last = ((codes "what\n", e), record { holds = holds; goes_on = last })
 
--- the line in front was taken, or more bytes are wanted
+-- the line in front was taken, or more bytes are needed
 at_front : (front : Front) (kept : Kept) (lines : ℕ) (history : List Exchange) → Holds kept.held lines history → texts_of history ≡ suc lines → underway history ≡ front → front_of kept.held ≡ front
     → user_next kept.who history ≡ Some (user_first front) → HasText (kept_behind front kept) → Stands (kept_behind front kept) history
 at_front More kept lines history holds texts line held e text = (e, record { lines = lines; texts = texts; holds = holds; short = more_short kept.held held })
@@ -99,7 +99,7 @@ next_said : (who : Who) (history : List Exchange) (text body : List ℕ) → use
 unfolding user_next
 next_said who history text body last = ap (λ (b : Bool). Some (cond b Finish (user_first (underway (exchange (say text) (Done body) ∷ history))))) last
 
--- behind a text comes the next line
+-- after a text comes the next line
 saying_leads : (kept : Kept) (body : List ℕ) → kept.place ≡ places.Saying → HasText (kept_behind (front_of kept.held) kept) → LeadsTo kept (Done body) (Some (user_first (front_of kept.held))) (kept_behind (front_of kept.held) kept)
 saying_leads kept body place text history stands =
     let at : IsAt places.Saying kept history = at_place kept places.Saying history place stands in
@@ -118,7 +118,7 @@ next_read : (who : Who) (history : List Exchange) (c : ℕ) (body : List ℕ)
 unfolding user_next
 next_read who history c body = refl
 
--- behind more bytes comes the line that is whole now, if one is
+-- after more bytes comes the line that is whole now, if one is
 reading_leads : (kept : Kept) (c : ℕ) (body : List ℕ) → kept.place ≡ places.Reading → HasText (kept_behind (front_of (kept.held ++ c ∷ body)) (with_held (kept.held ++ c ∷ body) kept))
     → LeadsTo kept (Done (c ∷ body)) (Some (user_first (front_of (kept.held ++ c ∷ body)))) (kept_behind (front_of (kept.held ++ c ∷ body)) (with_held (kept.held ++ c ∷ body) kept))
 reading_leads kept c body place text history stands =
@@ -152,7 +152,7 @@ takes_end kept after answer turn old new comes after_is ended =
     let Q : Turn → Type 0 = λ t. IsTurn None t old new in
     subst P (sym after_is) (turned None kept (at_ended kept) answer turn old new refl (λ history stands. (let found = comes history stands in (found.0, found.1, found.2, found.2))) (subst Q (sym ended) tt))
 
--- a text of this answer is sent, and behind it comes the next line
+-- a text of this answer is sent, and after it comes the next line
 abbrev pub Says : Kept → AnswerValue → List ℕ → Type 0
 Says kept answer text = (history : List Exchange) → Stands kept history → (request : RequestValue) × (user_next kept.who history ≡ Some request) × (user_next kept.who (exchange request answer ∷ history) ≡ Some (say text)) × IsOnLine kept.held (exchange request answer ∷ history)
 

@@ -72,7 +72,7 @@ IsAt places.Ended kept history = pre_next history ≡ None
 abbrev pub Stands : Kept → List Exchange → Type 0
 Stands kept history = IsAt kept.place kept history
 
--- what is kept behind what stands in front
+-- what is kept after what stands in front
 abbrev pub kept_behind : Front → Kept → Kept
 kept_behind More kept = record kept { place = places.Reading }
 kept_behind TooLong kept = record kept { place = places.Parting }

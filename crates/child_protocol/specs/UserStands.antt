@@ -65,7 +65,7 @@ abbrev pub text_by : UserCommand → List ℕ → List ℕ
 text_by (Put name text) before = text
 text_by _ before = before
 
--- what is kept behind what stands in front
+-- what is kept after what stands in front
 abbrev pub kept_behind : Front → Kept → Kept
 kept_behind More kept = record kept { place = places.Reading }
 kept_behind TooLong kept = record kept { place = places.Parting }

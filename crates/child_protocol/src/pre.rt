@@ -197,7 +197,7 @@ impl PreDialogue {
         Turn::Asked { len }
     }
 
-    /// Sends a text, behind which comes the next line.
+    /// Sends a text, after which comes the next line.
     fn say(&mut self, text: &[u8], out: &mut [u8]) -> Turn
         requires some { 1 ≤ length text.now }
         requires few { length text.now ≤ 16000 }

@@ -41,7 +41,7 @@ arguments = shape.rules
 abbrev row : Text → List Text → Row
 row id values = record { id = id; values = values; count = None; source = Some CommandLine; reading = reading_by mode_rule }
 
--- the walk behind the mode
+-- the walk after the mode
 abbrev behind_mode : Text → Walk
 behind_mode mode = record {
   held = record { rows = []; pending = Some (codes "mode", mode ∷ []); skip = 0 };
@@ -51,7 +51,7 @@ behind_mode mode = record {
   stopped = None;
 }
 
--- the walk behind further words
+-- the walk after further words
 abbrev behind : Text → List Text → Walk
 behind mode further = record {
   held = record { rows = row (codes "mode") (mode ∷ []) ∷ []; pending = Some (codes "words", further); skip = 0 };

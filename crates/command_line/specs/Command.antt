@@ -12,7 +12,7 @@ use Rattle.clap.specs.declared.parser.matches.ArgMatches.{ArgMatches}
 abbrev pub mode_rule : Rule
 mode_rule = record (new_rule (codes "mode")) { action = Some Set; required = true }
 
--- the argument for the words behind it, any number of them
+-- the argument for the words after it, any number of them
 abbrev pub further_rule : Rule
 further_rule = record (new_rule (codes "words")) {
   action = Some Append;
@@ -27,11 +27,11 @@ bare_command = on_top (λ s. record s {
   disable_version_flag = true;
 }) (new_app (codes "otplogd"))
 
--- the command: a mode, and the words behind it
+-- the command: a mode, and the words after it
 abbrev pub word_command : App
 word_command = with_rule (with_rule bare_command mode_rule) further_rule
 
--- the words that were found: the mode, and those behind it
+-- the words that were found: the mode, and those after it
 abbrev pub words_found : ArgMatches → List (List ℕ)
 words_found m = option_to_list (first_value (found_of m) (codes "mode"))
     ++ unwrap_or (option_map raw_values (matched_of (found_of m) (codes "words"))) []

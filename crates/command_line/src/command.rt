@@ -11,19 +11,19 @@ use clap::{Arg, ArgAction, ArgMatches, Command, Error};
 use outside::Word;
 use std::alloc::{AllocError, Global};
 
-/// The words of a command line: the mode, and the words behind it.
+/// A command line: the mode, and the arguments after it.
 #[derive(Drop)]
 pub struct CommandLine<'a> {
-    /// The first word.
+    /// The first argument.
     pub mode: &'a str,
-    /// The words behind it, in their order.
+    /// The arguments after it, in their order.
     pub further: Vec<&'a str>,
 }
 
-/// Reads the words of a command line, without the program's name. `None` exactly where there is no
-/// word, or one begins with `-`, which needs no memory.
+/// Reads a command line, without the program's name. `None` exactly where there is no argument, or one
+/// begins with `-`; that answer needs no memory.
 ///
-/// The error is want of memory.
+/// The error: out of memory.
 pub fn read_command_line<'a>(
     alloc: Global,
     words: &'a [Word],
@@ -61,7 +61,7 @@ fn begins_with_hyphen(word: &Word) -> bool
 }
 
 /// What is found in words of which none begins with `-`: all of them. `clap` refuses none of them,
-/// so the error is want of memory.
+/// so the only error is: out of memory.
 fn matches_of<'a>(alloc: Global, words: &'a [Word]) -> Result<ArgMatches<'a>, AllocError>
     requires { are_plain words.now ≡ true }
     ensures all { IfOk result (λ m. words_found m ≡ words.now) }
@@ -74,7 +74,7 @@ fn matches_of<'a>(alloc: Global, words: &'a [Word]) -> Result<ArgMatches<'a>, Al
     }
 }
 
-/// The command: a required mode, and any number of words behind it. It has no flags of its own, and
+/// The command: a required mode, and any number of words after it. It has no flags of its own, and
 /// the program's name isn't among the words.
 fn word_command<'a>(alloc: Global) -> Result<Command<'a>, AllocError>
     ensures { IfOk result (λ c. app_of c ≡ word_command) }
@@ -93,7 +93,7 @@ fn word_command<'a>(alloc: Global) -> Result<Command<'a>, AllocError>
         .arg(further)
 }
 
-/// Want of memory, as the error of the standard library.
+/// Out of memory, as the error of the standard library.
 fn want_of_memory(error: &Error) -> AllocError
     requires { kind_of error.now ≡ ErrorKind.OutOfMemory }
 {
@@ -103,7 +103,7 @@ fn want_of_memory(error: &Error) -> AllocError
     }
 }
 
-/// The command line of what was found. The error is want of memory.
+/// The command line of what was found. The error: out of memory.
 fn line_of<'a>(alloc: Global, found: &ArgMatches<'a>) -> Result<CommandLine<'a>, AllocError>
     requires { is_some (first_value (found_of found.now) (codes "mode")) ≡ true }
     ensures { IfOk result (λ line. words_of_line line ≡ words_found found.now) }

@@ -38,7 +38,7 @@ const TAKEOVER_LATE: &str = "
     1 2 reply last permit last
     0 1 reply last deny 13 2";
 
-/// Behind a takeover each kind of ask of the session that lost the user: none gives up or ends what the
+/// After a takeover each kind of ask of the session that lost the user: none gives up or ends what the
 /// other session holds.
 const BEHIND_A_TAKEOVER: &str = "
     0 1 open permit 1
@@ -521,7 +521,7 @@ fn is_last(event: &Event) -> bool {
     matches!(event.ask, Ask::Finish) || matches!(event.decision, Decision::Deny { rule: 1..=7, .. })
 }
 
-/// An ask by a number that a child would make behind an event of its session.
+/// An ask by a number that a child would make after an event of its session.
 fn likely_ask(last: &Event, n: u32, now: u64, passwords: &[u64; 6]) -> Result<Ask, Fail> {
     let permitted = last.decision.is_permit();
     match last.ask {

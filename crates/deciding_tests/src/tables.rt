@@ -292,7 +292,7 @@ fn row_holds(row: &mut SessionRow, text: &str) -> Result<bool, Fail> {
     Ok(true)
 }
 
-/// A login behind an abandoned challenge and a denied reply, and two files of the user's child.
+/// A login after an abandoned challenge and a denied reply, and two files of the user's child.
 const LOGIN: &str = "
     banner permit 0 pre 0 1 0 0
     note permit 0 pre 0 2 0 0

@@ -38,7 +38,7 @@ IsRule n = (2 ≤ n) × (n ≤ 5)
 abbrev itself : List ℕ → List ℕ
 itself bytes = bytes
 
--- the word, and what stands behind it
+-- the word, and what stands after it
 abbrev pub word_of : AskValue → AskWord
 word_of Begin = ask_.Open
 word_of Banner = ask_.Banner
@@ -115,7 +115,7 @@ ask_forth ask range rest ends =
     ∙ ap (λ (r : Result (Read AskWord) LineFault). r >>= (λ w. ask_behind w.value w.rest)) (next_forth ask_word_in ask_word (λ w. Unit {0}) ask_word_reader (word_of ask) tt (behind_text ask rest) (ask_ends ask rest ends))
     ∙ behind_forth ask range rest ends
 
--- what was read behind a word
+-- what was read after a word
 record Behind (word : AskWord) (text : List ℕ) (r : Read AskValue) : Type 0 where
   spelled : text ≡ behind_text r.value r.rest
   of_word : word_of r.value ≡ word

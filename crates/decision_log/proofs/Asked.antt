@@ -11,7 +11,7 @@ use Rattle.decision_log.specs.Reading.{ask_behind, ask_read}
 use Rattle.decision_log.specs.Values.{AskValue}
 use Rattle.decision_log.specs.Words.{ask_word, ask_words}
 
--- what stands behind the word that was found
+-- what stands after the word that was found
 abbrev by_word : List ℕ → Option AskWord → Result (Read AskValue) LineFault
 by_word rest o = (demand faults.Word o >>= word_read rest) >>= (λ w. ask_behind w.value w.rest)
   where

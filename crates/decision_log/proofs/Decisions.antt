@@ -35,7 +35,7 @@ permit value = decisions.Permit value
 abbrev deny : ℕ → ℕ → Decision
 deny rule detail = decisions.Deny rule detail
 
--- what stands behind the word of a permit
+-- what stands after the word of a permit
 abbrev value_rest : AskValue → ℕ → List ℕ → List ℕ
 value_rest (Challenge user now) value rest = spaced_by decimal value rest
 value_rest Reply value rest = spaced_by digits value rest
@@ -101,7 +101,7 @@ value_back session Finish text r e = unshown session Finish 0 text r (λ rest. r
 value_back session (Bad rule detail) text r e = unshown session (Bad rule detail) 0 text r (λ rest. refl) refl e
 value_back session (End why) text r e = unshown session (End why) 0 text r (λ rest. refl) refl e
 
--- the word of a decision, and what stands behind it
+-- the word of a decision, and what stands after it
 abbrev word_of : Decision → DecisionWord
 word_of (decisions.Permit value) = decision_.Permit
 word_of (decisions.Deny rule detail) = decision_.Deny
@@ -134,7 +134,7 @@ decision_forth session ask decision range rest ends =
     ∙ ap (λ (r : Result (Read DecisionWord) LineFault). r >>= (λ w. decision_behind session ask w.value w.rest)) (next_forth decision_word_in decision_word (λ w. Unit {0}) decision_word_reader (word_of decision) tt (behind_text ask decision rest) (decision_ends ask decision rest ends))
     ∙ behind_forth session ask decision range rest ends
 
--- what was read behind a word
+-- what was read after a word
 record Behind (session : ℕ) (ask : AskValue) (word : DecisionWord) (text : List ℕ) (r : Read Decision) : Type 0 where
   spelled : text ≡ behind_text ask r.value r.rest
   of_word : word_of r.value ≡ word

@@ -38,7 +38,7 @@ part_long bytes (c ∷ rest) all ends =
     (λ k lt. ap ends_part (get_or_append_left bytes (c ∷ rest) 0 k lt) ∙ inside bytes k all lt (ends_part (get_or bytes k 0)) refl)
     (λ lt. ap ends_part (get_or_at bytes c rest 0 (length bytes) refl) ∙ ends)
 
--- the first part, and what stands behind it
+-- the first part, and what stands after it
 first_is : (bytes rest : List ℕ) → IsWhole bytes → Ends rest → first_part (bytes ++ rest) ≡ bytes
 first_is bytes rest whole ends = ap (λ (n : ℕ). take n (bytes ++ rest)) (part_long bytes rest whole.none ends) ∙ take_at bytes rest (length bytes) refl
 
@@ -61,7 +61,7 @@ part_forth {A = A} read write P is a range rest ends =
     ∙ ap (λ (r : Result A LineFault). r >>= behind_read (behind_part (write a ++ rest))) (is.forth a range)
     ∙ ap (λ (x : List ℕ). Ok (record { value = a; rest = x })) (behind_is (write a) rest (is.whole a range) ends)
 
--- and behind a space
+-- and after a space
 pub next_forth : {A : Type 0} (read : List ℕ → Result A LineFault) (write : A → List ℕ) (P : A → Type 0) → IsReader read write P → (a : A) → P a → (rest : List ℕ) → Ends rest → next read (32 ∷ write a ++ rest) ≡ Ok (record { value = a; rest = rest })
 next_forth read write P is a range rest ends = part_forth read write P is a range rest ends
 
@@ -88,7 +88,7 @@ nothing read write P is r e =
     let some = (is.whole r.value told.1).some in
     omega (arith, long, some)
 
--- and behind a space
+-- and after a space
 pub next_back : {A : Type 0} (read : List ℕ → Result A LineFault) (write : A → List ℕ) (P : A → Type 0) → IsReader read write P → (text : List ℕ) (r : Read A) → next read text ≡ Ok r → (text ≡ 32 ∷ write r.value ++ r.rest) × P r.value
 next_back read write P is [] r e = absurd (nothing read write P is r e)
 next_back read write P is (c ∷ text) r e = spaced (eqb c 32) refl e

@@ -31,7 +31,7 @@ shorts = numbers (2 ^ 32) (lit≤ tt)
 abbrev with_letter : ℕ → ℕ → List ℕ
 with_letter letter n = letter ∷ decimal n
 
--- what is behind each part, from the right
+-- what is after each part, from the right
 abbrev after_ask : LineValue → List ℕ
 after_ask v = 32 ∷ decided_text v.ask v.decision ++ codes "\n"
 

@@ -5,7 +5,7 @@ use Rattle.decision_log.specs.declared.logged.LineFault.{LineFault}
 use Rattle.decision_log.proofs.Grammar.{Ends, IsReader, bound, next_back, next_forth}
 use Rattle.decision_log.specs.Parts.{Read, next, one, three, two}
 
--- a space, and what is written behind it, and then the rest
+-- a space, and what is written after it, and then the rest
 abbrev pub spaced_by : {A : Type 0} → (A → List ℕ) → A → List ℕ → List ℕ
 spaced_by write a rest = 32 ∷ write a ++ rest
 

@@ -16,7 +16,7 @@ use Rattle.decision_log.proofs.Grammar.{Ends, bound, next_back, next_forth}
 use Rattle.decision_log.proofs.Instances.{numbers, rules, why_word_reader}
 use Rattle.decision_log.proofs.Sequences.{one_back, one_forth, same, spaced_by}
 
--- the word, and what stands behind it
+-- the word, and what stands after it
 abbrev pub why_word_of : Why → WhyWord
 why_word_of whys.Finished = why_.Finished
 why_word_of whys.ChildEnded = why_.ChildEnded
@@ -63,7 +63,7 @@ why_forth why range rest ends =
     ∙ ap (λ (r : Result (Read WhyWord) LineFault). r >>= (λ w. why_behind w.value w.rest)) (next_forth why_word_in why_word (λ w. Unit {0}) why_word_reader (why_word_of why) tt (why_rest why rest) (why_ends why rest ends))
     ∙ behind_forth why range rest ends
 
--- what was read behind a word
+-- what was read after a word
 record Behind (word : WhyWord) (text : List ℕ) (r : Read Why) : Type 0 where
   spelled : text ≡ why_rest r.value r.rest
   of_word : why_word_of r.value ≡ word

@@ -41,10 +41,10 @@ pub enum LineFault {
     Number,
     /// It is none of the words that may stand there, nor `w` or `s` before a number, nor a user's name.
     Word,
-    /// A rule is out of its range: 1 to 22, 2 to 5 behind `bad`, 1 to 7 behind `violation`.
+    /// A rule is out of its range: 1 to 22, 2 to 5 after `bad`, 1 to 7 after `violation`.
     Rule,
     /// Hexadecimal digits are odd in number, upper-case, too many or too few, or no label or note.
     Hex,
-    /// Something else than one newline stands behind the last part.
+    /// Something else than one newline stands after the last part.
     End,
 }

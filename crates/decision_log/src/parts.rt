@@ -4,7 +4,7 @@ ghost use Rattle.std.specs.Prelude.{◌≡◌, ◌≤◌, length};
 ghost use Rattle.std.specs.List.{position_or_len};
 ghost use Rattle.decision_log.specs.Parts.{behind_part, behind_space, ends_part, first_part};
 
-/// A part, and what stands behind it.
+/// A part, and what stands after it.
 #[derive(Clone, Copy)]
 pub(crate) struct Part<'a> {
     pub bytes: &'a [u8],
@@ -39,7 +39,7 @@ fn ends_part(byte: u8) -> bool
     matches!(byte, b' ' | b'\n')
 }
 
-/// The part behind a space; an empty one, and nothing behind it, where no space stands in front.
+/// The part after a space; an empty one, and nothing after it, where no space stands in front.
 pub(crate) fn next_part(text: &[u8]) -> Part<'_>
     ensures bytes { result.bytes.now ≡ first_part (behind_space text.now) }
     ensures rest { result.rest.now ≡ behind_part (behind_space text.now) }

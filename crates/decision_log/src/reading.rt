@@ -16,14 +16,14 @@ use crate::readers::{
 use crate::words::{AskWord, DecisionWord, WhyWord};
 use policy_model::{Decision, Why};
 
-/// What was read, and what stands behind it.
+/// What was read, and what stands after it.
 #[derive(Clone, Copy)]
 pub(crate) struct Found<'a, T> {
     pub value: T,
     pub rest: &'a [u8],
 }
 
-/// A number of 64 bits behind a space.
+/// A number of 64 bits after a space.
 fn next_u64(text: &[u8]) -> Result<Found<'_, u64>, LineFault>
     ensures { Gives (λ f. record { value = f.value; rest = f.rest.now }) result (next (number_below (2 ^ 64)) text.now) }
 {
@@ -35,7 +35,7 @@ fn next_u64(text: &[u8]) -> Result<Found<'_, u64>, LineFault>
     })
 }
 
-/// A number of 32 bits behind a space.
+/// A number of 32 bits after a space.
 fn next_u32(text: &[u8]) -> Result<Found<'_, u32>, LineFault>
     ensures { Gives (λ f. record { value = f.value; rest = f.rest.now }) result (next (number_below (2 ^ 32)) text.now) }
 {
@@ -47,7 +47,7 @@ fn next_u32(text: &[u8]) -> Result<Found<'_, u32>, LineFault>
     })
 }
 
-/// A number of 16 bits behind a space.
+/// A number of 16 bits after a space.
 fn next_u16(text: &[u8]) -> Result<Found<'_, u16>, LineFault>
     ensures { Gives (λ f. record { value = f.value; rest = f.rest.now }) result (next (number_below (2 ^ 16)) text.now) }
 {
@@ -59,7 +59,7 @@ fn next_u16(text: &[u8]) -> Result<Found<'_, u16>, LineFault>
     })
 }
 
-/// A rule of low to high behind a space, and its detail.
+/// A rule of low to high after a space, and its detail.
 fn next_rule(low: u8, high: u8, text: &[u8]) -> Result<Found<'_, (u8, u32)>, LineFault>
     ensures { Gives (λ f. record { value = f.value; rest = f.rest.now }) result (two (rule_in low high) (number_below (2 ^ 32)) (λ rule detail. (rule, detail)) text.now) }
 {
@@ -83,7 +83,7 @@ fn why_read(text: &[u8]) -> Result<Found<'_, Why>, LineFault>
     }
 }
 
-/// What stands behind the word of an end.
+/// What stands after the word of an end.
 fn why_behind(word: WhyWord, rest: &[u8]) -> Result<Found<'_, Why>, LineFault>
     ensures { Gives (λ f. record { value = f.value; rest = f.rest.now }) result (why_behind word rest.now) }
 {
@@ -134,7 +134,7 @@ fn ask_read(text: &[u8]) -> Result<Found<'_, LoggedAsk>, LineFault>
     }
 }
 
-/// What stands behind the word of an ask.
+/// What stands after the word of an ask.
 fn ask_behind(word: AskWord, rest: &[u8]) -> Result<Found<'_, LoggedAsk>, LineFault>
     ensures { Gives (λ f. record { value = logged_ask f.value; rest = f.rest.now }) result (ask_behind word rest.now) }
 {
@@ -343,7 +343,7 @@ fn value_behind<'a>(
     }
 }
 
-/// A permit with a value, and what stands behind it.
+/// A permit with a value, and what stands after it.
 fn permit(value: u64, rest: &[u8]) -> Found<'_, Decision>
     ensures value { result.value ≡ Permit value }
     ensures rest { result.rest.now ≡ rest.now }

@@ -32,7 +32,7 @@ pub(crate) enum DecisionWord {
     Deny,
 }
 
-/// The word behind `end`.
+/// The word after `end`.
 #[derive(Clone, Copy, PartialEq, Eq)]
 pub(crate) enum WhyWord {
     Finished,

@@ -85,7 +85,7 @@ fn put_spaced_hex(line: &mut Line, bytes: &[u8])
     put_hex(line, bytes);
 }
 
-/// Appends the eight bytes of a password as hexadecimal digits, behind a space.
+/// Appends the eight bytes of a password as hexadecimal digits, after a space.
 fn put_password(line: &mut Line, password: u64)
     requires { array_vec_len line.old + 17 ≤ LINE_MAX }
     ensures { WritesUpTo 17 (spaced_hex (to_be_bytes w64 password)) line.old.items line.new.items }

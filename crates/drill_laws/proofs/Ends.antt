@@ -38,7 +38,7 @@ use Rattle.drill_laws.proofs.Walk.{At, Next, Stands, State, after, goes_on, next
 
 -- ---- what was heard of a session
 
--- a step behind which a child has nothing to ask any more was no permitted EXPORT
+-- a step after which a child has nothing to ask any more was no permitted EXPORT
 abbrev pub IsLast : List RequestValue → Step → Type 0
 IsLast [] step = exports step.place.event ≡ false
 IsLast (request ∷ all) step = Unit {0}
@@ -83,7 +83,7 @@ kind_for (requests.Info number) ask is = absurd is
 kind_for (requests.Note text) ask is = absurd is
 kind_for requests.Finish ask is = ap ask_kind is
 
--- a session goes on behind a mild decision, where the request is no FINISH
+-- a session goes on after a mild decision, where the request is no FINISH
 on_mild : (e : Event) → is_end e.ask ≡ false → is_finish e.ask ≡ false → is_violation e.decision ≡ false → is_lost e.decision ≡ false → ends_session e ≡ false
 on_mild e no_end no_finish mild kept = rw (no_end, no_finish, mild, kept) refl
 
@@ -267,7 +267,7 @@ module _ (setup : Settings) (journal : List Event) (worker session : ℕ) (legal
 
   -- ---- the first class
 
-  -- a request of a user's child, behind which the session goes on
+  -- a request of a user's child, after which the session goes on
   user_more : (s : State) (before : List Event) (rest : List Place) (alone why : Why) (request : RequestValue) (others : List RequestValue) (steps : List Step) → At setup worker session before s → s.phase ≡ User → s.asked < 16
       → ((ask : Ask) (d : Decision) → cell_decision (table_row User (kind_of request)) (s.had (kind_of request)) ask d ≡ d) → ((b : List Event) (ask : Ask) → IsAskFor request ask → IsMild (kind_verdict setup b session ask))
       → ((ask : Ask) → IsAskFor request ask → (is_end ask ≡ false) × (is_finish ask ≡ false))

@@ -54,7 +54,7 @@ never_last : (all : List RequestValue) (request : RequestValue) (others : List R
 never_last [] request others step = tt
 never_last (first ∷ all) request others step = tt
 
--- two children, one behind the other
+-- two children, one after the other
 pub heard_join : (all : List RequestValue) (request : RequestValue) (others : List RequestValue) (alone why : Why) (front : List Step) (step : Step) (behind : List Step) → AsksFirst all (front ++ step ∷ []) [] → AllByRecursion GoesOn front → ends_session step.place.event ≡ false
     → Heard (request ∷ others) alone why behind → Heard (all ++ request ∷ others) alone why ((front ++ step ∷ []) ++ behind)
 heard_join [] request others alone why [] step behind asked on unended heard = absurd asked

@@ -1,4 +1,4 @@
--- What a child's bytes are, that are requests of a drill one behind the other: what it asked of them.
+-- What a child's bytes are, that are requests of a drill one after the other: what it asked of them.
 use Rattle.std.proofs.Common.{◌≡◌, ℕ, ◌^◌, ◌<◌, ◌≤◌, List, [], ◌∷◌, ◌++◌, length, Option, Some, None, Result, Ok, refl, sym, ap, subst, ◌∙◌, append_assoc, arith, lit<, lit≤, Bool, true, ◌&&◌}
 use Rattle.std.specs.Prelude.{IsSomeAnd, MatchResult, nat_le}
 use Rattle.std.specs.Char.{is_ascii_lowercase}
@@ -140,7 +140,7 @@ AsksFirst all [] left = all ≡ left
 AsksFirst [] (step ∷ steps) left = ⊥
 AsksFirst (request ∷ all) (step ∷ steps) left = IsAskFor request step.place.event.ask × AsksFirst all steps left
 
--- bytes of steps, of which the requests' bytes and a tail of fewer than 16 are what they and others behind them are
+-- bytes of steps, of which the requests' bytes and a tail of fewer than 16 are what they and others after them are
 pub record Said (all : List RequestValue) (tail : List ℕ) (steps : List Step) (behind : List ℕ) : Type 0 where
   pub left : List RequestValue
   pub asked : AsksFirst all steps left

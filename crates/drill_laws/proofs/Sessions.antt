@@ -178,7 +178,7 @@ module _ (service : Service) (n worker session k : ℕ) (journal : List Event) (
   both_follow BreaksOff why before rest served step left behind at stands asked on exported kept heard =
       absurd (breaks_exports_none (own_name worker) current right served step left asked (and_parts (is_export step.place.event.ask) (is_permit step.place.event.decision) exported).0)
 
-  -- the place of a step behind others
+  -- the place of a step after others
   reach : (front : List Step) (step : Step) (before : List Event) (more : List Place) → IsLegal service.setup before → Stands journal worker before (step_places (front ++ step ∷ []) ++ more) → Next service.setup journal worker (IsLegal service.setup) step.place more
   reach [] step before more so stands = next_place service.setup journal worker legal none (IsLegal service.setup) (λ b e comes other l. IsLegal-push service.setup b e l comes.next) before step.place more so stands
   reach (first ∷ front) step before more so stands =

@@ -57,7 +57,7 @@ pub record Comes (setup : Settings) (before : List Event) (e : Event) : Type 0 w
 abbrev pub start : State
 start = record { phase = Pre; asked = 0; tried = 0; had = λ kind. false }
 
--- behind its opening
+-- after its opening
 pub begun : (setup : Settings) (before : List Event) (e : Event) → IsLegal setup before → Comes setup before e → opens e ≡ true → At setup e.worker e.session (before ++ e ∷ []) start
 begun setup before e legal comes opened =
     let f = fresh setup before e legal comes.next opened in
@@ -80,7 +80,7 @@ pub own_session : (setup : Settings) (worker session : ℕ) (before : List Event
 own_session setup worker session before s e at comes own closed =
     session_own before e (next_session setup before e comes.next) comes.kept closed ∙ ap (open_session_of before) own ∙ at.opened
 
--- behind a request of its own
+-- after a request of its own
 pub goes_on : (setup : Settings) (worker session : ℕ) (before : List Event) (s : State) (e : Event) → At setup worker session before s → Comes setup before e → e.worker ≡ worker → came_by_frame e.ask ≡ true → At setup worker session (before ++ e ∷ []) (after s e)
 goes_on setup worker session before s e at comes own request =
     let closed = no_opening e request in
@@ -95,7 +95,7 @@ goes_on setup worker session before s e at comes own request =
       bits = λ kind. has_event-own before e session (permits_kind kind) its ∙ ap (λ b. b || permits_kind kind e) (at.bits kind);
     }
 
--- behind an event of another worker
+-- after an event of another worker
 pub stays : (setup : Settings) (worker session : ℕ) (s : State) (before : List Event) (e : Event) → Comes setup before e → e.worker ≢ worker → At setup worker session before s → At setup worker session (before ++ e ∷ []) s
 stays setup worker session s before e comes other at =
     let apart : worker ≢ e.worker = λ same. other (sym same) in
@@ -114,7 +114,7 @@ stays setup worker session s before e comes other at =
 
 -- ---- a worker's places in a journal
 
--- a journal begins so, and these are the worker's places behind that
+-- a journal begins so, and these are the worker's places after that
 pub record Stands (journal : List Event) (worker : ℕ) (before : List Event) (places : List Place) : Type 0 where
   pub rest : List Event
   pub parts : journal ≡ before ++ rest

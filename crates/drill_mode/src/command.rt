@@ -1,4 +1,4 @@
-//! The words of the mode.
+//! The command line of the mode.
 
 ghost use Rattle.std.specs.Prelude.{◌≡◌, ◌∷◌, ◌≤◌, IfSome, map};
 ghost use Rattle.drill_mode.specs.Words.{drill_command, drill_number};
@@ -8,8 +8,8 @@ use text_line::long_of;
 /// The greatest number of a drill.
 const NUMBER_MAX: u64 = 64;
 
-/// Reads the words of a command line: the mode's word, and those behind it. `None` exactly where they
-/// are not `drill N` with a number from 1 to 64 in decimal digits without a leading zero; else that
+/// Reads a command line: the mode's name, and the arguments after it. `None` exactly where it isn't
+/// `drill N` with a number from 1 to 64 in decimal digits without a leading zero; else that
 /// number.
 pub fn read_drill_command(mode: &str, further: &[&str]) -> Option<u32>
     ensures value { result ≡ drill_command (mode.now ∷ map (λ word. word.now) further.now) }

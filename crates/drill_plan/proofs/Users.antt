@@ -57,7 +57,7 @@ pub own_password-more : (n worker count : ℕ) → own_password n worker (count 
 unfolding chain_of
 own_password-more n worker count = rw add-one refl
 
--- the passwords up to a count, and the next one behind them
+-- the passwords up to a count, and the next one after them
 pub more_passwords : (n worker count next : ℕ) (items after : List ℕ) → length items ≡ count + 1 → ((k : ℕ) → k ≤ count → get_or items k 0 ≡ own_password n worker k)
     → next ≡ hash_of (own_algo worker) (get_or items count 0) → after ≡ items ++ next ∷ [] → (k : ℕ) → k ≤ count + 1 → get_or after k 0 ≡ own_password n worker k
 more_passwords n worker count next items after len each next_is after_is k le =

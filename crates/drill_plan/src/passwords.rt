@@ -11,7 +11,7 @@ use request_catalogue::Name;
 use std::alloc::{AllocError, Global};
 use text_line::{Line, put, put_number};
 
-/// The bytes of a text with a number behind it.
+/// The bytes of a text with a number after it.
 fn numbered(text: &[u8], number: u32) -> Line
     requires { length text.now ≤ 64 }
     ensures { result.items ≡ text.now ++ decimal number }

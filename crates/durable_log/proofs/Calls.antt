@@ -143,7 +143,7 @@ pub states_take : (s : DiskState) (calls : List DiskCall) (k : ℕ) (call : Disk
 states_take s calls k call below is =
     ap (λ (l : List DiskCall). states_from s l) (take_more calls k call below ∙ ap (λ (c : DiskCall). take k calls ++ c ∷ []) is) ∙ states_more s (take k calls) call
 
--- of a call's result: what is told behind it
+-- of a call's result: what is told after it
 module _ (telling kept : Bool) (first : List ℕ) (calls more : List DiskCall) where
   pub wrote_told : (result : Result (Unit {0}) Failed) (done : Bool) (at : ℕ) (bytes : List ℕ) → done ≡ is_ok result → (kept ≡ true → more ≡ calls ++ Write at bytes done ∷ [])
       → OnOk result (Goes (λ b a. a ≡ wrote at bytes b) (told_if telling (story_from (begun first) calls)) (told_if (telling && kept) (story_from (begun first) more)))

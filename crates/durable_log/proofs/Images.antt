@@ -57,7 +57,7 @@ module _ (front : List ℕ) (gate : ℕ) (place : gate ≡ length front) where
   pub length-staged : (bytes : List ℕ) → length (front ++ 0 ∷ bytes) ≡ gate + 1 + length bytes
   length-staged bytes = omega (arith, length-append front (0 ∷ bytes))
 
-  -- what was written stands whole behind whatever gate
+  -- what was written stands whole after whatever gate
   pub torn_gate : (bytes c : List ℕ) → IsTorn gate 1 (front ++ 0 ∷ bytes) c → c ≡ front ++ get_or c gate 0 ∷ bytes
   torn_gate bytes c torn =
       let rest : drop gate c ≡ get_or c gate 0 ∷ bytes = drop_more c gate 0 (omega (arith, torn.no_shorter, length-staged bytes)) ∙ ap (λ (l : List ℕ). get_or c gate 0 ∷ l) (torn.back ∙ back bytes) in

@@ -7,7 +7,7 @@ use Rattle.durable_log.proofs.Images.{front_of, image_is, image_push, length-clo
 use Rattle.durable_log.proofs.Reading.{AreShort, closed_has, gate_has, image_has, short_push}
 use Rattle.durable_log.proofs.Moments.{already, begins, not_answered, not_yet}
 
--- what may stand behind a write over settled bytes is those bytes, torn
+-- what may stand after a write over settled bytes is those bytes, torn
 pub torn_settled : (at size : ℕ) (reads bytes : List ℕ) (state : DiskState) → state ≡ settled bytes → (image : List ℕ) → MayStand state.safe ((at, size) ∷ state.loose) image → IsTorn at size bytes image
 torn_settled at size reads bytes state is image left =
     let there : MayStand bytes ((at, size) ∷ []) image = subst (λ (s : DiskState). MayStand s.safe ((at, size) ∷ s.loose) image) is left in
@@ -85,14 +85,14 @@ module _ (given : List (List ℕ)) (piece : List ℕ) (gate : ℕ) where
   front_place : gate ≡ 4 + length (opened given) → gate ≡ length (front_of given)
   front_place place = omega (arith, place)
 
-  -- behind the first write an image has the records before
+  -- after the first write an image has the records before
   behind_has : (first now : Story) → InRecord 0 first now → now.now ≡ settled (image_of given) → (image : List ℕ) → MayStand now.now.safe ((gate + 1, length (behind_of piece)) ∷ now.now.loose) image → HasRecords image given
   behind_has first now so_far is image left =
       let torn : IsTorn (gate + 1) (length (behind_of piece)) (image_of given) image = torn_settled (gate + 1) (length (behind_of piece)) [] (image_of given) now.now is image left in
       let closed : IsTorn (gate + 1) (length (behind_of piece)) (front_of given ++ 0 ∷ []) image = subst (λ (l : List ℕ). IsTorn (gate + 1) (length (behind_of piece)) l image) (image_is given) torn in
       closed_has given 0 (drop (gate + 1) image) image so_far.short (omega arith) (torn_behind (front_of given) gate (front_place so_far.place) (length (behind_of piece)) image closed)
 
-  -- behind the second it has these, or one more
+  -- after the second it has these, or one more
   gate_left : (first now : Story) → InRecord 2 first now → now.now ≡ settled staged → (image : List ℕ) → MayStand now.now.safe ((gate, 1) ∷ now.now.loose) image → HasRecords image given ⊎ HasRecords image more
   gate_left first now so_far is image left =
       let torn : IsTorn gate 1 staged image = torn_settled gate 1 [] staged now.now is image left in
@@ -113,7 +113,7 @@ module _ (given : List (List ℕ)) (piece : List ℕ) (gate : ℕ) where
       ∙ wrote_gate (front_of given) gate (front_place place) (behind_of piece)
       ∙ sym (image_push given piece)
 
-  -- the record stands behind the closed gate, and is safe there
+  -- the record stands after the closed gate, and is safe there
   pub record IsStaged (first now : Story) : Type 0 where
     pub so_far : InRecord 2 first now
     pub state : now.now ≡ settled staged

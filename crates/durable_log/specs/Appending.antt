@@ -3,7 +3,7 @@ use Rattle.std.specs.Prelude.{◌≡◌, ◌⊎◌, ℕ, ◌+◌, ◌*◌, ◌<�
 use Rattle.outside.specs.Told.{next_count}
 use Rattle.durable_log.specs.Journal.{Keeps, LogParts, pieces_of}
 
--- where the closed gate stands behind all records of an append
+-- where the closed gate stands after all records of an append
 abbrev pub end_of : LogParts → List ℕ → ℕ
 end_of log bytes = log.gate + length bytes + 3 * length (pieces_of bytes)
 
@@ -19,7 +19,7 @@ pub record BreaksOff (given : List (List ℕ)) (answered : ℕ) (bytes : List �
 abbrev pub KeepsAll : List ℕ → LogParts → LogParts → Type 0
 KeepsAll bytes old new = (given : List (List ℕ)) (answered : ℕ) → Keeps given answered old → Keeps (given ++ pieces_of bytes) (answered + length (pieces_of bytes)) new
 
--- whatever records a log was given before, the append broke off behind them
+-- whatever records a log was given before, the append broke off after them
 abbrev pub KeepsSome : List ℕ → LogParts → LogParts → Type 0
 KeepsSome bytes old new = (given : List (List ℕ)) (answered : ℕ) → Keeps given answered old → BreaksOff given answered bytes new
 
@@ -48,7 +48,7 @@ pub record WasStopped (old new : LogParts) : Type 0 where
   pub still : new.now ≡ old.now
   pub refused : IsRefused old new
 
--- a record of the append would end behind the image's first 271,581,189 bytes; where it is the append's only one the disk stands as it did
+-- a record of the append would end past the image's first 271,581,189 bytes; where it is the append's only one the disk stands as it did
 pub record IsTooLong (bytes : List ℕ) (old new : LogParts) : Type 0 where
   pub far : 271581189 < end_of old bytes + 1
   pub still : length bytes ≤ 256 → new.now ≡ old.now

@@ -14,7 +14,7 @@ pub record IsTorn (at size : ℕ) (before after : List ℕ) : Type 0 where
   pub no_shorter : length before ≤ length after
   pub no_longer : length after ≤ max (length before) (at + size)
 
--- what may stand where these ranges were written, one after the other, and no sync came behind them
+-- what may stand where these ranges were written, one after the other, and no sync came after them
 abbrev pub MayStand : List ℕ → List (ℕ × ℕ) → List ℕ → Type 0
 MayStand safe [] image = image ≡ safe
 MayStand safe (range ∷ ranges) image = (earlier : List ℕ) × MayStand safe ranges earlier × IsTorn range.0 range.1 earlier image
@@ -45,11 +45,11 @@ abbrev pub AtEachMoment : ℕ → (ℕ → List ℕ → Type 0) → List DiskSta
 AtEachMoment since Demand [] = Unit {0}
 AtEachMoment since Demand (state ∷ older) = (since ≤ length older → (image : List ℕ) → MayLeave state image → Demand (length older) image) × AtEachMoment since Demand older
 
--- the bytes that a read gives behind a write that was done
+-- the bytes that a read gives after a write that was done
 abbrev pub overwritten : List ℕ → ℕ → List ℕ → List ℕ
 overwritten old at bytes = take at old ++ (bytes ++ drop (at + length bytes) old)
 
--- the story behind a call that left this
+-- the story after a call that left this
 abbrev pub then_state : Story → DiskState → Story
 then_state story state = record { now = state; past = states_of story }
 
@@ -75,11 +75,11 @@ synced story = then_state story (settled story.now.reads)
 abbrev pub not_synced : Story → Story
 not_synced story = then_state story story.now
 
--- a write and the sync behind it were done
+-- a write and the sync after it were done
 abbrev pub wrote_safely : ℕ → List ℕ → Story → Story
 wrote_safely at bytes story = synced (wrote at bytes story)
 
--- a write failed, or the sync behind it
+-- a write failed, or the sync after it
 abbrev pub HalfWroteSafely : ℕ → List ℕ → Story → Story → Type 0
 HalfWroteSafely at bytes before after = HalfWrote at bytes before after ⊎ (after ≡ not_synced (wrote at bytes before))
 

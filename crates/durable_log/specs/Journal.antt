@@ -10,7 +10,7 @@ use Rattle.durable_log.specs.Records.{HasRecords, opened}
 abbrev pub image_of : List (List ℕ) → List ℕ
 image_of records = codes "OTJ1" ++ (opened records ++ 0 ∷ [])
 
--- what is written behind the closed gate for a record: the length, the bytes and the next closed gate
+-- what is written after the closed gate for a record: the length, the bytes and the next closed gate
 abbrev pub behind_of : List ℕ → List ℕ
 behind_of bytes = to_le_bytes w16 (length bytes) ++ (bytes ++ 0 ∷ [])
 

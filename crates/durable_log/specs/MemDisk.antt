@@ -6,7 +6,7 @@ use Rattle.durable_log.specs.declared.memory.call.DiskCall.TheVariants.{Write, S
 use Rattle.durable_log.specs.declared.memory.picture.Picture.{Picture}
 use Rattle.durable_log.specs.Disk.{DiskState, Story, moment_of, overwritten, settled, states_of, then_state}
 
--- what stands on a disk behind a call; a write that fails writes nothing that a read gives, and its range is unsafe
+-- what stands on a disk after a call; a write that fails writes nothing that a read gives, and its range is unsafe
 abbrev pub state_after : DiskState → DiskCall → DiskState
 state_after s (Write at bytes true) = record { reads = overwritten s.reads at bytes; safe = s.safe; loose = (at, length bytes) ∷ s.loose }
 state_after s (Write at bytes false) = record { reads = s.reads; safe = s.safe; loose = (at, length bytes) ∷ s.loose }
@@ -18,7 +18,7 @@ abbrev pub story_from : Story → List DiskCall → Story
 story_from story [] = story
 story_from story (call ∷ calls) = story_from (then_state story (state_after story.now call)) calls
 
--- what stands on a disk behind these calls
+-- what stands on a disk after these calls
 abbrev pub states_from : DiskState → List DiskCall → DiskState
 states_from s [] = s
 states_from s (call ∷ calls) = states_from (state_after s call) calls
@@ -27,7 +27,7 @@ states_from s (call ∷ calls) = states_from (state_after s call) calls
 abbrev pub begun : List ℕ → Story
 begun bytes = record { now = settled bytes; past = [] }
 
--- what stood on the disk behind so many calls
+-- what stood on the disk after so many calls
 abbrev pub state_at : ℕ → Story → DiskState
 state_at calls story = get_or (states_of story) (moment_of story - calls) story.now
 

@@ -31,7 +31,7 @@ pub trait Disk: Drop + Send {
         ensures none { OnErr result (Goes (λ b a. a ≡ not_synced b) (story self.old) (story self.new)) }
         ensures counts { faults self.new ≡ count_after result (faults self.old) };
 
-    /// Writes these bytes as `write_at` does, and makes them safe by a sync behind it.
+    /// Writes these bytes as `write_at` does, and makes them safe by a sync after it.
     fn write_safely(&mut self, at: u64, bytes: &[u8]) -> Result<(), Failed>
         requires { IfSome (story self.old) (λ s. at ≤ length s.now.reads) }
         ensures done { OnOk result (Goes (λ b a. a ≡ wrote_safely at bytes.now b) (story self.old) (story self.new)) }

@@ -21,7 +21,7 @@ pub(crate) const FIRST_GATE: u64 = 4;
 /// A closed gate.
 const CLOSED: u8 = 0;
 
-/// The end of a log: its closed gate, and a buffer for what is written behind it.
+/// The end of a log: its closed gate, and a buffer for what is written after it.
 #[derive(Drop)]
 pub(crate) struct Tail {
     pub(crate) gate: u64,
@@ -70,8 +70,8 @@ impl Tail {
         Ok(())
     }
 
-    /// Puts what is written behind the closed gate into the buffer, and answers its length. Until
-    /// `finish` the log counts as stopped. `Failed`: the record would end behind the last byte of the
+    /// Puts what is written after the closed gate into the buffer, and answers its length. Until
+    /// `finish` the log counts as stopped. `Failed`: the record would end past the last byte of the
     /// image that a log may fill, and is refused.
     pub(crate) fn begin(&mut self, piece: &[u8]) -> Result<usize, Failed>
         requires piece { length piece.now ≤ 256 }
@@ -94,7 +94,7 @@ impl Tail {
         Ok(size)
     }
 
-    /// The record behind the gate, of so many bytes without its own gate, is done.
+    /// The record after the gate, of so many bytes without its own gate, is done.
     pub(crate) fn finish(&mut self, size: usize)
         requires { self.old.gate + size < 2 ^ 32 }
         ensures gate { self.new.gate ≡ self.old.gate + size }

@@ -3,7 +3,7 @@ ghost use Rattle.std.specs.Prelude.{◌<◌, ◌^◌};
 use crate::tail::Tail;
 use std::test::Fail;
 
-/// Whether a record of 256 bytes fits behind a gate.
+/// Whether a record of 256 bytes fits after a gate.
 fn fits(gate: u64) -> bool
     requires { gate < 2 ^ 32 }
 {

@@ -28,7 +28,7 @@ pub spelled : (parts : EnrolParts) (phrase phrase' text text' : List ℕ) → ph
 spelled parts phrase phrase' text text' same same_text spells =
     subst (λ (p : List ℕ). IsEnrolText parts p text') same (subst (IsEnrolText parts phrase) (sym same_text) spells)
 
--- a count that rose behind others
+-- a count that rose after others
 pub rose_after : (a b c : ℕ) → a ≤ b → c ≡ next_count b → Rose a c
 rose_after a b c low is = record { rose = omega (arith, low, is) }
 

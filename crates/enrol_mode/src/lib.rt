@@ -1,4 +1,4 @@
-//! The mode `enrol`: the account of a new user, as a table to stand behind a setup's, of a pass phrase.
+//! The mode `enrol`: the account of a new user, as a table to stand after a setup's, of a pass phrase.
 //! Believe `specs/Words.antt`, `specs/Outcome.antt` and the files that these name; the top call stands
 //! above.
 #![tactic(auto)]

@@ -1,4 +1,4 @@
-//! The words of the mode.
+//! The command line of the mode.
 
 ghost use Rattle.std.specs.Prelude.{◌≡◌, ◌∷◌, IfSome, map, option_map, true};
 ghost use Rattle.policy_model.specs.Settings.{is_number};
@@ -14,8 +14,8 @@ use text_line::long_of;
 /// The greatest number of a user.
 const UID_MAX: u32 = 4_294_967_294;
 
-/// Reads the words of a command line: the mode's word, and those behind it. `None` exactly where they
-/// are not `enrol NAME UID ALGO N SEED`: `NAME` is one that an account can have, `UID` a number from 1
+/// Reads a command line: the mode's name, and the arguments after it. `None` exactly where it isn't
+/// `enrol NAME UID ALGO N SEED`: `NAME` is one that an account can have, `UID` a number from 1
 /// to 4,294,967,294 in decimal digits without a leading zero, `ALGO` `md5` or `sha1`, `N` one to four
 /// decimal digits that aren't all 0, and `SEED` 1 to 16 ASCII letters and digits.
 pub fn read_enrol_command(mode: &str, further: &[&str]) -> Option<EnrolCommand>

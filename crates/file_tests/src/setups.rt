@@ -345,7 +345,7 @@ fn what_is_taken(rt: HostRuntime) -> Result<(), Fail> {
 
 /// Files of which a part is there often: the key, the rule and the account of the first fault, so many
 /// lines of the file, how often the part is there, and then what stands before it, the part, and what
-/// stands behind it, each with a `/` at its end.
+/// stands after it, each with a `/` at its end.
 const LONG: &str = "
     account range 0 9 1025 /[[account]]|//
     name missing 1 9 1024 /[[account]]|//
@@ -358,7 +358,7 @@ const LONG: &str = "
     words text 0 3 256 words = \"/w/\"|/
     socket missing 0 0 0 ///";
 
-/// The front of the file with a text behind it: parts that are parted by `/`, the second of them there
+/// The front of the file with a text after it: parts that are parted by `/`, the second of them there
 /// so often.
 fn long_text(
     rt: &HostRuntime,
@@ -380,7 +380,7 @@ fn long_text(
     Ok(text)
 }
 
-/// The number in front of a text, and what stands behind it.
+/// The number in front of a text, and what stands after it.
 fn number_at(text: &str) -> Result<(usize, &str), Fail> {
     let (number, rest) = text.split_once(' ').ok_or("a number")?;
     Ok((number.parse::<usize>().map_err(|_| "a number")?, rest))

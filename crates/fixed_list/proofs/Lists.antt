@@ -7,7 +7,7 @@ use mathlib.Core.HLevel.{is_prop→PathP}
 use Rattle.fixed_list.specs.declared.FixedList.{FixedList, whole-type}
 use Rattle.fixed_list.specs.FixedList.{list_of}
 
--- zeros stay behind bytes that are copied over the front
+-- zeros stay after bytes that are copied over the front
 pub drop-copied : (n : ℕ) (bytes copied : List ℕ) → copied ≡ bytes → drop (length bytes) (copied ++ drop (length bytes) (replicate n 0)) ≡ replicate (n - length bytes) 0
 drop-copied n bytes copied e = drop_at copied (drop (length bytes) (replicate n 0)) (length bytes) (ap length e) ∙ drop-replicate (length bytes) n 0
 
@@ -19,7 +19,7 @@ get_or-replicate_zero n k =
       | inr le ↦ rw (get_or_past {X = ℕ} (replicate n 0) k 0 (omega (arith, length-replicate {A = ℕ} n 0))) (omega arith)
     ]
 
--- bytes with zeros behind them are bytes
+-- bytes with zeros after them are bytes
 pub get_or-copied : (n m : ℕ) (bytes copied : List ℕ) → copied ≡ bytes → ((k : ℕ) → get_or bytes k 0 < 256) → (k : ℕ) → get_or (copied ++ drop m (replicate n 0)) k 0 < 256
 get_or-copied n m bytes copied e small k =
     elim (cases_lt k (length copied)) [

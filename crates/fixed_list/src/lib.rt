@@ -4,7 +4,7 @@
 
 ghost use Rattle.std.specs.Prelude.{◌≡◌, ℕ, ◌-◌, ◌^◌, ◌<◌, ◌≤◌, ◌==◌, length, drop, replicate, slice_index};
 
-/// At most `N` bytes in a place of fixed size. The bytes behind the list are zero, so that equal
+/// At most `N` bytes in a place of fixed size. The bytes after the list are zero, so that equal
 /// lists are equal values.
 #[derive(Clone, Copy)]
 pub struct FixedList<const N: usize> {

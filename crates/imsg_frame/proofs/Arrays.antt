@@ -14,7 +14,7 @@ take-between i j xs le =
 pub three_parts : (i j : ℕ) (xs : List ℕ) → i ≤ j → xs ≡ take i xs ++ between i j xs ++ drop j xs
 three_parts i j xs le = sym (ap (λ (front : List ℕ). front ++ drop j xs) (take-between i j xs le) ∙ take-append-drop j xs)
 
--- a head was written to the front of xs, and then ys behind it
+-- a head was written to the front of xs, and then ys after it
 pub put_mid-behind_front : (xs head ys : List ℕ) (k : ℕ) → length head ≡ k → put_mid k (k + length ys - k) (head ++ drop k xs) ys ≡ head ++ ys ++ drop (k + length ys) xs
 put_mid-behind_front xs head ys k len =
     let width : k + length ys - k ≡ length ys = omega arith in

@@ -28,7 +28,7 @@ IsCut-trans width max bytes ms rest ns last first second = record {
   each = All-append width max ms ns first.each second.each;
 }
 
--- more bytes behind the stream come behind the rest
+-- more bytes after the stream come after the rest
 pub IsCut-append : (width : Width) (max : ℕ) (bytes : List ℕ) (ms : List Message) (rest more : List ℕ) → IsCut width max bytes ms rest → IsCut width max (bytes ++ more) ms (rest ++ more)
 IsCut-append width max bytes ms rest more cut = record { parts = ap (λ (front : List ℕ). front ++ more) cut.parts ∙ append_assoc (flat_map (spelling_of width) ms) rest more; each = cut.each }
 

@@ -54,7 +54,7 @@ partial_not_bad width max bytes len p b =
       | inr s ↦ elim b.wrong [ inl lt ↦ absurd (omega (arith, s.low)) | inr gt ↦ absurd (omega (arith, s.high)) ]
     ]
 
--- a reader of at least 16 bytes has room behind less than a frame
+-- a reader of at least 16 bytes has room after less than a frame
 pub partial_has_room : (width : Width) (max : ℕ) (bytes : List ℕ) → 16 ≤ max → IsPartialFront width max bytes → length bytes < max
 partial_has_room width max bytes low p = elim p [ inl lt ↦ omega arith | inr s ↦ omega (arith, s.high, s.short) ]
 
@@ -66,7 +66,7 @@ length_field-append widths.Narrow bytes more long =
 length_field-append widths.Wide bytes more long =
     ap (λ (x : List ℕ). from_le_bytes w32 x % 2 ^ 31) (ap (take 4) (drop-append-le 4 bytes more (omega arith)) ∙ take-append-le 4 (drop 4 bytes) more (omega (arith, length-drop 4 bytes)))
 
--- bytes that come behind a bad header leave it bad
+-- bytes that come after a bad header leave it bad
 pub IsBadFront-append : (width : Width) (max : ℕ) (bytes more : List ℕ) (len : ℕ) → IsBadFront width max bytes len → IsBadFront width max (bytes ++ more) len
 IsBadFront-append width max bytes more len b =
     let same = length_field-append width bytes more b.header in

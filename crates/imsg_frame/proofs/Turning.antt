@@ -1,4 +1,4 @@
--- A list whose first items are moved behind its last ones.
+-- A list whose first items are moved after its last ones.
 use Rattle.std.proofs.Common.{◌≡◌, ℕ, ◌+◌, ◌-◌, ◌≤◌, List, ◌++◌, length, take, drop, min, sym, ap, ◌∙◌, append_assoc, arith}
 use Rattle.std.proofs.lemmas.List.{append-nil, drop_all, take_all, length-append, length-drop, length-take, length-take-le, drop-drop, drop-append-le, take-append-le}
 use Rattle.std.proofs.Math.Seq.{take-add}

@@ -40,7 +40,7 @@ pub record IsLongestCut (width : Width) (max : ℕ) (bytes : List ℕ) (messages
   pub cut : IsCut width max bytes messages rest
   pub last : IsLastFront width max rest
 
--- the messages were added behind those before, and with the rest they are a cut of the bytes
+-- the messages were added after those before, and with the rest they are a cut of the bytes
 abbrev pub AddsCut : Width → ℕ → List Message → List ℕ → List Message → List ℕ → Type 0
 AddsCut width max before bytes after rest = (added : List Message) × (after ≡ before ++ added) × IsCut width max bytes added rest
 

@@ -9,7 +9,7 @@ use std::alloc::{AllocError, Global};
 #[derive(Clone, Copy, PartialEq, Eq)]
 pub struct Frame<'a> {
     pub header: Header,
-    /// The bytes behind the header, `header.len` less 16 of them.
+    /// The bytes after the header, `header.len` less 16 of them.
     pub body: &'a [u8],
 }
 
@@ -17,7 +17,7 @@ pub struct Frame<'a> {
 #[derive(PartialEq, Eq, Drop)]
 pub struct OwnedFrame {
     pub header: Header,
-    /// The bytes behind the header, `header.len` less 16 of them.
+    /// The bytes after the header, `header.len` less 16 of them.
     pub body: Vec<u8>,
 }
 

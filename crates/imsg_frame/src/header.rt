@@ -44,7 +44,7 @@ impl Header {
         }
     }
 
-    /// Writes the header to the front of `out`, which needs room for it. What stands behind it stays as it
+    /// Writes the header to the front of `out`, which needs room for it. What stands after it stays as it
     /// was: with a body of `len` less 16 bytes there, `out` begins with the frame.
     pub fn write(self, width: Width, out: &mut [u8])
         requires fields { FitsFields width self }

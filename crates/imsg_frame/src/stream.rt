@@ -92,7 +92,7 @@ impl Reader {
         alloc: Global,
         pieces: &[&[u8]],
     ) -> Result<Vec<OwnedFrame>, AllocError>
-        // The frames, what is held and, behind a bad header, what was never fed are the whole stream.
+        // The frames, what is held and, after a bad header, what was never fed are the whole stream.
         ensures cut { IfOk result (λ frames. (unfed : List ℕ)
             × IsLongestCut self.old.width self.old.max (self.old.bytes ++ flat_map (λ piece. piece.now) pieces.now)
             (messages_in frames.items) (self.new.bytes ++ unfed)

@@ -20,7 +20,7 @@ pub enum Piece {
     Sequence,
 }
 
-/// At most eight pieces, one behind the other.
+/// At most eight pieces, one after the other.
 #[derive(Clone, Copy)]
 pub struct Form {
     pieces: [Piece; 8],

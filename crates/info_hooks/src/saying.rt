@@ -12,7 +12,7 @@ use text_line::{LINE_MAX, Line, put, put_number};
 
 impl Form {
     #[tactic(auto, unfolding(crate::specs::Said::said))]
-    /// What the form says of a card: its pieces' texts, one behind the other. A text of eight
+    /// What the form says of a card: its pieces' texts, one after the other. A text of eight
     /// pieces has at most 256 bytes, so each fits.
     pub fn say(&self, card: &Card) -> InfoText
         ensures { info_bytes result ≡ said self.now card.now }

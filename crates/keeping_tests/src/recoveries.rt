@@ -43,7 +43,7 @@ const WRONG: &str = "1 w0 s1 open permit
 3 w0 s1 reply permit 0000000000000001
 4 w0";
 
-/// The password of bob's chain, behind a decoy.
+/// The password of bob's chain, after a decoy.
 const DECOYED: &str = "1 w0 s1 open permit
 2 w0 s1 challenge bob 1000 permit 10000
 3 w0 s1 reply permit bb9e6ae1979d8ff4";
@@ -65,7 +65,7 @@ const TWICE: &str = "1 w0 s1 challenge bob 1000 permit 0
 3 w0 s2 challenge bob 1000 permit 0
 4 w0 s2 reply permit bb9e6ae1979d8ff4";
 
-/// It is accepted, and the line behind it doesn't read.
+/// It is accepted, and the line after it doesn't read.
 const ENDLESS: &str = "1 w0 s1 challenge bob 1000 permit 0
 2 w0 s1 reply permit bb9e6ae1979d8ff4
 3 w0 s1 end";

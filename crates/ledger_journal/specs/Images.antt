@@ -27,7 +27,7 @@ IsNextOf rest (Opened bytes behind) = IsOpened rest bytes.now behind.now
 IsNextOf rest Closed = IsClosed rest
 IsNextOf rest Cut = IsCut rest
 
--- an opened record of a length is cut off what stands behind the length, or is cut short
+-- an opened record of a length is cut off what stands after the length, or is cut short
 pub record IsCutAt (len : ℕ) (behind bytes rest : List ℕ) : Type 0 where
   pub parts : behind ≡ bytes ++ rest
   pub measured : length bytes ≡ len

@@ -26,7 +26,7 @@ abbrev pub IsFirstBad : List (List ℕ) → Option ℕ → Type 0
 IsFirstBad records None = (length records ≤ EVENTS_LIMIT) × ((number : ℕ) → IsNoLine records number → ⊥)
 IsFirstBad records (Some bad) = IsNoLine records bad × ((earlier : ℕ) → earlier < bad → IsNoLine records earlier → ⊥)
 
--- the first bad place of records behind which this one stands
+-- the first bad place of records after which this one stands
 abbrev pub bad_after : Option ℕ → ℕ → Bool → Option ℕ
 bad_after (Some bad) place is_line = Some bad
 bad_after None place is_line = if nat_lt EVENTS_LIMIT place || not is_line then Some place else None

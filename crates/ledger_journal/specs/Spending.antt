@@ -12,7 +12,7 @@ pub record IsOfSetup (l : LedgerParts) : Type 0 where
   pub same : length l.accounts ≡ length l.setup.accounts
   pub algos : (number : ℕ) (account : Account) → slice_get l.setup.accounts number ≡ Some account → (state_at l number).algo ≡ account.algo
 
--- a reply verifies behind those that a ledger has accepted, and the ledger has accepted it too
+-- a reply verifies after those that a ledger has accepted, and the ledger has accepted it too
 pub record IsSpent (login : Login) (old new : LedgerParts) : Type 0 where
   pub spent : new.spent ≡ old.spent + 1
   pub cap : new.cap ≡ old.cap
@@ -24,7 +24,7 @@ abbrev pub IsSpending : Login → LedgerParts → LedgerParts → Bool → Type 
 IsSpending login old new true = IsSpent login old new
 IsSpending login old new false = (before : List Login) → HasAccepted old.setup before old → Verifies old.setup before login → ⊥
 
--- each of the first replies verifies behind those before it
+-- each of the first replies verifies after those before it
 abbrev pub VerifyTo : Settings → List Login → ℕ → Type 0
 VerifyTo setup logins count = (place : ℕ) (d : Login) → place < count → Verifies setup (take place logins) (slice_index_or logins place d)
 

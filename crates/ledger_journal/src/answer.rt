@@ -6,7 +6,7 @@ use std::alloc::AllocError;
 /// What a log brings back.
 #[derive(Drop)]
 pub struct Recovered {
-    /// What is known of each account behind the log's last line.
+    /// What is known of each account after the log's last line.
     pub ledger: Ledger,
     /// How many lines the log has, at most 1,048,576.
     pub lines: u32,

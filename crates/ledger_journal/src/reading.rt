@@ -43,7 +43,7 @@ fn line_at(place: usize, bytes: &[u8]) -> Option<Logged>
     }
 }
 
-/// The first bad place of records, where one more stands behind them.
+/// The first bad place of records, where one more stands after them.
 fn first_bad(bad: Option<u32>, place: usize, is_line: bool) -> Option<u32>
     requires { MatchOption bad (place ≤ EVENTS_LIMIT + 1) (λ _. Unit {0}) }
     ensures { result ≡ bad_after bad place is_line }
@@ -106,7 +106,7 @@ fn login_in(takings: &BTreeMap<u32, Option<u32>>, line: &Logged) -> Option<Login
     }
 }
 
-/// A reply that was accepted stands behind the others.
+/// A reply that was accepted stands after the others.
 fn keep(logins: &mut Vec<Login>, login: Option<Login>) -> Result<(), AllocError>
     ensures { IfOk result (λ _. logins.new.items ≡ logins.old.items ++ option_to_list login) }
 {

@@ -4,7 +4,7 @@ ghost use Rattle.ledger_journal.specs.Images.{IsCutOff, IsNextOf};
 
 /// What stands next in an image.
 pub(crate) enum Next<'a> {
-    /// An opened record, and behind it at least the next gate.
+    /// An opened record, and after it at least the next gate.
     Opened { bytes: &'a [u8], rest: &'a [u8] },
     /// A closed gate.
     Closed,
@@ -24,7 +24,7 @@ pub(crate) fn next_record(image: &[u8]) -> Next<'_>
     }
 }
 
-/// An opened record of this length, of what stands behind the length.
+/// An opened record of this length, of what stands after the length.
 fn cut_off(len: u16, behind: &[u8]) -> Next<'_>
     ensures { IsCutOff len behind.now result }
 {

@@ -17,7 +17,7 @@ pub record LineParts : Type 0 where
 abbrev pub line_parts : LogParts → LogParts → List ℕ → ℕ → LineParts
 line_parts log before last refused = record { log = log; before = before; last = last; refused = refused }
 
--- what was given behind a failed append: what the log held before, and the line of that append
+-- what was given after a failed append: what the log held before, and the line of that append
 abbrev pub given_at_last : LineParts → Option (List ℕ)
 given_at_last parts = if is_some parts.log.now then option_map (λ held. held ++ parts.last) (held_of parts.before) else None
 

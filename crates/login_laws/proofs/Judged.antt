@@ -118,7 +118,7 @@ talk_permitted setup journal worker session s before e at comes own live few tal
       ∙ ap (kind_verdict setup before session) is ∙ sym (free_is setup before session (asks.Note text) refl)
   by_ask _ is t = absurd cc
 
--- the banner is permitted once before the login, and an IMPORT once behind it
+-- the banner is permitted once before the login, and an IMPORT once after it
 pub banner_permitted : (setup : Settings) (journal : List Event) (worker session : ℕ) (s : State) (before : List Event)
     (e : Event) → At setup worker session s before → Comes setup journal before e → e.worker ≡ worker → s.phase ≡ Pre
     → s.greeted ≡ false → s.asked < setup.requests → e.ask ≡ asks.Banner → e.decision ≡ Permit 0
@@ -218,7 +218,7 @@ reply_permitted setup journal worker session s before e words hex user account a
     no_decoy challenged refl)
     ∙ rw (holds, some, found, p.found) refl
 
--- an EXPORT behind it
+-- an EXPORT after it
 pub export_permitted : (setup : Settings) (journal : List Event) (worker session : ℕ) (s : State) (before : List Event)
     (e : Event) (len : ℕ) → At setup worker session s before → Comes setup journal before e → e.worker ≡ worker
     → s.phase ≡ Verified → s.asked < setup.requests → e.ask ≡ asks.Export len

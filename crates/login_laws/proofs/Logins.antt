@@ -76,7 +76,7 @@ module _ (setup : Settings) (journal : List Event) (worker : ℕ) (legal : IsLeg
         next_place setup journal worker legal none (Stage setup journal worker session s Q)
         (others_stay setup journal worker session s Q lasts) before p places stage stands
 
-    -- behind talk
+    -- after talk
     pub record Talked (s : State) (Q : List Event → Type 0) (places : List Place) : Type 0 where
       pub before : List Event
       pub stage : Stage setup journal worker session s Q before
@@ -153,7 +153,7 @@ module _ (setup : Settings) (journal : List Event) (worker : ℕ) (legal : IsLeg
           export_is (asks.Export len) h = (len, refl)
           export_is _ h = absurd cc
 
-    -- a challenged session's REPLY, and what comes behind it
+    -- a challenged session's REPLY, and what comes after it
     record Replied (user : Name) (account : Account) (reply export : Place) : Type 0 where
       pub accepts : accepts reply.event ≡ true
       pub password : is_next_password reply.before account (value_of reply.event.decision) ≡ true
@@ -196,7 +196,7 @@ module _ (setup : Settings) (journal : List Event) (worker : ℕ) (legal : IsLeg
               (p.before ++ p.event ∷ []) refl talk' exports few (record { at = on.at; known = on.logged }) n.behind;
         }
 
-    -- the CHALLENGE of a session before its login, and what comes behind it
+    -- the CHALLENGE of a session before its login, and what comes after it
     record Taken (user : Name) (account : Account) (challenge reply export : Place) : Type 0 where
       pub permit : challenge.event.decision ≡ Permit (current_sequence challenge.before account - 1)
       pub replied : Replied user account reply export
@@ -233,7 +233,7 @@ module _ (setup : Settings) (journal : List Event) (worker : ℕ) (legal : IsLeg
               (record { at = on.at; known = on.holds }) n.behind;
         }
 
-    -- behind the banner, if it is asked for
+    -- after the banner, if it is asked for
     record Greeted (places : List Place) (asked : ℕ) : Type 0 where
       pub state : State
       pub phase : state.phase ≡ Pre

@@ -122,7 +122,7 @@ abbrev pub more : ℕ → State → State
 more n s = record s { asked = s.asked + n }
 
 module _ (setup : Settings) (journal : List Event) (worker session : ℕ) where
-  -- behind talk the session stands as before, with one ask more
+  -- after talk the session stands as before, with one ask more
   pub talk_on : (s : State) (before : List Event) (e : Event) → At setup worker session s before
       → Comes setup journal before e → e.worker ≡ worker → is_talk e.ask ≡ true → IsQuiet e
       → At setup worker session (more 1 s) (before ++ e ∷ [])
@@ -235,7 +235,7 @@ module _ (setup : Settings) (journal : List Event) (worker session : ℕ) where
         or_true true = refl
         or_true false = refl
 
-  -- behind its challenge the session holds the user
+  -- after its challenge the session holds the user
   pub record IsTaken (s : State) (user : Name) (value : ℕ) (before : List Event) (e : Event) : Type 0 where
     pub low : nat_lt value DECOYS_FROM ≡ true
     pub at : At setup worker session (record s { phase = Challenged; asked = s.asked + 1 }) (before ++ e ∷ [])
@@ -277,7 +277,7 @@ module _ (setup : Settings) (journal : List Event) (worker session : ℕ) where
         };
       }
 
-  -- behind its accepted reply it is logged in
+  -- after its accepted reply it is logged in
   pub record IsAccepted (s : State) (user : Name) (before : List Event) (e : Event) : Type 0 where
     pub at : At setup worker session (record s { phase = Verified; asked = s.asked + 1 }) (before ++ e ∷ [])
     pub logged : IsLogged user (before ++ e ∷ [])
@@ -312,7 +312,7 @@ module _ (setup : Settings) (journal : List Event) (worker session : ℕ) where
         accepts = all.4;
       }
 
-  -- behind its export the user's child runs
+  -- after its export the user's child runs
   pub record IsExported (s : State) (user : Name) (before : List Event) (e : Event) : Type 0 where
     pub at : At setup worker session (record s { phase = User; asked = s.asked + 1 }) (before ++ e ∷ [])
     pub logged : IsLogged user (before ++ e ∷ [])
@@ -347,7 +347,7 @@ module _ (setup : Settings) (journal : List Event) (worker session : ℕ) where
         exports = all.5;
       }
 
-  -- and behind an import it goes on
+  -- and after an import it goes on
   pub record IsImported (s : State) (user : Name) (before : List Event) (e : Event) : Type 0 where
     pub at : At setup worker session (record s { asked = s.asked + 1; imported = true }) (before ++ e ∷ [])
     pub logged : IsLogged user (before ++ e ∷ [])

@@ -157,7 +157,7 @@ abandon_permitted setup journal worker session s before e at comes own phase few
 
 -- ---- what becomes of the session
 
--- behind a request with this ask and this decision
+-- after a request with this ask and this decision
 pub request_on : (setup : Settings) (journal : List Event) (worker session : ℕ) (s next : State) (before : List Event)
     (e : Event) (ask : Ask) (d : Decision) → At setup worker session s before → Comes setup journal before e
     → e.worker ≡ worker → e.ask ≡ ask → e.decision ≡ d → came_by_frame ask ≡ true → after s (event_as e ask d) ≡ next

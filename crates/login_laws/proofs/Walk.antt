@@ -66,7 +66,7 @@ pub record Comes (setup : Settings) (journal before : List Event) (e : Event) : 
 abbrev pub start : State
 start = record { phase = Pre; asked = 0; tried = 0; greeted = false; imported = false }
 
--- behind its opening
+-- after its opening
 pub begun : (setup : Settings) (journal before : List Event) (e : Event) → IsLegal setup before
     → Comes setup journal before e → opens e ≡ true → At setup e.worker e.session start (before ++ e ∷ [])
 begun setup journal before e legal comes opened =
@@ -94,7 +94,7 @@ own_session setup journal worker session s before e at comes own request =
     session_own before e (next_session setup before e comes.next) comes.kept (no_opening e request)
     ∙ ap (open_session_of before) own ∙ at.opened
 
--- behind a request of its own
+-- after a request of its own
 pub goes_on : (setup : Settings) (journal : List Event) (worker session : ℕ) (s : State) (before : List Event)
     (e : Event) → At setup worker session s before → Comes setup journal before e → e.worker ≡ worker
     → came_by_frame e.ask ≡ true → At setup worker session (after s e) (before ++ e ∷ [])
@@ -125,7 +125,7 @@ not_own setup journal worker session s before e at comes other same =
     not_of_other before e worker (legal_numbered setup before at.legal) (legal_apart setup before at.legal)
     (next_session setup before e comes.next) comes.kept apart has_one (same ∙ sym at.opened)
 
--- behind an event of another worker
+-- after an event of another worker
 pub stays : (setup : Settings) (journal : List Event) (worker session : ℕ) (s : State) (before : List Event) (e : Event)
     → Comes setup journal before e → e.worker ≢ worker → At setup worker session s before
     → At setup worker session s (before ++ e ∷ [])
@@ -152,7 +152,7 @@ place_of before e = record { before = before; event = e }
 abbrev pub places_behind : ℕ → List Event → List Event → List Place
 places_behind worker before events = filter (λ place. place.event.worker == worker) (places_after before events)
 
--- a journal begins so, and these are the worker's places behind that
+-- a journal begins so, and these are the worker's places after that
 pub record Stands (journal : List Event) (worker : ℕ) (before : List Event) (places : List Place) : Type 0 where
   pub rest : List Event
   pub parts : journal ≡ before ++ rest

@@ -12,7 +12,7 @@ use std::test::Fail as Fault;
 use std::thread::Threads;
 
 /// A call that fails, how many bytes it sent, how many lines of the whole login's log stand, the
-/// lines behind these, and the status.
+/// lines after these, and the status.
 struct Case {
     fail: (CallKind, u32, usize),
     lines: usize,
@@ -106,7 +106,7 @@ fn fail_once<R: Threads + Wait + Sync>(
     come(rt, alloc, &play, 1)
 }
 
-/// So many lines of the whole login's log, and what stands behind these.
+/// So many lines of the whole login's log, and what stands after these.
 fn log_of(alloc: Global, lines: usize, behind: &str) -> Result<Vec<u8>, AllocError> {
     let mut log = Vec::new(alloc);
     for text in LOG.lines().take(lines) {
@@ -259,7 +259,7 @@ fn is_legal(setup: &Setup, journal: &[Event]) -> bool {
     is_legal
 }
 
-/// What a post holds open behind these acts: children that weren't given back, and connections that
+/// What a post holds open after these acts: children that weren't given back, and connections that
 /// weren't hung up.
 fn left_open(acts: &[Act]) -> (u32, u32) {
     let mut children = 0_u32;

@@ -43,7 +43,7 @@ pub(super) const LOG: &str = "1 w0 s1 open permit
 21 w0 s1 end finished permit
 ";
 
-/// What stands in bob's file behind a run.
+/// What stands in bob's file after a run.
 pub(super) fn holds(posts: &[MemPost], want: &[u8]) -> Result<bool, Fault> {
     let name = notes()?;
     let Some(post) = posts.first() else {

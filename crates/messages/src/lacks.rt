@@ -8,9 +8,9 @@ use std::fs;
 use std::fs::File;
 use std::rt::Files;
 
-/// Says on standard error, where the words are those of `check` and the setup is right (`status` is 0),
-/// which of its vault, its launcher and its socket's folder isn't there, in a line each. A setup that is no
-/// file, as a pipe, can't be read a second time, and so nothing is said of it.
+/// Says on standard error which of a setup's vault, launcher and socket's folder isn't there, in a line
+/// each, where the arguments are those of `check` and the setup is right (`status` is 0). A setup that is no
+/// file, such as a pipe, can't be read a second time, and so nothing is said of it.
 pub fn say_lacks<R: Files<File = File> + Eprint + Drop>(
     rt: &R,
     alloc: Global,

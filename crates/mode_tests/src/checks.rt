@@ -41,7 +41,7 @@ password = \"7965e05436f5029f\"";
 /// The most bytes of a setup's file.
 const LONGEST: usize = 8_388_608;
 
-/// The setup with another text at the line of a place, if there is one, and with newlines behind it
+/// The setup with another text at the line of a place, if there is one, and with newlines after it
 /// up to a length.
 fn setup_with(alloc: Global, place: usize, text: &str, len: usize) -> Result<Vec<u8>, AllocError> {
     let mut bytes = Vec::new(alloc);
@@ -56,7 +56,7 @@ fn setup_with(alloc: Global, place: usize, text: &str, len: usize) -> Result<Vec
     Ok(bytes)
 }
 
-/// A first line, and so many lines of the plain word list behind it.
+/// A first line, and so many lines of the plain word list after it.
 fn list_with(alloc: Global, first: &str, lines: u16) -> Result<Vec<u8>, AllocError> {
     let mut text = Vec::from_slice(alloc, first.as_bytes())?;
     for i in 0..lines {

@@ -55,7 +55,7 @@ fn numbers_in(command: &ChildCommand) -> (u32, u32) {
     }
 }
 
-/// Whether the words of a line, behind the numbers that they name, are read so.
+/// Whether the words of a line, after the numbers that they name, are read so.
 fn reads(alloc: Global, line: &str) -> Result<bool, Fault> {
     let (session, rest) = line.split_once(' ').ok_or("a session")?;
     let (uid, words) = rest.split_once(' ').ok_or("a user")?;

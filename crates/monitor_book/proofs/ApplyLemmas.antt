@@ -44,7 +44,7 @@ event_few book worker kept asked = omega (arith, event_room book worker kept ask
 pub settle_room : (book : BookParts) (worker : ℕ) (opening : Bool) → IsBook book → IsAsked book.core book.journal worker → HasRoom book.core opening
 settle_room book worker opening kept asked = core_room book.core book.journal book.lost opening kept.history (event_room book worker kept asked)
 
--- nothing is written behind a lost event
+-- nothing is written after a lost event
 pub writes_nothing : (before : Bool) (line : List ℕ) (held : Option (List ℕ)) (faults : ℕ) → before ≡ true → WritesLine before before line held held faults faults
 writes_nothing before line held faults lost = record {
   again = λ h. (lost, refl, refl);
@@ -86,7 +86,7 @@ line_is book worker ask event number len out rest kept none is counted long writ
     let front : take len out ≡ line_of number event = ap (λ n. take n out) long ∙ ap (λ xs. take (length (line_of number event)) xs) written ∙ take-append_seam (line_of number event) rest in
     front ∙ ap (λ n. line_of n event) counted ∙ ap (line_of (length book.journal + 1)) (event_is book worker ask event kept none is)
 
--- the book behind the event
+-- the book after the event
 pub book_push : (book : BookParts) (new : CoreParts) (lost : Bool) (worker : ℕ) (ask : Ask) (e : Event) (held : Option (List ℕ)) (faults : ℕ) → IsBook book → IsAsked book.core book.journal worker → is_proper ask ≡ true → (book.lost ≡ false → IsTyped (next_event (setup_of book.core) book.journal worker ask)) → WritesLine book.lost lost (line_of (length book.journal + 1) (next_event (setup_of book.core) book.journal worker ask)) book.held held book.faults faults → KeepsSetup book.core new → Settles lost worker ask book.core new e → IsBook (book_parts new (book.journal ++ e ∷ []) lost book.held_first held book.faults_first faults)
 book_push book new lost worker ask e held faults kept asked proper typed line same settled =
     let stays : book.lost ≡ true → lost ≡ true = λ h. (line.again h).0 in

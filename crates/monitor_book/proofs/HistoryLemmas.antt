@@ -106,7 +106,7 @@ entered core new journal before true worker ask e history stays settled = entere
 entered core new journal true false worker ask e history stays settled = absurd (false≢true (stays refl))
 entered core new journal false false worker ask e history stays settled = entered_kept core new journal worker ask e history.known history settled
 
--- the book behind the event
+-- the book after the event
 pub history_push : (core new : CoreParts) (journal : List Event) (before lost : Bool) (worker : ℕ) (ask : Ask) (e : Event) → IsHistory core journal before → (before ≡ true → lost ≡ true) → IsEntered core new journal lost worker ask e → setup_of new ≡ setup_of core → new.ledger.cap ≡ core.ledger.cap → is_proper ask ≡ true → worker < (setup_of core).workers → length (replies_of worker_of worker journal) < quota_of (setup_of core) → (before ≡ false → IsTyped (next_event (setup_of core) journal worker ask)) → IsHistory new (journal ++ e ∷ []) lost
 history_push core new journal before lost worker ask e history stays entered setup cap proper low left typed =
     let below : e.worker < (setup_of core).workers = subst (λ n. n < (setup_of core).workers) (sym entered.its) low in

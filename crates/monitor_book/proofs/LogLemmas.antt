@@ -43,7 +43,7 @@ find_none (e ∷ es) h = go (is_lost e.decision) h (find_none es) where
   go true h rest = absurd cc
   go false h rest = rest h
 
--- the lines of events and of one behind them
+-- the lines of events and of one after them
 lines_after-push : (count : ℕ) (events : List Event) (e : Event) → lines_after count (events ++ e ∷ []) ≡ lines_after count events ++ line_of (count + length events + 1) e
 lines_after-push count [] e = append-nil (line_of (count + 1) e) ∙ ap (λ n. line_of n e) (omega arith)
 lines_after-push count (x ∷ xs) e =
@@ -139,7 +139,7 @@ again_held setup journal e first held some lost lines =
       );
     }
 
--- a lost event behind another: the log stays
+-- a lost event after another: the log stays
 pub logs_again : (setup : Settings) (journal : List Event) (e : Event) (held : Option (List ℕ)) → has_lost journal ≡ true → is_lost e.decision ≡ true → GoesOn setup journal (journal ++ e ∷ []) held held
 logs_again setup journal e held some lost = λ first before. go first held before where
   go : (first held : Option (List ℕ)) → LogMatches setup journal first held → LogMatches setup (journal ++ e ∷ []) first held

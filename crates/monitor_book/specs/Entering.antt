@@ -7,7 +7,7 @@ use Rattle.policy_model.specs.Legal.{event_with, next_event}
 use Rattle.session_core.specs.Parts.{CoreParts, setup_of}
 use Rattle.session_core.specs.Standing.{Stands}
 
--- an event is the policy's and the core stands behind it; or it is lost and the core is as it was
+-- an event is the policy's and the core stands after it; or it is lost and the core is as it was
 pub record Settles (lost : Bool) (worker : ℕ) (ask : Ask) (old new : CoreParts) (e : Event) : Type 0 where
   pub next : lost ≡ false → (journal : List Event) → Stands old journal → e ≡ next_event (setup_of old) journal worker ask
   pub stands : lost ≡ false → (journal : List Event) → Stands old journal → Stands new (journal ++ e ∷ [])

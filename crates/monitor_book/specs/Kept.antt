@@ -15,7 +15,7 @@ use Rattle.session_core.specs.Standing.{Stands}
 use Rattle.turn_cell.specs.Facts.{IsWithin}
 use Rattle.monitor_book.specs.Lines.{LogMatches, decided_in}
 
--- the line that a lost event would have had behind those that were kept, where there is one
+-- the line that a lost event would have had after those that were kept, where there is one
 abbrev pub lost_line_of : Settings → List Event → Option Event → List ℕ
 lost_line_of setup kept lost = option_map_or (λ e. line_of (length kept + 1) (next_event setup kept e.worker e.ask)) lost []
 
@@ -58,7 +58,7 @@ pub record IsHistory (core : CoreParts) (journal : List Event) (lost : Bool) : T
   pub typed : AllByRecursion IsTyped (decided_in (setup_of core) journal)
   pub sessions : events_max (setup_of core) ≤ core.ledger.cap
 
--- the log has the journal's lines behind what it held at first, and an event was lost exactly by a fault of the log
+-- the log has the journal's lines after what it held at first, and an event was lost exactly by a fault of the log
 pub record IsLogged (setup : Settings) (journal : List Event) (held_first held : Option (List ℕ)) (faults_first faults : ℕ) : Type 0 where
   pub lines : LogMatches setup journal held_first held
   pub rose : has_lost journal ≡ true → Rose faults_first faults

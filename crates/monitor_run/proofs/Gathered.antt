@@ -227,7 +227,7 @@ module _ {W P : Type 0} (service : Service) (place : CellFacts (Option Opened)) 
         stands = get_or_default new j b d j_new;
       }
 
-  -- the passes are those that the cell wants back
+  -- the passes are those that the cell needs back
   pub passes_back : AreAllPasses place (reverse (map pass new)) × All OwnsAll (reverse (map pass new))
   passes_back = all_back service.setup place (reverse (map pass new)) are each where
     long : length (reverse (map pass new)) ≡ length old

@@ -91,7 +91,7 @@ fn book_of<K: Sink>(alloc: Global, setup: &Setup, log: K) -> Result<Book<K>, K>
     }
 }
 
-/// The log of a book that isn't wanted.
+/// The log of a book that isn't needed.
 fn log_of<K: Sink>(book: Book<K>) -> K
     ensures held { K.held result ≡ book.held }
     ensures faults { K.faults result ≡ book.faults }

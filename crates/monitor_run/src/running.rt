@@ -21,7 +21,7 @@ use std::thread::Threads;
 
 /// What a run came to.
 pub struct Ran<P, K> {
-    /// What is known behind the last event.
+    /// What is known after the last event.
     pub core: Core,
     /// All events, in the order in which they were decided.
     pub journal: Vec<Event>,

@@ -64,7 +64,7 @@ not_plain dictionary form text front rest is =
     let more = has_part rest in
     subst (λ (ps : List (List ℕ)). IsPlain dictionary form ps (Err faults.Parts)) (sym (is ∙ ap (λ (ps : List (List ℕ)). front ∷ ps) more.2)) refl
 
--- what is read behind a word that names a kind is read of the text
+-- what is read after a word that names a kind is read of the text
 pub reading_by : (dictionary : List (List ℕ)) (text word rest : List ℕ) (kind : Option Kind) (result : Result Response ResponseFault) → parts_of text ≡ word ∷ parts_of rest → kind_of word ≡ kind → IsReadingBy dictionary kind (parts_of rest) result → IsReading dictionary (parts_of text) result
 reading_by dictionary text word rest kind result is named read =
     let more = has_part rest in

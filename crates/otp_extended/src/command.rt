@@ -1,4 +1,4 @@
-//! The words and the line of the mode `renew`.
+//! The command line of the mode `renew`, and the line that it sends.
 
 ghost use Rattle.std.specs.Prelude.{◌≡◌, ◌∷◌, ◌++◌, [], IfOk, codes, map, option_map};
 ghost use Rattle.std.specs.Fmt.{decimal};
@@ -20,8 +20,8 @@ pub struct RenewCommand<'a> {
     pub log: Option<&'a str>,
 }
 
-/// Reads the words of a command line: the mode's word, and those behind it. `None` exactly where they
-/// are neither `renew SETUP NAME` nor `renew SETUP NAME LOG`, where `NAME` is a user's name.
+/// Reads a command line: the mode's name, and the arguments after it. `None` exactly where it is
+/// neither `renew SETUP NAME` nor `renew SETUP NAME LOG`, where `NAME` is a user's name.
 pub fn read_renew_command<'a>(mode: &str, further: &[&'a str]) -> Option<RenewCommand<'a>>
     ensures { option_map command_parts result
         ≡ renew_command (mode.now ∷ map (λ word. word.now) further.now) }

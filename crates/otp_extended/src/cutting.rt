@@ -15,7 +15,7 @@ pub(crate) struct Pieces<'a> {
     pub(crate) rest: &'a [u8],
 }
 
-/// What stands before the first colon, and behind it. `None` where there is no colon.
+/// What stands before the first colon, and after it. `None` where there is no colon.
 pub(crate) fn cut_at_colon(text: &[u8]) -> Option<Pieces<'_>>
     ensures cut { IfSome result (λ pieces. parts_of text.now ≡ pieces.front.now ∷ parts_of pieces.rest.now) }
     ensures whole { result ≡ None → parts_of text.now ≡ text.now ∷ [] }
@@ -34,7 +34,7 @@ fn part_len(text: &[u8]) -> usize
     text.iter().take_while(|byte| **byte != b':').count()
 }
 
-/// What stands before the first run of spaces and tabs, and behind it. `None` where there is none.
+/// What stands before the first run of spaces and tabs, and after it. `None` where there is none.
 pub(crate) fn cut_at_blanks(text: &[u8]) -> Option<Pieces<'_>>
     ensures cut { IfSome result (λ pieces. IsCutAtBlanks text.now pieces.front.now pieces.rest.now) }
     ensures only { (front rest : List ℕ) → IsCutAtBlanks text.now front rest →

@@ -40,7 +40,7 @@ pub enum Response {
 pub enum ResponseFault {
     /// It doesn't begin with a kind's word and a colon.
     Kind,
-    /// Behind that there is not one part, or not three, as the kind has it.
+    /// After that there is not one part, or not three, as the kind has it.
     Parts,
     /// The current password doesn't read.
     Current,
@@ -116,7 +116,7 @@ fn kind_of(word: &[u8]) -> Option<Kind>
     }
 }
 
-/// Reads what stands behind the word of a response with one part.
+/// Reads what stands after the word of a response with one part.
 fn read_plain(dictionary: &Dictionary, form: Form, text: &[u8]) -> Result<Response, ResponseFault>
     ensures plain { IsPlain dictionary.now form (parts_of text.now) result }
     ensures only { (answer : Result Response ResponseFault) →
@@ -142,7 +142,7 @@ fn plain_of(dictionary: &Dictionary, form: Form, text: &[u8]) -> Result<Response
     }
 }
 
-/// Reads what stands behind the word of a response with three parts.
+/// Reads what stands after the word of a response with three parts.
 fn read_init(dictionary: &Dictionary, form: Form, text: &[u8]) -> Result<Response, ResponseFault>
     ensures init { IsInit dictionary.now form (parts_of text.now) result }
     ensures only { (answer : Result Response ResponseFault) →

@@ -81,7 +81,7 @@ below_over xs ys entry low high = record { less = λ i j d lt bound. kept_total.
 pub below_nil : (xs : List Kept) → AreBelow xs []
 below_nil xs = record { less = λ i j d lt bound. absurd (omega arith) }
 
--- a merge underway: the first entries still stand where they stood, and behind the places of those that are left the greatest are merged
+-- a merge underway: the first entries still stand where they stood, and after the places of those that are left the greatest are merged
 pub record IsMerging (settled recent items : List Kept) (end left : ℕ) : Type 0 where
   pub end_within : end ≤ length settled
   pub left_within : left ≤ length recent

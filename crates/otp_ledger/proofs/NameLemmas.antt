@@ -138,7 +138,7 @@ find_insert p names named i alone =
       go true None back alone = refl
       go true (Some x) back alone = absurd (some_no x (alone refl))
 
--- the number of a name, where one more is named behind the others or not
+-- the number of a name, where one more is named after the others or not
 abbrev with_one : Option ℕ → ℕ → Bool → Option ℕ
 with_one (Some n) account named = Some n
 with_one None account named = cond named (Some account) None
@@ -179,7 +179,7 @@ position_or_len-le p (x ∷ xs) = go (p x) (position_or_len-le p xs) where
   go true h = omega arith
   go false h = omega arith
 
--- the first place of a list that one was put behind
+-- the first place of a list that one was put after
 place_push : {X : Type 0} (p : X → Bool) (xs : List X) (x : X) → position p (xs ++ x ∷ []) ≡ with_one (position p xs) (length xs) (p x)
 place_push p xs x = at_length (length-append xs (x ∷ [])) ∙ ap (λ k. cond (nat_lt k (length xs + 1)) (Some k) None) (position_or_len_push p xs x) ∙ go (position_or_len p xs) (length xs) (p x) (position_or_len-le p xs) where
   at_length : length (xs ++ x ∷ []) ≡ length xs + 1 → position p (xs ++ x ∷ []) ≡ cond (nat_lt (position_or_len p (xs ++ x ∷ [])) (length xs + 1)) (Some (position_or_len p (xs ++ x ∷ []))) None

@@ -34,7 +34,7 @@ pub record IsNameGap (names : List Named) (user : Name) (i : ℕ) : Type 0 where
 abbrev pub number_named : List Named → Name → Option ℕ
 number_named names user = option_map (λ e. e.account) (find (λ e. same_name e.name user) names)
 
--- the number of a name, where one more is named behind the others
+-- the number of a name, where one more is named after the others
 abbrev pub number_with : Option ℕ → Named → Name → Option ℕ
 number_with (Some n) named user = Some n
 number_with None named user = if same_name named.name user then Some named.account else None

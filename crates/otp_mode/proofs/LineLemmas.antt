@@ -17,7 +17,7 @@ use Rattle.otp_mode.specs.Lines.{first_line, line_of}
 abbrev pub newline_or_len : List ℕ → ℕ
 newline_or_len xs = position_or_len (λ c. c == 10) xs
 
--- bytes put behind the first ones stand behind them
+-- bytes put after the first ones stand after them
 pub take-joined : (a n : ℕ) (xs ys zs : List ℕ) → a ≤ length xs → n ≤ length ys → take (a + n) (take a xs ++ (ys ++ zs)) ≡ take a xs ++ take n ys
 take-joined a n xs ys zs within short =
     ap (λ k. take (k + n) (take a xs ++ (ys ++ zs))) (sym (length-take-le a xs within)) ∙ take-append-add (take a xs) (ys ++ zs) n ∙ ap (λ w. take a xs ++ w) (take-append-le n ys zs short)
@@ -28,7 +28,7 @@ newline_or_len-append xs ys has =
     let differs : eqb (newline_or_len xs) (length xs) ≡ false = grind arith in
     prefix_len-append (λ c. not (c == 10)) xs ys ∙ rw differs refl
 
--- without one the next may stand only behind
+-- without one the next may stand only after them
 newline_or_len-behind : (xs ys : List ℕ) → length xs ≤ newline_or_len xs → length xs ≤ newline_or_len (xs ++ ys)
 newline_or_len-behind xs ys none =
     let all : newline_or_len xs ≡ length xs = omega (arith, none, prefix_len-le-length (λ c. not (c == 10)) xs) in
@@ -40,7 +40,7 @@ first_line-is xs has =
     let some : nat_lt (newline_or_len xs) (length xs) ≡ true = grind arith in
     rw some refl
 
--- what stands behind a newline doesn't change the first line
+-- what stands after a newline doesn't change the first line
 first_line-append : (xs ys : List ℕ) → newline_or_len xs < length xs → first_line (xs ++ ys) ≡ first_line xs
 first_line-append xs ys has =
     let same = newline_or_len-append xs ys has in

@@ -1,4 +1,4 @@
-//! The words of the mode.
+//! The command line of the mode.
 
 ghost use Rattle.std.specs.Prelude.{◌≡◌, ◌∷◌, map, option_map};
 ghost use Rattle.std.specs.Option.{option_copied};
@@ -21,8 +21,8 @@ pub struct OtpCommand<'a> {
     pub list: Option<&'a str>,
 }
 
-/// Reads the words of a command line: the mode's word, and those behind it. `None` exactly where they
-/// are not `otp ALGO N SEED` or `otp ALGO N SEED WORDS`: `ALGO` is `md5` or `sha1`, `N` one to four
+/// Reads a command line: the mode's name, and the arguments after it. `None` exactly where it is
+/// neither `otp ALGO N SEED` nor `otp ALGO N SEED WORDS`: `ALGO` is `md5` or `sha1`, `N` one to four
 /// decimal digits, and `SEED` 1 to 16 ASCII letters and digits.
 pub fn read_otp_command<'a>(mode: &str, further: &[&'a str]) -> Option<OtpCommand<'a>>
     ensures { option_map command_parts result

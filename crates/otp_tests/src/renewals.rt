@@ -359,7 +359,7 @@ fn outcome_of(
     Ok(outcome_text(alloc, outcome)?)
 }
 
-/// Whether an input, with something behind it, has this outcome.
+/// Whether an input, with something after it, has this outcome.
 fn comes(alloc: Global, setup: &Setup, behind: &[u8], want: &str) -> Result<bool, Fail> {
     let mut input = Vec::from_slice(alloc, INPUT)?;
     input.extend_from_slice(behind)?;
@@ -368,7 +368,7 @@ fn comes(alloc: Global, setup: &Setup, behind: &[u8], want: &str) -> Result<bool
     Ok(whole.as_str() == want && pieces.as_str() == want)
 }
 
-/// What comes of alice's input with these bytes behind it.
+/// What comes of alice's input with these bytes after it.
 const INPUTS: &str = "\
 after|
 after|$
@@ -405,7 +405,7 @@ fn inputs_and_their_renewals(rt: HostRuntime) -> Result<(), Fail> {
     Ok(())
 }
 
-/// Whether alice's input with so many spaces behind it has this outcome.
+/// Whether alice's input with so many spaces after it has this outcome.
 fn blanks_come(alloc: Global, setup: &Setup, len: usize, want: &str) -> Result<bool, Fail> {
     let mut blanks = Vec::new(alloc);
     for _ in 0..len {

@@ -1,4 +1,4 @@
--- Texts written one behind the other.
+-- Texts written one after the other.
 use Rattle.std.proofs.Common.{◌≡◌, ℕ, ◌+◌, ◌-◌, ◌≤◌, List, [], ◌∷◌, ◌++◌, length, take, drop, sym, ap, ◌∙◌, arith, append_assoc, length-append}
 use Rattle.std.proofs.lemmas.List.{take_at, take_rest, drop-drop}
 use lib.Seq.{drop-append-add}
@@ -13,7 +13,7 @@ pub record IsWritten (text before now : List ℕ) (place : ℕ) : Type 0 where
   pub bytes : now ≡ text ++ drop (length text) before
   pub end : place ≡ length text
 
--- bytes written behind a text
+-- bytes written after a text
 pub put_next : (text bytes before now next : List ℕ) (place end : ℕ) → IsWritten text before now place → end ≡ place + length bytes → next ≡ take place now ++ bytes ++ drop (place + length bytes) now → IsWritten (text ++ bytes) before next end
 put_next text bytes before now next place end is ends put =
     let rest : List ℕ = drop (length text) before in

@@ -34,7 +34,7 @@ is_word-upper bytes = rw (list_all-upper bytes) (simp length-map)
 letter_range : (c : ℕ) → is_ascii_uppercase c ≡ true → (65 ≤ c) × (c ≤ 90)
 letter_range c e = (grind (arith, nat_tests), grind (arith, nat_tests))
 
--- a front letter and the letters behind it
+-- a front letter and the letters after it
 letters_parts : (c : ℕ) (cs : List ℕ) → list_all is_ascii_uppercase (c ∷ cs) ≡ true → (65 ≤ c) × (c ≤ 90) × (list_all is_ascii_uppercase cs ≡ true)
 letters_parts c cs e =
     let parts = and_parts (is_ascii_uppercase c) (list_all is_ascii_uppercase cs) e in
@@ -83,7 +83,7 @@ same_digits a b (x ∷ v) (y ∷ w) long bytes_v bytes_w e =
     let tail : v ≡ w = same.1 in
     (front, cc)
 
--- behind zeros the same letters begin
+-- after zeros the same letters begin
 same_behind_zeros : (n m : ℕ) (v w : List ℕ) → 1 ≤ length v → 1 ≤ length w → list_all is_ascii_uppercase v ≡ true → list_all is_ascii_uppercase w ≡ true → replicate n 0 ++ v ≡ replicate m 0 ++ w → v ≡ w
 same_behind_zeros zero zero v w some_v some_w legal_v legal_w e = e
 same_behind_zeros (suc n) (suc m) v w some_v some_w legal_v legal_w e =

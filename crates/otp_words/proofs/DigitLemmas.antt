@@ -6,7 +6,7 @@ use Rattle.std.proofs.Math.Nat.{mod-eq_of_lt, mod-one, mul-le-mul_right}
 use Rattle.std.proofs.Math.Pow.{pow_mono}
 use Rattle.otp_words.specs.Digits.{digits_of, number_of}
 
--- the digits behind a number
+-- the digits after a number
 fold-digits_of : (width count n front : ℕ) → fold (λ number digit. number * 2 ^ width + digit) front (digits_of width count n) ≡ front * 2 ^ (width * count) + n % 2 ^ (width * count)
 fold-digits_of width zero n front =
     let none : width * 0 ≡ 0 = omega arith in

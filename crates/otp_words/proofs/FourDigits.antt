@@ -6,7 +6,7 @@ use Rattle.std.proofs.lemmas.Bool.Decides.{nat_tests}
 use Rattle.std.proofs.lemmas.Fmt.{decimal_digit, decimal_step}
 use Rattle.otp_words.specs.Inner.{four_digits, leading_zeros}
 
--- the digits behind the leading zeros
+-- the digits after the leading zeros
 abbrev pub short_digits : ℕ → List ℕ
 short_digits n = drop (leading_zeros n) (four_digits n)
 

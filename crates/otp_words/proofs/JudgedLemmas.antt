@@ -17,7 +17,7 @@ abbrev pub refused_or : Option DictRule → ℕ → Result (List (List ℕ)) Dic
 refused_or None number next = next
 refused_or (Some rule) number next = Err (fault_at number rule)
 
--- the words of lines, or their first fault, behind the words of the lines before
+-- the words of lines, or their first fault, after the words of the lines before
 abbrev pub walked : List (List ℕ) → List (List ℕ) → Result (List (List ℕ)) DictFault
 walked earlier [] = if length earlier == 2048 then Ok earlier else Err (fault_at (length earlier) rules_of.Count)
 walked earlier (line ∷ rest) = refused_or (rule_of earlier line) (length earlier + 1) (walked (earlier ++ str_to_ascii_uppercase line ∷ []) rest)
@@ -27,12 +27,12 @@ judged_case : (all : List (List ℕ)) (number : ℕ) (rule : Option DictRule) (f
 judged_case all number None faults next e = e
 judged_case all number (Some rule) faults next e = refl
 
--- the fault of the line behind others
+-- the fault of the line after others
 fault_here : (earlier : List (List ℕ)) (line : List ℕ) (rest : List (List ℕ)) → option_map (fault_at (length (map str_to_ascii_uppercase earlier) + 1)) (rule_of (map str_to_ascii_uppercase earlier) line) ≡ fault_of (earlier ++ line ∷ rest) (length earlier)
 fault_here earlier line rest =
     rw (length-map earlier str_to_ascii_uppercase, take_at earlier (line ∷ rest) (length earlier) refl, get_or-append_seam earlier line rest []) refl
 
--- the lines from one on are judged behind the words of those before
+-- the lines from one on are judged after the words of those before
 walked_all : (earlier rest : List (List ℕ)) → walked (map str_to_ascii_uppercase earlier) rest ≡ judged (earlier ++ rest) (filter_map (fault_of (earlier ++ rest)) (range_with_len (length earlier) (length rest)))
 walked_all earlier [] = rw (append-nil earlier, length-map earlier str_to_ascii_uppercase) refl
 walked_all earlier (line ∷ rest) =

@@ -86,7 +86,7 @@ get_left [] ys i lt = absurd (omega arith)
 get_left (x ∷ xs) ys zero lt = refl
 get_left (x ∷ xs) ys (suc i) lt = get_left xs ys i (omega arith)
 
--- the element behind the front
+-- the element after the front
 get_last : (xs : List (List ℕ)) (y : List ℕ) (i : ℕ) → i ≡ length xs → slice_get (xs ++ y ∷ []) i ≡ Some y
 get_last [] y zero e = refl
 get_last [] y (suc i) e = absurd (omega arith)
@@ -212,7 +212,7 @@ first_line text within =
     ap lines_of_parts (slice_split_first (λ b. b == 10) text 0 within)
     ∙ line_of_part _ (slice_split (λ b. b == 10) (drop (prefix_len (λ b. not (b == 10)) text + 1) text)) (omega (arith, length-slice_split (λ b. b == 10) (drop (prefix_len (λ b. not (b == 10)) text + 1) text)))
 
--- a word put behind others
+-- a word put after others
 pub added_words : (before after : List (FixedList 4)) (added : FixedList 4) (word : List ℕ) → after ≡ before ++ added ∷ [] → list_of added ≡ word → map list_of after ≡ map list_of before ++ word ∷ []
 added_words before after added word e same =
     ap (λ (x : List (FixedList 4)). map list_of x) e ∙ map-append list_of before (added ∷ []) ∙ ap (λ (w : List ℕ). map list_of before ++ w ∷ []) same

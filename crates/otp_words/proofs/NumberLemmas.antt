@@ -1,4 +1,4 @@
--- The number that words stand for, one word behind the other.
+-- The number that words stand for, one word after the other.
 use Rattle.std.proofs.Common.{◌≡◌, ℕ, suc, ◌+◌, ◌-◌, ◌*◌, ◌^◌, ◌<◌, ◌≤◌, Bool, true, false, List, [], ◌∷◌, ◌++◌, length, refl, sym, ap, subst, ◌∙◌, arith, Option, Some, None}
 use Rattle.std.specs.Prelude.{slice_get, fold, IfSome, ◌==◌, ◌/◌, sum}
 use Rattle.std.proofs.Common.{eq-eqb}
@@ -27,11 +27,11 @@ no_length n some e = grind (arith, nat_tests)
 pub some_length : (n : ℕ) → false ≡ (n == 0) → 1 ≤ n
 some_length n e = grind (arith, nat_tests)
 
--- the number of some words behind the words that another stands for
+-- the number of some words after the words that another stands for
 abbrev pub number_from : ℕ → List ℕ → ℕ
 number_from front places = fold (λ number digit. number * 2 ^ 11 + digit) front places
 
--- a number that so many words of a text stand for, behind others
+-- a number that so many words of a text stand for, after others
 abbrev pub IsNumberOf : List (List ℕ) → List ℕ → ℕ → ℕ → ℕ → Type 0
 IsNumberOf words text count front n = (places : List ℕ) × (length places ≡ count) × IsWords words places text × (n ≡ number_from front places)
 
@@ -73,7 +73,7 @@ number_grows count front place some few small below =
     let more : 6 - (count - 1) ≡ (6 - count) + 1 = omega arith in
     rw more (number_more 11 (6 - count) front place small below)
 
--- the words behind the first are read
+-- the words after the first are read
 pub more_only : (words : List (List ℕ)) (text places : List ℕ) (count front place : ℕ) (found r : Option ℕ) → IsDictionary words → (count ≡ 1 → ⊥) → length places ≡ count → IsWords words places text → ((i : ℕ) → slice_get words i ≡ Some (str_to_ascii_uppercase (front_of text)) → found ≡ Some i) → found ≡ Some place → ((others : List ℕ) → length others ≡ count - 1 → IsWords words others (behind_gap (behind text)) → r ≡ Some (number_from (front * 2048 + place) others)) → r ≡ Some (number_from front places)
 more_only words text [] count front place found r dictionary several long is only at rest = absurd is
 more_only words text (i ∷ []) count front place found r dictionary several long is only at rest = absurd (several (sym long))

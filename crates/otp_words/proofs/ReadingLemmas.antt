@@ -89,7 +89,7 @@ parts_found text behind gap digits second name rest unread seed algo n close use
   all_used = all;
 }
 
--- the pieces of a text that begins with a challenge, cut behind the word that was found
+-- the pieces of a text that begins with a challenge, cut after the word that was found
 pub parts_only : (text word gap digits second name rest : List ℕ) (algo there : Algo) (n : ℕ) (seed : List ℕ) (used : ℕ) (found : Option Algo) (is : BeginsWithChallenge text algo n seed used) → ((algo : Algo) (rest : List ℕ) → text ≡ challenge_word algo ++ rest → found ≡ Some algo) → found ≡ Some there → word ≡ challenge_word there → ArePieces (take (length text - length word) (drop (length word) text)) gap digits second name rest → (there ≡ algo) × (gap ≡ is.gap) × (digits ≡ is.digits) × (second ≡ is.second_gap) × (name ≡ is.name) × (rest ≡ is.close ∷ is.unread)
 parts_only text word gap digits second name rest algo there n seed used found is only at word_is parts =
     let some : Some there ≡ Some algo = sym at ∙ only algo _ is.spelled in

@@ -32,7 +32,7 @@ behind_more p x xs n true here rest =
     rw more rest
 behind_more p x xs n false here rest = rw here refl
 
--- nothing passes behind the longest front that does
+-- nothing passes after the longest front that does
 prefix_len-behind : (p : ℕ → Bool) (xs : List ℕ) → prefix_len p (drop (prefix_len p xs) xs) ≡ 0
 prefix_len-behind p [] = refl
 prefix_len-behind p (x ∷ xs) = behind_more p x xs (prefix_len p xs) (p x) refl (prefix_len-behind p xs)

@@ -1,4 +1,4 @@
--- Words parted by blanks, one behind the other.
+-- Words parted by blanks, one after the other.
 use Rattle.std.proofs.Common.{◌≡◌, ℕ, ◌≤◌, true, false, List, [], ◌∷◌, ◌++◌, length, take, drop, refl, sym, ap, subst, ◌∙◌, arith, ◌&&◌, Some}
 use Rattle.std.specs.Prelude.{slice_get, nat_le}
 use Rattle.std.specs.Char.{is_ascii_alphabetic}
@@ -74,7 +74,7 @@ whole_word words i text dictionary is =
     let all : prefix_len is_no_blank text ≡ length text = ap (λ (t : List ℕ). prefix_len is_no_blank t) (sym (append-nil text)) ∙ prefix_len-exact is_no_blank text [] letters refl in
     (rw all (take-length text), rw all (drop-length text))
 
--- the first of several words, the blanks behind it and the rest
+-- the first of several words, the blanks after it and the rest
 pub first_word : (words : List (List ℕ)) (i j : ℕ) (places text : List ℕ) → IsDictionary words → IsWords words (i ∷ j ∷ places) text → (slice_get words i ≡ Some (str_to_ascii_uppercase (front_of text))) × (1 ≤ length (gap_of (behind text))) × IsWords words (j ∷ places) (behind_gap (behind text))
 first_word words i j places text dictionary is =
     let front = is.0 in

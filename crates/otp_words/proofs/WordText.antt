@@ -61,13 +61,13 @@ spaced_more words word count number some several there =
     ∙ ap (λ (w : List ℕ). w ++ 32 ∷ spaced (words_at words (digits_of 11 (suc k) number))) head
     ∙ ap (λ (n : ℕ). word ++ 32 ∷ spaced (words_at words (digits_of 11 n number))) (sym next)
 
--- a byte put behind bytes
+-- a byte put after bytes
 set-behind : (word out : List ℕ) → length word < length out → slice_set (word ++ drop (length word) out) (length word) 32 ≡ word ++ 32 ∷ drop (suc (length word)) out
 set-behind word [] less = absurd (omega arith)
 set-behind [] (x ∷ out) less = refl
 set-behind (w ∷ word) (x ∷ out) less = ap (λ (t : List ℕ). w ∷ t) (set-behind word out (omega arith))
 
--- what is written behind a front
+-- what is written after a front
 put_behind : (front tail rest new : List ℕ) (a r : ℕ) → length front ≡ a → new ≡ rest ++ drop r (mid_of a (length (front ++ tail) - a) (front ++ tail)) → put_mid a (length (front ++ tail) - a) (front ++ tail) new ≡ front ++ (rest ++ drop r tail)
 put_behind front tail rest new a r long e =
     let left : length (front ++ tail) - a ≡ length tail = omega (arith, long, length-append front tail) in
@@ -79,7 +79,7 @@ put_behind front tail rest new a r long e =
     ∙ ap (λ (x : List ℕ). front ++ (new ++ x)) post
     ∙ ap (λ (x : List ℕ). front ++ x) (append-nil new ∙ e ∙ ap (λ (m : List ℕ). rest ++ drop r m) mid)
 
--- a word, a space and what is written behind them
+-- a word, a space and what is written after them
 pub put_more : (word rest out buffer new : List ℕ) (r : ℕ) → length word < length out → buffer ≡ slice_set (word ++ drop (length word) out) (length word) 32 → new ≡ rest ++ drop r (mid_of (length word + 1) (length buffer - (length word + 1)) buffer) → put_mid (length word + 1) (length buffer - (length word + 1)) buffer new ≡ (word ++ 32 ∷ rest) ++ drop (length word + 1 + r) out
 put_more word rest out buffer new r less is e =
     let tail : List ℕ = drop (suc (length word)) out in

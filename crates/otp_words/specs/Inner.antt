@@ -36,7 +36,7 @@ abbrev pub is_closed : List ℕ → Bool
 is_closed [] = false
 is_closed (c ∷ cs) = is_close c
 
--- the byte at a place of 16 digits in such groups: a space behind each four digits
+-- the byte at a place of 16 digits in such groups: a space after each four digits
 abbrev pub grouped : List ℕ → ℕ → ℕ
 grouped digits place = if place % 5 == 4 then 32 else slice_index digits (place - place / 5)
 

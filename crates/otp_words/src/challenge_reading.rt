@@ -30,7 +30,7 @@ pub struct Challenge {
 #[derive(Clone, Copy, PartialEq, Eq)]
 pub struct Unreadable;
 
-/// The pieces of a text behind the first word of a challenge.
+/// The pieces of a text after the first word of a challenge.
 #[derive(Clone, Copy)]
 struct Parts<'a> {
     gap: &'a [u8],
@@ -88,7 +88,7 @@ fn front_algo(text: &[u8]) -> Option<Algo>
     }
 }
 
-/// Cuts a text behind its blanks, digits, blanks, and letters and digits.
+/// Cuts a text after its blanks, digits, blanks, and letters and digits.
 fn parts_of(text: &[u8]) -> Parts<'_>
     ensures parts { ArePieces text.now result.gap.now result.digits.now result.second_gap.now result.name.now result.rest.now }
     ensures within { length result.rest.now ≤ length text.now }

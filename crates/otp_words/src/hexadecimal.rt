@@ -39,7 +39,7 @@ fn hex_text(password: u64) -> [u8; 19]
     text
 }
 
-/// The byte at a place of digits in groups: a space behind each four digits.
+/// The byte at a place of digits in groups: a space after each four digits.
 fn grouped(digits: &[u8; 16], place: usize) -> u8
     requires { place < 19 }
     ensures { result ≡ grouped digits.now place }

@@ -28,7 +28,7 @@ fn check_bits(password: u64) -> usize
     sum % 4
 }
 
-/// A password and behind it its check bits.
+/// A password and after it its check bits.
 fn checked(password: u64) -> u128
     ensures value { result ≡ checked password }
     ensures below { result < 2 ^ 66 }
@@ -79,7 +79,7 @@ fn put_words(dictionary: &Dictionary, number: u128, count: u32, out: &mut [u8]) 
     end + 1 + put_words(dictionary, number, count - 1, &mut out[end + 1..])
 }
 
-/// The number whose last `count` words a text spells, behind the words that `front` stands for.
+/// The number whose last `count` words a text spells, after the words that `front` stands for.
 fn number_behind(dictionary: &Dictionary, text: &[u8], count: u32, front: u128) -> Option<u128>
     requires some { 1 ≤ count }
     requires few { count ≤ 6 }

@@ -10,7 +10,7 @@ use Rattle.outside.specs.Link.{Link}
 use Rattle.outside.specs.Scene.{CountsAsTold, Did, GivenBack, Played, Scene, counted, is_failed_accept, is_failed_start}
 use Rattle.outside.specs.Told.{Goes, next_count}
 
--- a count behind an act: one more where the act failed
+-- a count after an act: one more where the act failed
 abbrev pub count_behind : Bool → ℕ → ℕ
 count_behind failed count = cond failed (next_count count) count
 
@@ -27,7 +27,7 @@ one_more : (failed : Act → Bool) (acts : List Act) (act : Act) → count_behin
 one_more failed acts act =
     counted_more (failed act) (count_by failed acts) ∙ ap counted (sym (sum_by-append (λ a. cond (failed a) 1 0) acts (act ∷ []) ∙ omega arith))
 
--- what was counted as told before an act is so behind it
+-- what was counted as told before an act is so after it
 counts_played : (act : Act) (talks : List Talk) (unread : List (List ℕ)) (s t : Scene) (f g : Faults) → Played (act ∷ []) talks unread s t → CountsAct act f g → CountsAsTold s f → CountsAsTold t g
 counts_played act talks unread s t f g played counts told = record {
   accept = counts.accept ∙ ap (count_behind (is_failed_accept act)) told.accept ∙ one_more is_failed_accept s.acts act ∙ ap (λ acts. counted (count_by is_failed_accept acts)) (sym played.acts);

@@ -11,7 +11,7 @@ Consumes-then (Some xs) (Some ys) None first second f s = absurd s
 Consumes-then (Some xs) (Some ys) (Some zs) first second f s =
     f ∙ ap (λ w. first ++ w) s ∙ sym (append_assoc first second zs)
 
--- bytes put behind the first ones stand behind them
+-- bytes put after the first ones stand after them
 pub take-joined : (a n : ℕ) (xs ys zs : List ℕ) → a ≤ length xs → n ≤ length ys → take (a + n) (take a xs ++ (ys ++ zs)) ≡ take a xs ++ take n ys
 take-joined a n xs ys zs within short =
     ap (λ k. take (k + n) (take a xs ++ (ys ++ zs))) (sym (length-take-le a xs within)) ∙ take-append-add (take a xs) (ys ++ zs) n ∙ ap (λ w. take a xs ++ w) (take-append-le n ys zs short)

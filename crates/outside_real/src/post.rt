@@ -135,7 +135,7 @@ impl<
         Ok(Some(conn))
     }
 
-    /// Starts a child by the launcher, with the words of its role. With a user's child the time for the
+    /// Starts a child by the launcher, with the arguments of its role. With a user's child the time for the
     /// whole of a session begins to count, in place of the time for a login.
     fn start(&mut self, role: &Role) -> Result<RealStream<R>, Failed>
         ensures role { IfOk result (λ child. role_of child ≡ role.now) }
@@ -166,7 +166,7 @@ impl<
     }
 
     /// Closes the connection. The client sees the end of input, also where it had sent something that
-    /// nobody wanted.
+    /// nobody read.
     fn hang_up(&mut self, conn: UnixStream)
         ensures counts { CountNothing (faults_of self.old) (faults_of self.new) }
         ensures kept { NoneFell (faults_of self.old) (faults_of self.new) }

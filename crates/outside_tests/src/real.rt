@@ -88,7 +88,7 @@ fn comes<T: Read>(alloc: Global, from: &mut T, want: &[u8]) -> io::Result<bool> 
     Ok(got.as_slice() == want)
 }
 
-/// Whether a post greets a client that sent it what nobody wanted.
+/// Whether a post greets a client that sent it what nobody reads.
 fn greets<P: Post, N: Net>(
     net: &N,
     alloc: Global,

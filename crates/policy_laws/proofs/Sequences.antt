@@ -243,7 +243,7 @@ not_zero_from a b lt = grind (arith, nat_tests)
 below_from : (value : ℕ) → value < DECOYS_FROM → nat_lt value DECOYS_FROM ≡ true
 below_from value lt = grind (arith, nat_tests)
 
--- while a session holds a user the user can log in, so each permitted CHALLENGE for the user behind the session's own isn't a decoy
+-- while a session holds a user the user can log in, so each permitted CHALLENGE for the user after the session's own isn't a decoy
 still_reserves : (setup : Settings) (journal : List Event) → IsLegal setup journal → (user : Name) (p m k : ℕ) (d : Event) → p ≤ m → m < k → k < length journal → reserves user (get_or journal p d) ≡ true → ((account : Account) → account_of setup user ≡ Some account → length (replies_of (take k journal) user) < account.sequence) → takes_user user (get_or journal m d) ≡ true → reserves user (get_or journal m d) ≡ true
 still_reserves setup journal legal user p m k d pm mk kn reserved left is =
     let t = taken_challenge setup (take p journal) (get_or journal p d) user (legal p d (omega arith)) reserved in

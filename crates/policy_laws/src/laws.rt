@@ -24,7 +24,7 @@ pub fn one_taker_at_a_time()
     ensures { (setup : Settings) (journal : List Event) → IsLegal setup journal → OneTakerAtATime setup journal }
 {}
 
-/// A session exports a user's state only behind its own accepted reply for that user.
+/// A session exports a user's state only after its own accepted reply for that user.
 pub fn verified_before_export()
     ensures { (setup : Settings) (journal : List Event) → IsLegal setup journal → VerifiedBeforeExport setup journal }
 {}

@@ -9,7 +9,7 @@ use Rattle.policy_model.specs.Handles.{live_handles_of, live_opens, handle_openi
 use Rattle.policy_model.specs.Journal.{events_of, is_own}
 use Rattle.policy_model.proofs.Lists.{list_any-filter}
 
--- an event opened a handle that no event behind it closes
+-- an event opened a handle that no event after it closes
 abbrev pub is_live : ℕ → Event → List Event → Bool
 is_live session e behind = is_own session opens_file e && not (list_any (is_own session (closes_file (handle_of e))) behind)
 

@@ -107,7 +107,7 @@ last_or-some a (x ∷ xs) = let h = last_or-some x xs in h ∙ ap Some (sym (ap 
 pub current_password-is : (journal : List Event) (account : Account) → current_password journal account ≡ unwrap_or (last_or None (replies_of journal account.name)) account.password
 current_password-is journal account = ap (λ o. unwrap_or o 0) (last_or-some account.password (replies_of journal account.name))
 
--- what stands behind the last that passes, of one more element
+-- what stands after the last that passes, of one more element
 suffix_len-push : {X : Type 0} (q : X → Bool) (xs : List X) (x : X) → suffix_len q (xs ++ x ∷ []) ≡ cond (q x) (1 + suffix_len q xs) 0
 suffix_len-push q xs x = ap (prefix_len q) (reverse-append xs (x ∷ []))
 

@@ -21,7 +21,7 @@ fn is_closed(events: &[Event], session: u32, handle: u64) -> bool
         .any(|e| e.session == session && e.closes_file(handle))
 }
 
-/// Whether an event opened a handle of the session that no event behind it closes.
+/// Whether an event opened a handle of the session that no event after it closes.
 fn is_live(event: &Event, behind: &[Event], session: u32) -> bool
     ensures { result ≡ (is_own session opens_file event.now && not (list_any (is_own session (closes_file (handle_of event.now))) behind.now)) }
 {

@@ -13,7 +13,7 @@ pub fn is_other(session: u32, holder: Option<u32>) -> bool
     }
 }
 
-/// Whether `now` is less than `hold` milliseconds behind a moment, or before it.
+/// Whether `now` is less than `hold` milliseconds after a moment, or before it.
 pub fn is_within(now: u64, moment: u64, hold: u32) -> bool
     ensures { result ≡ nat_lt now (moment + hold) }
 {

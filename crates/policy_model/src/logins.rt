@@ -59,7 +59,7 @@ pub fn verified_user(journal: &[Event], session: u32) -> Option<Name>
     user
 }
 
-/// The last taking of a user, and whether its session gave the user up behind it.
+/// The last taking of a user, and whether its session gave the user up after it.
 #[derive(Clone, Copy)]
 struct Hold {
     taking: Option<Event>,

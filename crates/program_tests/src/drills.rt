@@ -74,7 +74,7 @@ fn drills_come_to_their_counts(rt: HostRuntime) -> Result<(), Fail> {
     Ok(())
 }
 
-/// Whether a word behind the mode's names the drill of a number.
+/// Whether the argument after the mode's name stands for the drill of this number.
 fn reads(word: &str, n: u32) -> bool {
     read_drill_command("drill", &[word]) == Some(n)
 }

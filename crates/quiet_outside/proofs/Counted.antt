@@ -11,7 +11,7 @@ pub told_did : (act : Act) (before after : Option Scene) → is_failed_accept ac
 told_did act before after accept start did told =
     counts_did act before after no_faults no_faults did (record { accept = ap (λ failed. count_behind failed 0) (sym accept); keeper = ap (λ failed. count_behind failed 0) (sym start) }) told
 
--- by an act that didn't fail, or none for want of room
+-- by an act that didn't fail, or none for lack of room
 pub told_did_if : (act : Option Act) (plan : List (List ℕ × List ℕ)) (old new : Transcript) → IfSome act (λ a. is_failed_accept a ≡ false) → IfSome act (λ a. is_failed_start a ≡ false)
     → IfSome act (λ a. (plan : List (List ℕ × List ℕ)) → Did a (scene_with old plan) (scene_with new plan)) → (act ≡ None → (plan : List (List ℕ × List ℕ)) → scene_with new plan ≡ None)
     → IfSome (scene_with old plan) (λ s. CountsAsTold s no_faults) → IfSome (scene_with new plan) (λ s. CountsAsTold s no_faults)

@@ -120,7 +120,7 @@ impl<R: Files<File = File>> FileDisk<R> {
         outcome
     }
 
-    /// Puts the file back behind a call that succeeded or not. It stays locked.
+    /// Puts the file back after a call that succeeded or not. It stays locked.
     fn put_back(&mut self, file: File, succeeded: bool)
         ensures faults { faults_of self.new ≡ faults_of self.old }
         ensures failed { has_failed self.new ≡ not succeeded }

@@ -67,7 +67,7 @@ IsFileError-setup contents name R setup_errors.OutOfMemory why = tt
 IsFileError-setup contents name R setup_errors.Missing why = why
 IsFileError-setup contents name R (setup_errors.Refused fault) why = why
 
--- an error of the log's file, behind the setup's
+-- an error of the log's file, after the setup's
 pub IsFileError-log : (contents : Option Contents) (name : List ℕ) (first between last : ℕ) (error : FrontError) → first ≤ between → (error ≡ front_errors.Failed → Rose between last) → IsFileError contents name (Rose first last) (error_of_front error)
 IsFileError-log contents name first between last front_errors.Failed le why = Rose-within first between last last le (why refl) (omega arith)
 IsFileError-log contents name first between last front_errors.OutOfMemory le why = tt

@@ -35,7 +35,7 @@ MayBeWritten-second texts = Goes-then (Replaced texts.setup texts.bytes.items) (
   go a b c first (inl same) = inr (inl (record { file = same.same texts.setup ∙ first.file; others = λ other ne. same.same other ∙ first.others other ne }))
   go a b c first (inr second) = inr (inr (both-written texts a b c first second))
 
--- ---- behind files that stayed as they were
+-- ---- after files that stayed as they were
 
 pub same-written : (texts : Texts) (a b c : Option Contents) → Goes SameFiles a b → Goes (AreWritten texts) b c → Goes (AreWritten texts) a c
 same-written texts = Goes-then SameFiles (AreWritten texts) (AreWritten texts) (λ a b c first second. record {

@@ -49,7 +49,7 @@ pub record IsRefused (setup : Settings) (image : List ℕ) (number : ℕ) : Type
   pub told : error_of_log error ≡ errors.LogRefused number
   pub fault : IsLogFault setup image number
 
--- why nothing is written of a setup and an image: the log is refused, or memory was wanted
+-- why nothing is written of a setup and an image: the log is refused, or out of memory
 abbrev pub IsLogError : Settings → List ℕ → RecoveryError → Type 0
 IsLogError setup image (errors.LogRefused number) = IsRefused setup image number
 IsLogError setup image errors.OutOfMemory = Unit {0}

@@ -1,4 +1,4 @@
-//! The words of the mode.
+//! The command line of the mode.
 
 ghost use Rattle.std.specs.Prelude.{◌≡◌, ◌∷◌, map, option_map};
 ghost use Rattle.recover_mode.specs.Commands.{command_parts};
@@ -13,8 +13,8 @@ pub struct RecoverCommand<'a> {
     pub log: &'a str,
 }
 
-/// Reads the words of a command line: the mode's word, and those behind it. `None` exactly where they
-/// are not `recover SETUP LOG`.
+/// Reads a command line: the mode's name, and the arguments after it. `None` exactly where it isn't
+/// `recover SETUP LOG`.
 pub fn read_recover_command<'a>(mode: &str, further: &[&'a str]) -> Option<RecoverCommand<'a>>
     ensures { option_map command_parts result
         ≡ recover_command (mode.now ∷ map (λ word. word.now) further.now) }

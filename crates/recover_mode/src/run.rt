@@ -39,7 +39,7 @@ pub fn status(outcome: Result<Recovery, RecoveryError>) -> u8
 /// # Errors
 ///
 /// The first error, in this order: of the setup, of the log's file, of its records, of memory, of the
-/// two replacings, of the sending; memory may also be wanted at a file. A file is replaced only where
+/// two replacings, of the sending; memory may also run out at a file. A file is replaced only where
 /// none of them came before.
 pub fn run_recover<F: Files, E: Stream>(
     alloc: Global,

@@ -12,7 +12,7 @@ use Rattle.line_log.specs.Line.{is_line}
 abbrev is_newline : ℕ → Bool
 is_newline c = eqb c 10
 
--- whatever stands behind it, it is the first line of the text
+-- whatever stands after it, it is the first line of the text
 abbrev pub IsFirst : List ℕ → Type 0
 IsFirst line = (0 < length line) × ((rest : List ℕ) → first_line (line ++ rest) ≡ line)
 
@@ -37,7 +37,7 @@ line_first bytes is =
     let at : position_or_len is_newline bytes + 1 ≡ length bytes = place_is bytes is in
     (omega (arith, at), λ rest. ap (λ n. take (n + 1) (bytes ++ rest)) (place_with bytes rest is) ∙ ap (λ n. take n (bytes ++ rest)) at ∙ take_at bytes rest (length bytes) refl)
 
--- what stands behind the first lines
+-- what stands after the first lines
 behind_first : (a b x y : List ℕ) → IsFirst a → IsFirst b → a ++ x ≡ b ++ y → (a ≡ b) × (x ≡ y)
 behind_first a b x y first other same =
     let lines : a ≡ b = sym (first.1 x) ∙ ap first_line same ∙ other.1 y in

@@ -24,7 +24,7 @@ pub record IsRunOf (setup : Settings) (journal : List Event) : Type 0 where
   pub few : length journal ≤ EVENTS_LIMIT
   pub typed : AllByRecursion IsTyped (decided_in setup journal)
 
--- recovery from these records answers that each account is as these events say, or wants memory
+-- recovery from these records answers that each account is as these events say, or that memory ran out
 abbrev pub BringsBack : Settings → List Event → Type 0
 BringsBack setup events = (result : Result Recovered RecoverError) → IsAnswerOf setup (records_of events) result → IsRecoveredAs (IsBackAt setup events) result
 

@@ -11,7 +11,7 @@ use outside::{MemFiles, MemStream};
 use recover_mode::{RecoverCommand, Recovery, RecoveryError, run_recover};
 use std::alloc::{AllocError, Global};
 
-/// What recovery came to, what it sent, and the files behind it.
+/// What recovery came to, what it sent, and the files after it.
 #[derive(Drop)]
 pub struct Came {
     pub outcome: Result<Recovery, RecoveryError>,

@@ -21,7 +21,7 @@ use std::sync::Wait;
 use std::test::Fail as Fault;
 use std::thread::Threads;
 
-/// Bob's sequence and password before the login, and behind the reply that it accepts (RFC 2289,
+/// Bob's sequence and password before the login, and after the reply that it accepts (RFC 2289,
 /// `This is a test.`, seed `test`, SHA-1, numbers 1 and 0).
 const BEFORE: (u16, u64) = (1, 0x63D9_3663_9734_385B);
 
@@ -232,7 +232,7 @@ fn a_login_that_stops_after_each_call(rt: HostRuntime) -> Result<(), Fault> {
     Ok(())
 }
 
-/// What is left on a login's disk that is stopped behind the accepted reply.
+/// What is left on a login's disk that is stopped after the accepted reply.
 fn image_behind_reply(alloc: Global, disk: &MemDisk) -> Result<Vec<u8>, Fault> {
     if !disk.tells() || disk.calls() < 4 * REPLY {
         return Err(Fault::from("a disk that tells"));
@@ -240,7 +240,7 @@ fn image_behind_reply(alloc: Global, disk: &MemDisk) -> Result<Vec<u8>, Fault> {
     Ok(disk.image(alloc, 4 * REPLY, 0xff)?)
 }
 
-/// The log of a login that was stopped behind its accepted reply.
+/// The log of a login that was stopped after its accepted reply.
 fn stopped_log<R: Threads + Wait + Sync>(
     rt: &R,
     alloc: Global,
@@ -251,7 +251,7 @@ fn stopped_log<R: Threads + Wait + Sync>(
     image_behind_reply(alloc, &logged.disk)
 }
 
-/// Whether this is what recovery told, and the setup's accounts are those behind the reply.
+/// Whether this is what recovery told, and the setup's accounts are those after the reply.
 fn tells(alloc: Global, left: &Left, line: &[u8]) -> Result<bool, Fault> {
     Ok(left.came.told.as_slice() == line && chain_in(alloc, &left.setup)? == BEHIND)
 }
@@ -270,7 +270,7 @@ fn is_there_already(alloc: Global, setup: &[u8], list: &[u8], log: &[u8]) -> Res
     Ok(tells(alloc, &second, WHOLE)? && second.setup.as_slice() == setup)
 }
 
-/// What is told of a log that was stopped behind its accepted reply.
+/// What is told of a log that was stopped after its accepted reply.
 const WHOLE: &[u8] = b"recovered lines 7 accepted 1\n";
 
 /// Whether a login's log that was stopped is recovered, and is a fresh one then.
@@ -362,7 +362,7 @@ const UNFRESH: [Case; 5] = [
         log: Some(b"OTJ2\x00"),
         ..MISSING
     },
-    // Behind two readings of the setup and four of the word list.
+    // After two readings of the setup and four of the word list.
     Case {
         log: Some(b"OTJ1\x00"),
         number: 7,

@@ -78,7 +78,7 @@ IsFileError-setup contents name R setup_errors.OutOfMemory why = tt
 IsFileError-setup contents name R setup_errors.Missing why = why
 IsFileError-setup contents name R (setup_errors.Refused fault) why = why
 
--- an error of the word list's file, behind the setup's
+-- an error of the word list's file, after the setup's
 pub IsFileError-list : (before after : Option Contents) (name : List ℕ) (setup : Settings) (first between last : ℕ) (error : ListError) → Goes SameFiles before after → IsSetupIn before name setup → first ≤ between → IsListFault after setup.words (Rose between last) error → IsFileError after name (Rose first last) (error_of_list error)
 IsFileError-list before after name setup first between last list_errors.Failed goes spelled le why =
     Rose-within first between last last le why (omega arith)
@@ -103,7 +103,7 @@ IsUnready-file parts contents R (errors.NoRenewal fault) why = absurd why
 IsUnready-file parts contents R errors.ReplaceFailed why = absurd why
 IsUnready-file parts contents R errors.SendFailed why = absurd why
 
--- the log is refused, behind a setup and a word list
+-- the log is refused, after a setup and a word list
 pub IsUnready-log : (setup user : List ℕ) (log : Option (List ℕ)) (contents : Option Contents) (basis : Basis) (first between last : ℕ) (error : RenewError) → IfSome contents (HasBasis setup basis) → first ≤ between → IsLogRefused log contents (Rose between last) error → IsUnready (record { setup = setup; user = user; log = log }) contents (Rose first last) error
 IsUnready-log setup user None contents basis first between last error has le refused = absurd refused
 IsUnready-log setup user (Some log) contents basis first between last errors.LogNotFresh has le refused =

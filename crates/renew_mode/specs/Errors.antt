@@ -40,7 +40,7 @@ abbrev pub status_of : Result Renewed RenewError → ℕ
 status_of (Ok renewed) = 0
 status_of (Err error) = error_status error
 
--- whether the mode ended at its files, before the input was asked for; where memory was wanted this isn't told
+-- whether the mode ended at its files, before the input was asked for; where memory ran out this isn't told
 abbrev pub ends_before_input : Result Renewed RenewError → Bool
 ends_before_input (Err errors.ReadFailed) = true
 ends_before_input (Err errors.SetupMissing) = true

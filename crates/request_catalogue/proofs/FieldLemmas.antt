@@ -1,4 +1,4 @@
--- Numbers that are read off the front of a payload, one behind the other.
+-- Numbers that are read off the front of a payload, one after the other.
 use Rattle.std.proofs.Common.{◌≡◌, ℕ, ◌+◌, Bool, true, false, List, length, take, drop, refl, sym, ap, ◌∙◌, arith, leb, eqb, ◌&&◌}
 use Rattle.std.proofs.lemmas.List.{drop-drop, length-drop}
 use Rattle.std.proofs.lemmas.Bool.Decides.{nat_tests}
@@ -13,12 +13,12 @@ use Rattle.request_catalogue.specs.Widths.{transfer_max}
 use Rattle.request_catalogue.specs.Fields.{TakesNumber, number_at}
 use Rattle.request_catalogue.specs.Reading.{asked_by}
 
--- a number behind other bytes
+-- a number after other bytes
 number_at-drop : (w : Width) (place : ℕ) (payload rest : List ℕ) → rest ≡ drop place payload → number_at w place payload ≡ number_at w 0 rest
 unfolding number_at
 number_at-drop w place payload rest e = ap (λ (x : List ℕ). from_le_bytes w (take (byte_len w) x)) (sym e)
 
--- what stands behind a number that stands behind other bytes
+-- what stands after a number that stands after other bytes
 drop-rest : (n m : ℕ) (payload a b : List ℕ) → a ≡ drop n payload → b ≡ drop m a → b ≡ drop (n + m) payload
 drop-rest n m payload a b e f = f ∙ ap (λ (x : List ℕ). drop m x) e ∙ drop-drop m n payload
 
@@ -26,7 +26,7 @@ drop-rest n m payload a b e f = f ∙ ap (λ (x : List ℕ). drop m x) e ∙ dro
 eqb-add : (n m k : ℕ) → n ≡ m + k → eqb n k ≡ eqb m 0
 eqb-add n m k e = grind (arith, nat_tests)
 
--- what a READ asks, by its three numbers and what stands behind them
+-- what a READ asks, by its three numbers and what stands after them
 pub asked_by-ReadAt : (width : FrameWidth) (payload a b c : List ℕ) (handle offset max : ℕ) → TakesNumber w32 payload handle a → TakesNumber w64 a offset b → TakesNumber w16 b max c → asked_by width kinds.ReadAt payload ≡ then_some (eqb (length c) 0 && leb 1 max && leb max (transfer_max width)) (ReadAt handle offset max)
 unfolding asked_by
 asked_by-ReadAt width payload a b c handle offset max x y z =
@@ -39,7 +39,7 @@ asked_by-ReadAt width payload a b c handle offset max x y z =
 leb-add : (k m n : ℕ) → leb (k + n) (m + n) ≡ leb k m
 leb-add k m n = grind (arith, nat_tests)
 
--- what a WRITE asks, by its two numbers and what stands behind them
+-- what a WRITE asks, by its two numbers and what stands after them
 pub asked_by-WriteAt : (width : FrameWidth) (payload a bytes : List ℕ) (handle offset : ℕ) → TakesNumber w32 payload handle a → TakesNumber w64 a offset bytes → asked_by width kinds.WriteAt payload ≡ then_some (leb 1 (length bytes) && leb (length bytes) (transfer_max width)) (WriteAt handle offset bytes)
 unfolding asked_by
 asked_by-WriteAt width payload a bytes handle offset x y =

@@ -25,7 +25,7 @@ tested : (test : Bool) (made : AnswerValue) (bytes : List ℕ) → (test ≡ tru
 tested true made bytes holds value e = let same : made ≡ value = cc in subst (λ (v : AnswerValue). IsReply bytes v) same (holds refl)
 tested false made bytes holds value e = absurd cc
 
--- bytes behind a byte are bytes
+-- bytes after a byte are bytes
 IsBytes-rest : (b : ℕ) (bytes : List ℕ) → IsBytes (b ∷ bytes) → IsBytes bytes
 IsBytes-rest b bytes fits i = fits (suc i)
 

@@ -6,7 +6,7 @@ use Rattle.std.specs.Int.{Width, byte_len, from_le_bytes}
 unfoldable pub number_at : Width → ℕ → List ℕ → ℕ
 number_at w place bytes = from_le_bytes w (take (byte_len w) (drop place bytes))
 
--- a number is read off the front of bytes, and the rest stands behind it
+-- a number is read off the front of bytes, and the rest stands after it
 pub record TakesNumber (w : Width) (bytes : List ℕ) (number : ℕ) (rest : List ℕ) : Type 0 where
   pub long : byte_len w ≤ length bytes
   pub number_is : number ≡ number_at w 0 bytes

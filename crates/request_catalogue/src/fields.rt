@@ -5,7 +5,7 @@ ghost use Rattle.std.specs.Bool.{then_some};
 ghost use Rattle.std.specs.Int.{w16, w32, w64};
 ghost use Rattle.request_catalogue.specs.Fields.{TakesNumber, number_at};
 
-/// The number in the first two bytes, and the bytes behind it.
+/// The number in the first two bytes, and the bytes after it.
 #[tactic(auto, unfolding(crate::specs::Fields::number_at))]
 pub fn u16_at(bytes: &[u8]) -> Option<(u16, &[u8])>
     ensures { MatchOption result (length bytes.now < 2) (λ x. TakesNumber w16 bytes.now x.0 x.1.now) }
@@ -14,7 +14,7 @@ pub fn u16_at(bytes: &[u8]) -> Option<(u16, &[u8])>
     Some((u16::from_le_bytes(*number), rest))
 }
 
-/// The number in the first four bytes, and the bytes behind it.
+/// The number in the first four bytes, and the bytes after it.
 #[tactic(auto, unfolding(crate::specs::Fields::number_at))]
 pub fn u32_at(bytes: &[u8]) -> Option<(u32, &[u8])>
     ensures { MatchOption result (length bytes.now < 4) (λ x. TakesNumber w32 bytes.now x.0 x.1.now) }
@@ -23,7 +23,7 @@ pub fn u32_at(bytes: &[u8]) -> Option<(u32, &[u8])>
     Some((u32::from_le_bytes(*number), rest))
 }
 
-/// The number in the first eight bytes, and the bytes behind it.
+/// The number in the first eight bytes, and the bytes after it.
 #[tactic(auto, unfolding(crate::specs::Fields::number_at))]
 pub fn u64_at(bytes: &[u8]) -> Option<(u64, &[u8])>
     ensures { MatchOption result (length bytes.now < 8) (λ x. TakesNumber w64 bytes.now x.0 x.1.now) }

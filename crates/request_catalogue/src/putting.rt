@@ -1,8 +1,8 @@
-//! Bytes put into a buffer, one part behind the other.
+//! Bytes put into a buffer, one part after the other.
 
 ghost use Rattle.std.specs.Prelude.{◌≡◌, ◌+◌, ◌≤◌, ◌++◌, length, take, drop};
 
-/// Puts the bytes at a place of the buffer, and gives the place behind them.
+/// Puts the bytes at a place of the buffer, and gives the place after them.
 pub fn put(out: &mut [u8], at: usize, bytes: &[u8]) -> usize
     requires { at + length bytes.now ≤ length out.old }
     ensures end { result ≡ at + length bytes.now }

@@ -35,7 +35,7 @@ fn read_at(width: Width, payload: &[u8]) -> Option<Request<'_>>
     })
 }
 
-/// Whether a read may ask for `max` bytes in this width, and nothing stands behind it.
+/// Whether a read may ask for `max` bytes in this width, and nothing stands after it.
 fn ends_read(width: Width, max: u16, rest: &[u8]) -> bool
     ensures { result ≡ (length rest.now == 0 && nat_le 1 max && nat_le max (transfer_max width)) }
 {

@@ -164,14 +164,14 @@ fn begins_name(byte: u8) -> bool
     matches!(byte, b'a'..=b'z' | b'_')
 }
 
-/// Whether these bytes may stand behind a name's first.
+/// Whether these bytes may stand after a name's first.
 fn continue_name(bytes: &[u8]) -> bool
     ensures { result ≡ list_all continues_name bytes.now }
 {
     bytes.iter().all(|byte| matches!(byte, b'a'..=b'z' | b'0'..=b'9' | b'_' | b'-'))
 }
 
-/// Whether these bytes may stand behind a label's first.
+/// Whether these bytes may stand after a label's first.
 fn continue_label(bytes: &[u8]) -> bool
     ensures { result ≡ list_all continues_label bytes.now }
 {

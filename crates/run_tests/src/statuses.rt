@@ -292,7 +292,7 @@ fn lost(journal: &[Event]) -> usize {
     journal.iter().filter(is_lost).count()
 }
 
-/// Whether the smallest run goes on without an answer behind a line of the log that is cut short.
+/// Whether the smallest run goes on without an answer after a line of the log that is cut short.
 fn is_unanswered<R: Threads + Wait + Sync>(rt: &R, alloc: Global) -> Result<bool, Fault> {
     let pre = smallest(alloc)?;
     let fail = Fail {

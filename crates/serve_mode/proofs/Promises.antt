@@ -249,7 +249,7 @@ served_begins source setup ledger old new ReplaceRose written lost failed w is =
   at (inr (inl oom)) = subst (λ w. IsUnbegun (run_end w lost failed)) oom is
   at (inr (inr not)) = unwritten lost failed (subst (λ w. IsUnbegun (run_end w lost failed)) not is)
 
--- the plain setup's accounts are written nowhere, so no memory is wanted for them
+-- the plain setup's accounts are written nowhere, so no memory is needed for them
 plain_printed : (source : Source) (setup : Settings) (ledger : LedgerParts) (old new : Option Contents)
     (ReplaceRose : Type 0) (written : Result (Unit {0}) ServeError) (lost failed : Bool)
     → WritesBack source setup ledger old new ReplaceRose written
@@ -491,7 +491,7 @@ unread_tells source forms contents ReadRose ListenRose error why = record { not_
   six (unread.SetupRefused fault) e = omega (arith, e)
   six (unread.WordsRefused fault) e = omega (arith, e)
 
--- memory was wanted
+-- out of memory
 pub memory_why : (source : Source) (forms : List Key) (old new : Option Contents) (ReadRose ListenRose : Type 0) → TellsWhy source forms old new errors.OutOfMemory ReadRose ListenRose
 memory_why source forms old new ReadRose ListenRose = record {
   tells = record { not_run = refl; three = λ e. absurd (omega (arith, e)); six = λ e. absurd (omega (arith, e)) };
@@ -535,7 +535,7 @@ unready_why source forms old new ReadRose ListenRose errors.LogLost why kept = a
 unready_why source forms old new ReadRose ListenRose errors.AcceptFailed why kept = absurd why
 unready_why source forms old new ReadRose ListenRose errors.ReplaceFailed why kept = absurd why
 
--- a run that could not begin: memory was wanted, or the site could not listen
+-- a run that could not begin: out of memory, or the site could not listen
 pub not_served_why : (source : Source) (forms : List Key) (old new : Option Contents) (ReadRose ListenRose : Type 0) (error : ServeError) → IsServable source forms new → (error ≡ errors.OutOfMemory) ⊎ ((error ≡ errors.ListenFailed) × ListenRose) → TellsWhy source forms old new error ReadRose ListenRose
 not_served_why source forms old new ReadRose ListenRose error ready (inl oom) = subst (λ e. TellsWhy source forms old new e ReadRose ListenRose) (sym oom) (memory_why source forms old new ReadRose ListenRose)
 not_served_why source forms old new ReadRose ListenRose error ready (inr (failed, rose)) = subst (λ e. TellsWhy source forms old new e ReadRose ListenRose) (sym failed) (record {
@@ -546,7 +546,7 @@ not_served_why source forms old new ReadRose ListenRose error ready (inr (failed
   ready = λ _. ready;
 })
 
--- a fault of replacing that was counted behind a moment was counted behind an earlier one
+-- a fault of replacing that was counted after a moment was counted after an earlier one
 pub writes_more : (source : Source) (setup : Settings) (ledger : LedgerParts) (old new : Option Contents) (first mid last : ℕ) (written : Result (Unit {0}) ServeError) → first ≤ mid → WritesBack source setup ledger old new (Rose mid last) written → WritesBack source setup ledger old new (Rose first last) written
 writes_more Plain setup ledger old new first mid last written low w = w
 writes_more (Named name log) setup ledger old new first mid last written low w = go written w where
@@ -560,7 +560,7 @@ writes_more (Named name log) setup ledger old new first mid last written low w =
   go (Err errors.AcceptFailed) w = absurd w
   go (Err errors.LogNotFresh) w = absurd w
 
--- where the files tell behind a run, they told before its accounts were written
+-- where the files tell after a run, they told before its accounts were written
 pub told_before : (source : Source) (setup : Settings) (ledger : LedgerParts) (old new : Option Contents) (ReplaceRose : Type 0) (written : Result (Unit {0}) ServeError) → WritesBack source setup ledger old new ReplaceRose written → is_some new ≡ true → is_some old ≡ true
 told_before source setup ledger None None ReplaceRose written w some = some
 told_before source setup ledger (Some old) new ReplaceRose written w some = refl

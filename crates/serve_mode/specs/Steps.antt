@@ -33,21 +33,21 @@ abbrev pub log_of : Source → Option (List ℕ)
 log_of Plain = None
 log_of (Named name log) = log
 
--- why a log is refused: it isn't fresh, its reading failed, or memory was wanted for its name
+-- why a log is refused: it isn't fresh, its reading failed, or there was no memory for its name
 abbrev pub IsLogRefused : Option (List ℕ) → Option Contents → Type 0 → ServeError → Type 0
 IsLogRefused (Some log) contents ReadFailed errors.LogNotFresh = IfSome contents (λ files. IsFresh (files log) → ⊥)
 IsLogRefused (Some log) contents ReadFailed (errors.Unread unread.Failed) = ReadFailed
 IsLogRefused (Some log) contents ReadFailed errors.OutOfMemory = Unit {0}
 IsLogRefused _ contents ReadFailed _ = ⊥
 
--- why there is nothing to begin with: nothing was read to serve with, the log isn't fresh, or memory was wanted
+-- why there is nothing to begin with: nothing was read to serve with, the log isn't fresh, or out of memory
 abbrev pub IsUnready : Source → List Key → Option Contents → Type 0 → ServeError → Type 0
 IsUnready source forms contents ReadFailed (errors.Unread error) = IsUnread source forms contents ReadFailed error
 IsUnready source forms contents ReadFailed errors.LogNotFresh = IsUnfresh source forms contents
 IsUnready source forms contents ReadFailed errors.OutOfMemory = Unit {0}
 IsUnready source forms contents ReadFailed _ = ⊥
 
--- memory was wanted, or the site could not listen; the log stays, and the site listened nowhere
+-- out of memory, or the site could not listen; the log stays, and the site listened nowhere
 pub record IsNotServed (error : ServeError) (listens_old listens_new : Option (List SitePlace)) (held_old held_new : Option (List ℕ)) (log_old log_new : ℕ) (ListenRose : Type 0) : Type 0 where
   pub why : (error ≡ errors.OutOfMemory) ⊎ ((error ≡ errors.ListenFailed) × ListenRose)
   pub listens : Gains listens_old [] listens_new

@@ -1,4 +1,4 @@
-//! The words of the mode.
+//! The command line of the mode.
 
 ghost use Rattle.std.specs.Prelude.{◌≡◌, ◌∷◌, map, option_map};
 ghost use Rattle.serve_mode.specs.Commands.{source_of};
@@ -18,8 +18,8 @@ pub enum ServeCommand<'a> {
     },
 }
 
-/// Reads the words of a command line: the mode's word, and those behind it. `None` exactly where they
-/// are none of `serve`, `serve SETUP` and `serve SETUP LOG`.
+/// Reads a command line: the mode's name, and the arguments after it. `None` exactly where it is
+/// none of `serve`, `serve SETUP` and `serve SETUP LOG`.
 pub fn read_serve_command<'a>(mode: &str, further: &[&'a str]) -> Option<ServeCommand<'a>>
     ensures { option_map source_of result
         ≡ serve_command (mode.now ∷ map (λ word. word.now) further.now) }

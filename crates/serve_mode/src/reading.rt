@@ -35,7 +35,7 @@ fn plain_parts(alloc: Global) -> Result<ServiceParts, AllocError>
 ///
 /// # Errors
 ///
-/// There is nothing to serve with, or the log isn't fresh; memory may be wanted.
+/// There is nothing to serve with, or the log isn't fresh; memory may run out.
 pub(crate) fn make_ready<'a, F: Files, I: Information>(
     alloc: Global,
     command: &ServeCommand<'_>,

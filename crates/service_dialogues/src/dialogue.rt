@@ -20,7 +20,7 @@ pub struct Dialogue {
     pub user: Side,
 }
 
-/// The children behind the first one, where that was sent what its side is told.
+/// The children after the first one, where that was sent what its side is told.
 fn behind_side<'a>(talks: &'a [Talk], side: &Side) -> Option<&'a [Talk]>
     ensures { IfSome result (λ rest. map sent_to talks.now ≡ side.now.told.items ∷ map sent_to rest.now) }
 {
@@ -30,7 +30,7 @@ fn behind_side<'a>(talks: &'a [Talk], side: &Side) -> Option<&'a [Talk]>
     }
 }
 
-/// The children behind those of a session, where they were sent what it says.
+/// The children after those of a session, where they were sent what it says.
 fn behind_session<'a>(talks: &'a [Talk], dialogue: &Dialogue) -> Option<&'a [Talk]>
     ensures { IfSome result (λ rest. map sent_to talks.now ≡ told_in dialogue.now ++ map sent_to rest.now) }
 {

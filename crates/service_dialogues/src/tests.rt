@@ -1,6 +1,6 @@
 //! Sessions as text. A line is a child (`pre` or `user`), the word of a request, its body, `=`, and the
 //! body of the reply to it, which is none where nothing is replied. A word of a body is hexadecimal, or
-//! behind an apostrophe the text itself. The request `raw` is whole bytes that are no request.
+//! after an apostrophe the text itself. The request `raw` is whole bytes that are no request.
 
 mod information;
 mod rows;

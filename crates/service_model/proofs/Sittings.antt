@@ -24,7 +24,7 @@ use Rattle.service_model.specs.Stories.{is_stop}
 use Rattle.service_model.proofs.Lists.{All-append, count-append, count-cons, count-none}
 use Rattle.service_model.proofs.Steps.{FailsRequests, accepts, accepts_asked, coming_accepts, counts_asked, is_accept, none_accepted_by, none_ended, none_passes}
 
--- the steps of a session behind its opening
+-- the steps of a session after its opening
 abbrev pub later_steps : List Part → Option Step → List Step
 later_steps parts ending = flat_map requests_of parts ++ option_to_list ending
 
@@ -51,7 +51,7 @@ all_requests service why opening (pre ∷ user ∷ other ∷ parts) are = absurd
 end_accepts : (session : ℕ) (live : Role) (why : Why) (ending : Step) → IsEnding session live why ending → count_by is_accept ending.acts ≡ 0
 end_accepts session live why ending is = accepts_asked ending.acts ∙ ap (count_by accepts) is.operations ∙ none_ended live why
 
--- nor does anything behind its opening
+-- nor does anything after its opening
 later_accepts : (service : Service) (opening : Step) (parts : List Part) (ending : Option Step) → Follows service opening parts ending → count_by is_accept (step_acts (later_steps parts ending)) ≡ 0
 later_accepts service opening parts None round = ap (λ ps. count_by is_accept (step_acts (later_steps ps None))) round.1
 later_accepts service opening parts (Some ending) round =

@@ -20,7 +20,7 @@ pub fn is_at(place: &Option<Place>, texts: [&str; 3], workers: u32) -> bool {
     }
 }
 
-/// What stands in the setup's file behind a run, of at most 4,096 bytes.
+/// What stands in the setup's file after a run, of at most 4,096 bytes.
 ///
 /// # Errors
 ///

@@ -22,7 +22,7 @@ use Rattle.service_reading.specs.declared.error.ServiceError.TheVariants as erro
 use Rattle.service_reading.specs.Errors.{IsServiceError, error_of_list, error_of_setup}
 use Rattle.service_reading.specs.Found.{FoundService, IsServiceIn, informed, service_in}
 
--- a service behind its first steps
+-- a service after its first steps
 abbrev found_words : SetupEntries → Result (List (List ℕ)) DictFault → Result FoundService ServiceError
 found_words entries words = result_map_both (λ w. w) errors.WordsRefused words >>= (λ w. Ok (record { entries = entries; words = w }))
 

@@ -21,7 +21,7 @@ fn user_role(session: u32, uid: u32, name: &[u8]) -> Result<Role, Fault> {
     })
 }
 
-/// Whether these are the words for a child of this role, with nothing written behind them.
+/// Whether these are the words for a child of this role, with nothing written after them.
 fn is_launched_by(role: &Role, want: &[u8]) -> bool {
     let blank = [b'#'; 81];
     let mut out = blank;
@@ -211,7 +211,7 @@ fn leave<P: Post>(post: &mut P) -> Result<(), KeeperFault> {
     Ok(())
 }
 
-/// Whether a session that exports is served, and a child before the login is given back behind it.
+/// Whether a session that exports is served, and a child before the login is given back after it.
 fn is_served(post: &mut MemPost, setup: &Setup) -> bool
     requires { length setup.now.accounts ≡ 3 }
 {

@@ -49,7 +49,7 @@ use Rattle.session_asking.specs.Work.{Does, answered, done_operations, told, tol
 use Rattle.session_asking.proofs.Done.{nothing_done}
 use Rattle.session_asking.proofs.Knowing.{import_after, info_after, knows_others}
 
--- an ask was made by a message of a session that is known, and its event joined; s and t are what the post told before and behind the clock
+-- an ask was made by a message of a session that is known, and its event joined; s and t are what the post told before and after the clock
 pub record IsAsked (w : Whose) (message : Message) (read : Result Request Bad) (ask : Ask) (user : Option LoggedIn) (old new : List Event) (e : Event) (s t : Option Scene) : Type 0 where
   pub joins : Joins w.service.setup w.worker ask old new e
   pub opened : open_session_of old w.worker ≡ w.session

@@ -22,7 +22,7 @@ use Rattle.session_asking.specs.declared.work.Outcome.{Outcome}
 use Rattle.session_asking.specs.declared.work.Outcome.TheVariants as outcomes
 use Rattle.session_asking.specs.Work.{Does, Fits, told}
 
--- what stands behind the bytes that are told isn't looked at
+-- what stands after the bytes that are told isn't looked at
 told_front : (outcome : Outcome) (xs ys : List ℕ) → Fits outcome (length xs) → told outcome (xs ++ ys) ≡ told outcome xs
 told_front (outcomes.Done len) xs ys fits = ap Done (take-append-le len xs ys fits)
 told_front (outcomes.Failed device) xs ys fits = refl

@@ -92,7 +92,7 @@ names_own live e handle free = go (opens_file e) refl where
     left true closed = ap name_of_opening (find_closed live e handle closed)
     left false kept = ap name_of_opening (find_left live e handle kept)
 
--- the names of a session's open files behind one of its events
+-- the names of a session's open files after one of its events
 pub names_after : (journal : List Event) (e : Event) (session handle : ℕ) → e.session ≡ session → (opens_file e ≡ true → handle_opening journal session (handle_of e) ≡ None) → name_of_opening (handle_opening (journal ++ e ∷ []) session handle) ≡ name_after e (name_of_opening (handle_opening journal session handle)) handle
 names_after journal e session handle own free =
     ap (λ xs. name_of_opening (find (at handle) xs)) (live_handles_of-own journal e session own) ∙ names_own (live_handles_of journal session) e handle free

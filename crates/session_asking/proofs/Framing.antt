@@ -13,7 +13,7 @@ pub has_header : (width : Width) → 16 ≤ frame_max width
 has_header widths.Narrow = omega arith
 has_header widths.Wide = omega arith
 
--- a body was written behind a front, and then a head of the front's length in the front's place
+-- a body was written after a front, and then a head of the front's length in the front's place
 framed : (k n : ℕ) (head front body behind rest out : List ℕ) → length head ≡ k → length front ≡ k → length body ≡ n
     → out ≡ head ++ drop k (front ++ ((body ++ behind) ++ rest)) → take (k + n) out ≡ head ++ body
 framed k n head front body behind rest out head_len front_len body_len is =
@@ -21,7 +21,7 @@ framed k n head front body behind rest out head_len front_len body_len is =
     ∙ sym (append_assoc head body (behind ++ rest)))
     ∙ take_at (head ++ body) (behind ++ rest) (k + n) (length-append head body ∙ omega arith)
 
--- a reply's bytes were written behind the room for a header, and then the header
+-- a reply's bytes were written after the room for a header, and then the header
 pub is_framed : (width : Width) (kind given peerid pid n : ℕ) (reply front written behind rest out : List ℕ) → given ≡ kind → n ≡ length reply → written ≡ reply ++ behind
     → length front ≡ 16
     → out ≡ header_bytes width (record { kind = given; len = 16 + n; flags = 0; peerid = peerid; pid = pid }) ++ drop 16 (front ++ (written ++ rest))

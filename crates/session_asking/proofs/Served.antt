@@ -133,7 +133,7 @@ unexported_lost e lost = ap (λ d. is_export e.ask && is_permit d) lost ∙ neve
   never true = refl
   never false = refl
 
--- a lost decision is answered nothing, and nothing is done behind it
+-- a lost decision is answered nothing, and nothing is done after it
 pub served_lost : (w : Whose) (message : Message) (read : Result Request Bad) (ask : Ask) (user : Option LoggedIn) (old new : List Event) (e : Event) (s t : Option Scene) → (is : IsAsked w message read ask user old new e s t) → (k : Option Link) → is_lost e.decision ≡ true → HasServed w message (turns.Ends whys.LogLost) (moment old s k) (moment new t k)
 served_lost w message read ask user old new e s t is k is_it =
     let lost = lost_is e.decision is_it in

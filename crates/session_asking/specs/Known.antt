@@ -34,7 +34,7 @@ names_in (Some user) handle = name_in user.files.names handle
 abbrev pub file_in : Settings → Option LoggedIn → ℕ → Option File
 file_in setup user handle = file_of (account_in setup user) (names_in user handle)
 
--- the name at a handle behind an event: the one that it opens, none where it closes the handle, and else the one before
+-- the name at a handle after an event: the one that it opens, none where it closes the handle, and else the one before
 abbrev pub name_after : Event → Option Label → ℕ → Option Label
 name_after e before handle = if opens_file e && handle_of e == handle then label_named e.ask else (if closes_file handle e then None else before)
 

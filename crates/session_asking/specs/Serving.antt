@@ -64,7 +64,7 @@ pub record HasServed (w : Whose) (message : Message) (turn : Turn) (before after
   pub bytes : Goes (Exchanged [] sent) before.link after.link
   pub answers : Answers w.service w.exported turn step sent
 
--- a permitted EXPORT stands behind these events: nothing is done for it yet, and nothing sent
+-- a permitted EXPORT stands after these events: nothing is done for it yet, and nothing sent
 pub record HasExported (w : Whose) (message : Message) (e : Event) (before after : Moment) : Type 0 where
   pub front : List Event
   pub exported : exports e ≡ true
@@ -96,7 +96,7 @@ pub record HandsWith (setup : Settings) (session : ℕ) (old : List Event) (righ
   pub served : (logged_in : LoggedIn) → IsNewUser logged_in e → IsServed setup rights_new new session (Some logged_in)
   pub asks : ask_count new session ≡ ask_count old session + 1
 
--- what is left to a worker behind a message: a session that goes on, that is still to be ended, or whose user's child is next
+-- what is left to a worker after a message: a session that goes on, that is still to be ended, or whose user's child is next
 abbrev pub Leaves : Settings → ℕ → Turn → Rights → List Event → Rights → List Event → Option LoggedIn → Type 0
 Leaves setup session turns.GoesOn rights_old old rights_new new user = WentOn setup session rights_old old rights_new new user
 Leaves setup session (turns.Ends why) rights_old old rights_new new user = IsStillOpen setup rights_new new session

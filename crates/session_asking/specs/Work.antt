@@ -1,4 +1,4 @@
--- Inner: what is done for an event behind its decision, and what is told of it.
+-- Inner: what is done for an event after its decision, and what is told of it.
 use Rattle.std.specs.Prelude.{◌≡◌, ℕ, ◌≤◌, List, [], ◌∷◌, map, filter_map, slice_get, take, Option, Some, None}
 use Rattle.std.specs.Int.{w32, to_le_bytes}
 use Rattle.std.specs.List.{flat_map}
@@ -21,7 +21,7 @@ use Rattle.session_asking.specs.declared.work.Outcome.TheVariants as outcomes
 use Rattle.session_asking.specs.declared.work.Work.{Work}
 use Rattle.session_asking.specs.declared.work.Work.TheVariants as works
 
--- the operations of an ask behind its decision, by the files of its session and the bytes to write
+-- the operations of an ask after its decision, by the files of its session and the bytes to write
 abbrev pub done_operations : Ask → Decision → (ℕ → Option File) → List ℕ → List Operation
 done_operations (asks.ReadAt handle offset max) decision file bytes = if_permitted decision (read_operations handle (file handle) offset max)
 done_operations (asks.WriteAt handle offset len) decision file bytes = if_permitted decision (write_operations handle (file handle) offset bytes)

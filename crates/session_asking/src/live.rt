@@ -74,7 +74,7 @@ fn name_of(user: &Option<LoggedIn>, handle: u32) -> Option<Label>
     }
 }
 
-/// What is known of a session behind an event of it, that may have opened or closed a file.
+/// What is known of a session after an event of it, that may have opened or closed a file.
 pub(crate) fn noted(user: Option<LoggedIn>, event: &Event) -> Option<LoggedIn>
     requires small { IsSmall event.now.ask event.now.decision }
     ensures { NotesFiles event.now user result }
@@ -86,7 +86,7 @@ pub(crate) fn noted(user: Option<LoggedIn>, event: &Event) -> Option<LoggedIn>
     })
 }
 
-/// The open files behind an event of their session.
+/// The open files after an event of their session.
 fn files_after(files: OpenFiles, event: &Event) -> OpenFiles
     requires small { IsSmall event.now.ask event.now.decision }
     ensures { (handle : ℕ) → name_in result.names handle ≡ name_after event.now (name_in files.names handle) handle }

@@ -10,7 +10,7 @@ use crate::live::{LoggedIn, UserFile, file_of};
 use crate::texts::Texts;
 use policy_model::{Ask, Decision, Event};
 
-/// What is to be done for an event behind its decision.
+/// What is to be done for an event after its decision.
 #[derive(Clone, Copy)]
 pub enum Work<'a> {
     Nothing,

@@ -164,7 +164,7 @@ same_setup l o e = (rest_kept l o e).setup_is
 pub same_cap : (l : LedgerParts) (o : Option SessionRow) (e : Event) → (ledger_after l o e).cap ≡ l.cap
 same_cap l o e = (rest_kept l o e).cap_is
 
--- 5. The core behind the event
+-- 5. The core after the event
 
 accounts_stand : (core : CoreParts) (journal : List Event) (e : Event) → IsCore core → IsFollowing core journal e → StandsFor (ledger_after core.ledger (row_of core e.worker) e) (journal ++ e ∷ [])
 accounts_stand core journal e c f = go (row_at core.table e.worker) refl (f.stands.rows.rows e.worker f.below) (opens e) refl where

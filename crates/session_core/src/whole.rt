@@ -106,7 +106,7 @@ impl Core {
         self.judge(worker, ask)
     }
 
-    /// The event of an ask with what `decide` answers, which is settled: the next decision stands behind
+    /// The event of an ask with what `decide` answers, which is settled: the next decision stands after
     /// it. A permitted opening has to be within the sessions that may be opened.
     pub fn settle(&mut self, worker: u32, ask: &Ask, decision: Decision) -> Event
         requires worker { worker < self.old.ledger.setup.workers }

@@ -141,7 +141,7 @@ unused_from (o ∷ os) n h = go (handle_of o == n) h (unused_from os n) where
   go true h rest = absurd cc
   go false h rest = rest h
 
--- behind an event of the session
+-- after an event of the session
 after_differ : (live : List Event) (e : Event) → Differ live → (opens_file e ≡ true → (length live < 8) × ((is_number 1 8 (handle_of e) ≡ true) × (has_handle live (handle_of e) ≡ false))) → Differ (handles_after live e)
 after_differ live e d opened = go (opens_file e) refl where
   kept : List Event

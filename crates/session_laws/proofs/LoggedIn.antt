@@ -117,7 +117,7 @@ logged_in_still setup journal e kept other l = record {
   known = l.known;
 }
 
--- 3. Behind one more event
+-- 3. After one more event
 
 -- what is accepted takes nobody, and nobody takes who was accepted
 accepts_takes_none : (e : Event) → accepts e ≡ true → takes e ≡ false

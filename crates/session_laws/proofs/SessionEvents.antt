@@ -1,4 +1,4 @@
--- What one more event makes of a session's events: of one that isn't its own nothing, its own is put behind them, and of a session with a number that wasn't given yet there is none.
+-- What one more event makes of a session's events: of one that isn't its own nothing, its own is put after them, and of a session with a number that wasn't given yet there is none.
 use Rattle.std.proofs.Common.{◌≡◌, ◌≢◌, ℕ, ◌+◌, ◌<◌, Bool, true, false, not, ◌&&◌, ◌||◌, ◌==◌, cond, eqb, List, [], ◌∷◌, ◌++◌, Some, None, filter, count_by, refl, sym, ap, ◌∙◌, arith, eq-eqb, inl, inr, ◌⊎◌, length, ◌≤◌}
 use Rattle.std.proofs.Math.Bool.{or-false}
 use Rattle.std.specs.List.{fold, last_or, list_any}

@@ -7,11 +7,11 @@ use Rattle.policy_model.specs.Cases.{handle_of}
 use Rattle.policy_model.specs.Handles.{free_handle_of, handle_opening, live_handles_of}
 use Rattle.policy_model.specs.Settings.{are_distinct, is_number}
 
--- those that an event of the session doesn't close, and behind them the one that it opens
+-- those that an event of the session doesn't close, and after them the one that it opens
 abbrev pub handles_after : List Event → Event → List Event
 handles_after live e = filter (λ o. not (closes_file (handle_of o) e)) live ++ (if opens_file e then e ∷ [] else [])
 
--- the live handles of all sessions behind one more event
+-- the live handles of all sessions after one more event
 pub record HandlesGoOn (journal : List Event) (e : Event) : Type 0 where
   pub own : live_handles_of (journal ++ e ∷ []) e.session ≡ handles_after (live_handles_of journal e.session) e
   pub other : (session : ℕ) → e.session ≢ session → live_handles_of (journal ++ e ∷ []) session ≡ live_handles_of journal session

@@ -21,7 +21,7 @@ phase_after User e = if ends_session e then Over else User
 phase_after Verified e = if ends_session e then Over else (if exports e then User else Verified)
 phase_after phase e = early_after phase e
 
--- the phases of all sessions behind one more event: that of its own session where it doesn't open it, and of any other
+-- the phases of all sessions after one more event: that of its own session where it doesn't open it, and of any other
 pub record IsPhasedBy (journal : List Event) (e : Event) : Type 0 where
   pub own : opens e ≡ false → phase_of (journal ++ e ∷ []) e.session ≡ phase_after (phase_of journal e.session) e
   pub other : (session : ℕ) → e.session ≢ session → phase_of (journal ++ e ∷ []) session ≡ phase_of journal session

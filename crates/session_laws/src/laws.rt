@@ -12,12 +12,12 @@ ghost use Rattle.session_laws.specs.Handled.{HandlesGoOn};
 ghost use Rattle.session_laws.specs.Laws.{BeginsFresh, ChangesOneUser, CountsOnce, FollowsLegal, HandlesAreApart, HoldersAreTied, SessionsAreApart, SessionsHaveUsers};
 ghost use Rattle.session_laws.specs.Phased.{IsPhasedBy};
 
-/// A session's phase behind an event is told by its phase before and by that event alone.
+/// A session's phase after an event is told by its phase before and by that event alone.
 pub fn phases_go_on()
     ensures { (journal : List Event) (e : Event) → IsPhasedBy journal e }
 {}
 
-/// A session's live handles behind an event are those before that the event doesn't close, and the one
+/// A session's live handles after an event are those before that the event doesn't close, and the one
 /// that it opens.
 pub fn handles_go_on()
     ensures { (journal : List Event) (e : Event) → HandlesGoOn journal e }

@@ -77,7 +77,7 @@ received_advances requests max asks turns.GoesOn held_old held_new below reads i
 received_advances requests max asks (turns.Ends why) held_old held_new below reads is = absurd cc
 received_advances requests max asks (turns.HandsOver e) held_old held_new below reads is = absurd cc
 
--- what is left to a worker behind a message
+-- what is left to a worker after a message
 pub message_spends : (setup : Settings) (session : ℕ) (turn : Turn) (rights_old rights_new : Rights) (old new : List Event) (before user : Option LoggedIn) → IsServed setup rights_old old session before → Leaves setup session turn rights_old old rights_new new user → KeepsRights 1 rights_old rights_new → SpendsOn setup session turn rights_old old rights_new new user
 message_spends setup session turns.GoesOn rights_old rights_new old new before user served leaves rights =
     let asks = leaves.asks in
@@ -99,7 +99,7 @@ still_open setup session rights seen user served =
     let below = served.serving.below in
     (record { run = served.serving.run; opened = served.serving.opened; left = omega (arith, left, below) }, record { worker = refl; left = omega (arith, below) })
 
--- what is left behind bytes that were received
+-- what is left after bytes that were received
 pub received_spends : (width : Width) (setup : Settings) (session : ℕ) (turn : Turn) (rights : Rights) (seen : List Event) (user : Option LoggedIn) (held_old held_new : List ℕ) (k l : Option Link) → Receives width turn held_old held_new k l → IsServed setup rights seen session user → SpendsOn setup session turn rights seen rights seen user
 received_spends width setup session turns.GoesOn rights seen user held_old held_new k l received served = (served, record { worker = refl; made = refl })
 received_spends width setup session (turns.Ends why) rights seen user held_old held_new k l received served = still_open setup session rights seen user served

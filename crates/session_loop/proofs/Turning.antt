@@ -129,7 +129,7 @@ HandsOn-after w e state a b c h i first second =
       role = second.role;
     }
 
--- the turn that ends a part, behind those before it
+-- the turn that ends a part, after those before it
 pub PartTaken-after : (w : Whose) (turn : Turn) (state : List ℕ) (a b c : Moment) (h i j : List ℕ) → ends_part turn ≡ true → Proceeds w a b h i → TurnTaken w turn state b c i j → PartTaken w turn state a c h
 PartTaken-after w turns.GoesOn state a b c h i j ends first second = absurd cc
 PartTaken-after w (turns.Ends why) state a b c h i j ends first second = Concludes-after w why a b c h i first second

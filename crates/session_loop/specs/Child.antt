@@ -89,7 +89,7 @@ pub record HandsOn (w : Whose) (e : Event) (state : List ℕ) (before after : Mo
   pub named : NamesAccount w.service.setup e
   pub role : user_role w.service.setup e ≡ role_of e.session (user_at w.service.setup (place_of front e))
 
--- one turn of serving a child: it goes on, its session ends, or another child is next; state is what was exported behind the turn
+-- one turn of serving a child: it goes on, its session ends, or another child is next; state is what was exported after the turn
 abbrev pub TurnTaken : Whose → Turn → List ℕ → Moment → Moment → List ℕ → List ℕ → Type 0
 TurnTaken w turns.GoesOn state before after held_old held_new = Proceeds w before after held_old held_new
 TurnTaken w (turns.Ends why) state before after held_old held_new = Concludes w why before after held_old
@@ -101,7 +101,7 @@ PartTaken w turns.GoesOn state before after held = ⊥
 PartTaken w (turns.Ends why) state before after held = Concludes w why before after held
 PartTaken w (turns.HandsOver e) state before after held = HandsOn w e state before after held
 
--- bytes were received behind those that are held, or the child's bytes ended in front of a whole message, or its link failed
+-- bytes were received after those that are held, or the child's bytes ended in front of a whole message, or its link failed
 abbrev pub Receives : Width → Turn → List ℕ → List ℕ → Option Link → Option Link → Type 0
 Receives width turns.GoesOn held_old held_new link_old link_new = (received : List ℕ) × (held_old ++ received ≡ held_new) × Goes (Exchanged received []) link_old link_new
 Receives width (turns.Ends why) held_old held_new link_old link_new = Goes (Exchanged [] []) link_old link_new × (EndsSession why ≢ by_link → EndsSo width (EndsSession why) None held_old (left_in link_new))
@@ -138,7 +138,7 @@ pub record EndsWithin (setup : Settings) (session : ℕ) (rights_old : Rights) (
   pub worker : rights_new.worker ≡ rights_old.worker
   pub left : rights_old.left + ask_count old session ≤ rights_new.left + setup.requests + 1
 
--- what is left to a worker behind a turn, or a part
+-- what is left to a worker after a turn, or a part
 abbrev pub SpendsOn : Settings → ℕ → Turn → Rights → List Event → Rights → List Event → Option LoggedIn → Type 0
 SpendsOn setup session turns.GoesOn rights_old old rights_new new user = IsServed setup rights_new new session user × CountsAsks session rights_old old rights_new new
 SpendsOn setup session (turns.Ends why) rights_old old rights_new new user = IsStillOpen setup rights_new new session × EndsWithin setup session rights_old old rights_new

@@ -98,7 +98,7 @@ fn serve_turn<A: Turns, P: Post, L: LiveChild, T: Texts>(
     }
 }
 
-/// Whether a child's part ends behind a turn.
+/// Whether a child's part ends after a turn.
 fn ends_part(turn: &Turn) -> bool
     ensures { result ≡ ends_part turn.now }
 {

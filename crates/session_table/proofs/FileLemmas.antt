@@ -13,7 +13,7 @@ use Rattle.policy_model.specs.Cases.{grant_verdict}
 use Rattle.session_table.specs.declared.handles.LiveHandle.{LiveHandle}
 use Rattle.session_table.specs.Files.{AreHandles, AreUpTo, IsNewHandle, file_at, free_of, is_free, open_decision, without}
 
--- a test of the first file and of those behind it
+-- a test of the first file and of those after it
 free_cons : (handle : ℕ) (file : LiveHandle) (live : List LiveHandle) → is_free handle (file ∷ live) ≡ (not (file.handle == handle) && is_free handle live)
 free_cons handle file live = go (file.handle == handle) where
   go : (b : Bool) → is_none (cond b (Some file) (file_at handle live)) ≡ (not b && is_free handle live)
@@ -53,7 +53,7 @@ up_to_without m n number below (file ∷ live) are = go (file.handle == number) 
 pub handles_without : (number : ℕ) (live : List LiveHandle) → AreHandles live → AreHandles (without number live)
 handles_without number live are = up_to_without 8 8 number (λ handle le other. le) live are
 
--- a file with a free handle goes behind the others
+-- a file with a free handle goes after the others
 pub handles_push : (live : List LiveHandle) (file : LiveHandle) → AreHandles live → 1 ≤ file.handle → file.handle ≤ 8 → is_free file.handle live ≡ true → AreHandles (live ++ file ∷ [])
 handles_push [] file are low high free = (low, high, refl, tt)
 handles_push (first ∷ live) file are low high free =

@@ -71,7 +71,7 @@ pub record TableStands (setup : Settings) (table : TableParts) (journal : List E
   pub apart : AreApart journal
   pub rows : (w : ℕ) → w < setup.workers → WorkerStands setup (row_at table w) journal (open_session_of journal w)
 
--- an event is the worker's and the one that the policy gives behind a journal, and isn't lost
+-- an event is the worker's and the one that the policy gives after a journal, and isn't lost
 pub record Follows (setup : Settings) (journal : List Event) (worker : ℕ) (e : Event) : Type 0 where
   pub by : e.worker ≡ worker
   pub next : IsNext setup journal e

@@ -183,7 +183,7 @@ impl Handles {
         judge_close(self.live.as_slice(), handle)
     }
 
-    /// A file is open behind those that were.
+    /// A file is open after those that were.
     pub fn add(&mut self, handle: u32, grant: u32, mode: u8)
         requires number { (1 ≤ handle) × (handle ≤ 8) }
         requires free { is_free handle self.old ≡ true }

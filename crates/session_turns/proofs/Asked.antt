@@ -26,7 +26,7 @@ snoc : (x : Event) (xs : List Event) → Snoc (x ∷ xs)
 snoc x [] = record { front = []; last = x; is = refl }
 snoc x (y ∷ ys) = let s = snoc y ys in record { front = x ∷ s.front; last = s.last; is = ap (λ zs. x ∷ zs) s.is }
 
--- behind what was seen others' events may have joined, and then the worker's own
+-- after what was seen others' events may have joined, and then the worker's own
 pub record IsCall (worker : ℕ) (old before : List Event) : Type 0 where
   pub rest : List Event
   pub longer : before ≡ old ++ rest

@@ -77,7 +77,7 @@ all_held history passes own held k d lt =
     let holds : HoldsPass worker_of history pass = held k d lt in
     (holds.0, places_held history pass (own k d lt) holds)
 
--- passes that may ask, of which each number has one, are all that the cell wants back
+-- passes that may ask, of which each number has one, are all that the cell needs back
 pub all_back : (setup : Settings) (place : CellFacts (Option Opened)) (passes : List BookPass) → All (IsPassAt setup place) passes → ((n : ℕ) → n < place.passes → Any (λ p. p.number ≡ n) passes) → AreAllPasses place passes × All OwnsAll passes
 all_back setup place passes are each =
     let here : All (λ p. p.cell ≡ place.id) passes = λ k d lt. let at : IsPassAt setup place (slice_index_or passes k d) = are k d lt in at.here in

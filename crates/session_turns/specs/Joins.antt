@@ -29,7 +29,7 @@ pub record SessionStays (session : ℕ) (old new : List Event) : Type 0 where
   pub user : verified_user new session ≡ verified_user old session
   pub files : live_handles_of new session ≡ live_handles_of old session
 
--- others' events stand behind what was seen, and none of the worker's
+-- others' events stand after what was seen, and none of the worker's
 pub record OthersJoined (setup : Settings) (worker : ℕ) (old before : List Event) : Type 0 where
   pub run : IsRun setup before
   pub places : worker_places before worker ≡ worker_places old worker

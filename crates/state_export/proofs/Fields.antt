@@ -28,11 +28,11 @@ pub bound : {A B F : Type 0} (r : Result A F) (next : A → Result B F) (b : B) 
 bound (Ok a) next b e = (a, refl, e)
 bound (Err fault) next b e = absurd cc
 
--- bytes behind a place are bytes
+-- bytes after a place are bytes
 pub behind_is_bytes : (place : ℕ) (bytes : List ℕ) → IsBytes bytes → IsBytes (drop place bytes)
 behind_is_bytes place bytes fits i = rw (get_or-drop {A = ℕ} place bytes i 0) (fits (place + i))
 
--- a field that was read: its content is in the range, and the bytes are its spelling and what stands behind it
+-- a field that was read: its content is in the range, and the bytes are its spelling and what stands after it
 pub record IsField (tag low high : ℕ) (bytes : List ℕ) (f : Field) : Type 0 where
   pub least : low ≤ length f.content
   pub most : length f.content ≤ high
@@ -86,7 +86,7 @@ field_written tag low high content behind least most small =
     let same : eqb tag tag ≡ true = grind arith in
     rw (three, same) (content_there low high _ content behind least most len)
 
--- the content of a field, and what stands behind it, are bytes
+-- the content of a field, and what stands after it, are bytes
 pub field_is_bytes : (tag low high : ℕ) (bytes : List ℕ) (f : Field) → IsBytes bytes → IsField tag low high bytes f → IsBytes f.content × IsBytes f.behind
 field_is_bytes tag low high bytes f fits field =
     let rest : drop 3 bytes ≡ f.content ++ f.behind = ap (λ (x : List ℕ). drop 3 x) field.spelled in

@@ -25,7 +25,7 @@ made : (uid : ℕ) (user : List ℕ) (r : Result StateValue StateFault) (v : Imp
 made uid user (Ok state) v e = (state, refl, cc)
 made uid user (Err fault) v e = absurd cc
 
--- five bytes or more, by the number in the first four and the byte behind them
+-- five bytes or more, by the number in the first four and the byte after them
 parted : (bytes : List ℕ) → IsBytes bytes → 5 ≤ length bytes → bytes ≡ to_le_bytes w32 (number_at w32 0 bytes) ++ slice_index bytes 4 ∷ drop 5 bytes
 parted (a ∷ b ∷ c ∷ d ∷ e ∷ rest) fits long = let first : to_le_bytes w32 (number_at w32 0 (a ∷ b ∷ c ∷ d ∷ e ∷ rest)) ≡ a ∷ b ∷ c ∷ d ∷ [] = to_le_bytes-number_at w32 (2 ^ 32) 0 (a ∷ b ∷ c ∷ d ∷ e ∷ rest) wide32 fits (omega arith) in ap (λ (x : List ℕ). x ++ e ∷ rest) (sym first)
 parted [] fits long = absurd (omega arith)
@@ -34,7 +34,7 @@ parted (a ∷ b ∷ []) fits long = absurd (omega arith)
 parted (a ∷ b ∷ c ∷ []) fits long = absurd (omega arith)
 parted (a ∷ b ∷ c ∷ d ∷ []) fits long = absurd (omega arith)
 
--- what is read behind the head
+-- what is read after the head
 abbrev named : List ℕ → List ℕ → Result ImportValue ImportFault
 named bytes user = demand Head (then_some (is_name user) user) >>= (λ name. imported (number_at w32 0 bytes) name (state_of (drop (slice_index bytes 4) (drop 5 bytes))))
 

@@ -1,8 +1,8 @@
--- Bytes put one part behind the other.
+-- Bytes put one part after the other.
 use Rattle.std.proofs.Common.{◌≡◌, ℕ, ◌+◌, ◌≤◌, List, ◌++◌, length, take, drop, sym, ap, ◌∙◌}
 use Rattle.std.proofs.lemmas.List.{take_at, drop_at, drop-drop, take-append-drop, length-append, length-take-le}
 
--- a buffer begins with a front of a length, and is behind it as a base is
+-- a buffer begins with a front of a length, and is after it as a base is
 pub record IsFront (front : List ℕ) (at : ℕ) (base out : List ℕ) : Type 0 where
   pub long : length front ≡ at
   pub is : out ≡ front ++ drop at base

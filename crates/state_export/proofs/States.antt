@@ -22,7 +22,7 @@ use Rattle.state_export.proofs.Fields.{IsField, after, bound, demanded, field_re
 abbrev read_of : Field → Field → Field → StateValue
 read_of terminal unread counts = record { terminal = terminal.content; unread = unread.content; lines = number_at w32 0 counts.content; bytes = number_at w32 4 counts.content }
 
--- nothing stands behind the last field
+-- nothing stands after the last field
 abbrev ended : Field → Field → Field → Result StateValue StateFault
 ended terminal unread counts = demand Trailing (then_some (eqb (length counts.behind) 0) (read_of terminal unread counts))
 
@@ -32,7 +32,7 @@ behind_two terminal unread = field_of 3 8 8 unread.behind >>= ended terminal unr
 abbrev behind_one : Field → Result StateValue StateFault
 behind_one terminal = field_of 2 0 4096 terminal.behind >>= behind_two terminal
 
--- four parts, one behind the other
+-- four parts, one after the other
 grouped : (a b c d : List ℕ) → a ++ (b ++ (c ++ d)) ≡ a ++ b ++ c ++ d
 grouped a b c d = sym (append_assoc a b (c ++ d)) ∙ sym (append_assoc (a ++ b) c d)
 
@@ -43,7 +43,7 @@ two_counts content fits len =
     let second : to_le_bytes w32 (number_at w32 4 content) ≡ drop 4 content = last_number w32 (2 ^ 32) 4 content wide32 fits (omega arith) in
     ap (λ (x : List ℕ). x ++ to_le_bytes w32 (number_at w32 4 content)) first ∙ ap (λ (x : List ℕ). take 4 content ++ x) second ∙ take-append-drop 4 content
 
--- three fields behind `OTS1`, with nothing behind them, spell what is read of them
+-- three fields after `OTS1`, with nothing after them, spell what is read of them
 spelled : (bytes : List ℕ) (terminal unread counts : Field) → IsBytes bytes → take 4 bytes ≡ codes "OTS1" → IsField 1 0 64 (drop 4 bytes) terminal → IsField 2 0 4096 terminal.behind unread → IsField 3 8 8 unread.behind counts → counts.behind ≡ [] → IsBytes counts.content → IsState (read_of terminal unread counts) × (bytes ≡ state_bytes (read_of terminal unread counts))
 unfolding state_bytes
 spelled bytes terminal unread counts fits magic one two three nothing whole =

@@ -11,7 +11,7 @@ pub enum StateFault {
     Tag,
     /// A field's length is out of its range, or more than what remains.
     Length,
-    /// Something stands behind the last field.
+    /// Something stands after the last field.
     Trailing,
 }
 
@@ -20,6 +20,6 @@ pub enum StateFault {
 pub enum ImportFault {
     /// The user number, the name's length or the name does not read.
     Head,
-    /// The state behind them does not read.
+    /// The state after them does not read.
     State(StateFault),
 }

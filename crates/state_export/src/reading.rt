@@ -9,7 +9,7 @@ ghost use Rattle.state_export.specs.Spelling.{IsState, StateValue, state_bytes, 
 use crate::fault::StateFault;
 use crate::state::State;
 
-/// A field that was read, and what stands behind it.
+/// A field that was read, and what stands after it.
 #[derive(Clone, Copy)]
 struct Field<'a> {
     content: &'a [u8],
@@ -69,7 +69,7 @@ fn field_of(tag: u8, low: usize, high: usize, bytes: &[u8]) -> Result<Field<'_>,
     )
 }
 
-/// The content of so many bytes, from low to high, and what stands behind it.
+/// The content of so many bytes, from low to high, and what stands after it.
 fn content_of(low: usize, high: usize, len: usize, bytes: &[u8]) -> Result<Field<'_>, StateFault>
     ensures read { MatchResult result (λ f. content_of low high len bytes.now ≡ Ok (record { content = f.content.now; behind = f.behind.now })) (λ e. content_of low high len bytes.now ≡ Err e) }
     ensures len { IfOk result (λ f. (low ≤ length f.content.now) × (length f.content.now ≤ high)) }

@@ -35,7 +35,7 @@ fn put_state(state: &State<'_>, out: &mut [u8]) -> usize
     put(out, at, &state.bytes.to_le_bytes())
 }
 
-/// Puts a field at a place of the buffer, and gives the place behind it.
+/// Puts a field at a place of the buffer, and gives the place after it.
 fn put_field(out: &mut [u8], at: usize, tag: u8, content: &[u8]) -> usize
     requires few { length content.now ≤ 4096 }
     requires room { at + 3 + length content.now ≤ length out.old }

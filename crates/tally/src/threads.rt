@@ -66,7 +66,7 @@ where
 }
 
 /// One cell over the object, whose passes each make the call so many times, on threads of their own. The object comes
-/// back with all of these calls, or, where memory is wanted for the cell, as it was.
+/// back with all of these calls, or, where there is no memory for the cell, as it was.
 pub fn call_all<O: Object, R: Threads + Wait + Sync>(
     rt: &R,
     alloc: Global,

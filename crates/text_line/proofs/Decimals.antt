@@ -21,7 +21,7 @@ next_digit digits number left start ge small one within is =
     ∙ ap (λ xs. decimal (left / 10) ++ xs) (sym (drop-set digits start digit within))
     ∙ ap (λ (n : ℕ). decimal (left / 10) ++ drop n (slice_set digits start digit)) place
 
--- the first digit, and all that were found behind it
+-- the first digit, and all that were found after it
 pub first_digit : (digits : List ℕ) (size number left start : ℕ) → left < 10 → length digits ≡ size → start < size → decimal number ≡ decimal left ++ drop (start + 1) digits → take (size - start) (drop start (slice_set digits start (48 + left))) ≡ decimal number
 first_digit digits size number left start lt sized within is =
     let found = slice_set digits start (48 + left) in

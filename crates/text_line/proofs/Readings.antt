@@ -66,7 +66,7 @@ decimal_of-digits text some alone = by_test (all_ascii_digits text && ltb (digit
 pub decimal_of-empty : (text : List ℕ) → length text < 1 → decimal_of text ≡ None
 decimal_of-empty text empty = decimal_of-none text (λ n small is. let some = decimal_nonempty n small in let none = ap length is in omega (arith, empty, some, none))
 
--- nor is a zero with a byte behind it
+-- nor is a zero with a byte after it
 pub decimal_of-zero : (text : List ℕ) → 2 ≤ length text → get_or text 0 0 ≡ 48 → decimal_of text ≡ None
 decimal_of-zero text more first_is = decimal_of-none text by_least where
   by_least : (n : ℕ) → n < 2 ^ 64 → text ≡ decimal n → ⊥
@@ -96,7 +96,7 @@ decimal_of-digit (c ∷ []) some one = by_told (is_ascii_digit c) refl where
 parted : (text : List ℕ) → 1 ≤ length text → take (length text - 1) text ++ (get_or text (length text - 1) 0 ∷ []) ≡ text
 parted text some = sym (take_more text (length text - 1) 0 (omega (arith, some))) ∙ take_all (length text - 1 + 1) text (omega arith)
 
--- bytes behind a front that isn't all digits or is longer than 19 make no number
+-- bytes after a front that isn't all digits or is longer than 19 make no number
 pub decimal_of-front : (text : List ℕ) → 1 ≤ length text → (all_ascii_digits (take (length text - 1) text) && leb (length (take (length text - 1) text)) 19) ≡ false → decimal_of text ≡ None
 decimal_of-front text some other = decimal_of-none text (λ n small is.
     let front = take (length text - 1) text in

@@ -1,7 +1,7 @@
 -- Inner: what a writer of a line appends.
 use Rattle.std.specs.Prelude.{◌≡◌, ℕ, ◌+◌, ◌≤◌, List, ◌++◌, length}
 
--- these bytes stand behind what was there
+-- these bytes stand after what was there
 pub record Writes (text old new : List ℕ) : Type 0 where
   pub text_is : new ≡ old ++ text
   pub len : length new ≡ length old + length text

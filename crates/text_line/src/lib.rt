@@ -1,4 +1,4 @@
-//! A short text that is written one part behind the other: words, numbers in decimal digits, bytes
+//! A short text that is written one part after the other: words, numbers in decimal digits, bytes
 //! in hexadecimal ones. The log's lines and the stored functions are written by it. And the number that
 //! a word spells: believe `specs/Reading.antt`. The log, the stored functions and the modes stand above.
 #![tactic(auto)]
@@ -112,7 +112,7 @@ fn front_of(digits: &[u8]) -> Option<u64>
     Some(number)
 }
 
-/// The number that a last digit makes behind a front, where 64 bits hold it.
+/// The number that a last digit makes after a front, where 64 bits hold it.
 fn with_digit(front: u64, last: u8) -> Option<u64>
     ensures { let number = front * 10 + digit_value last in result ≡ then_some (is_ascii_digit last && nat_lt number (2 ^ 64)) number }
 {

@@ -47,7 +47,7 @@ impl<O: Object> Model for TurnCell<O> {
 
 impl<O: Object> TurnCell<O> {
     /// A cell of the object, and its passes, one for each number from 0, whose places are their numbers. Where memory
-    /// is wanted the object comes back as it was.
+    /// runs out the object comes back as it was.
     pub fn new(alloc: Global, object: O) -> Result<(TurnCell<O>, Vec<Pass<O>>), (O, AllocError)>
         requires empty { O.history object ≡ [] }
         requires some { 0 < O.passes object }

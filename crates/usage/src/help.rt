@@ -36,10 +36,9 @@ fn help_in(alloc: Global, error: &Error) -> Result<Option<String>, AllocError> {
     }
 }
 
-/// Prints help or the version to standard output, where the words of a command line (without the
-/// program's name) ask for it, and gives the exit status: 0, or 11 where the text could not be printed
-/// whole. `None`: the words ask for neither, or there isn't the memory for the answer; then nothing is
-/// printed.
+/// Prints help or the version to standard output, if the arguments (without the program's name) ask for
+/// it, and gives the exit status: 0, or 11 if the text could not be printed whole. `None`: the arguments
+/// ask for neither, or there isn't the memory for the answer; then nothing is printed.
 pub fn answer_help(rt: &impl Print, alloc: Global, words: &[Word]) -> Option<ExitCode> {
     let text = help_text(alloc, words).ok()??;
     Some(match rt.print(text.as_str()) {

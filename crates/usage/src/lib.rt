@@ -1,7 +1,7 @@
 //! Help, and what a wrong command line is told, by `clap`.
 //!
-//! Nothing here decides what the program does: words that ask for help are answered before the proved
-//! calls, and what is wrong with a command line is said after these have refused it.
+//! Nothing here decides what the program does: arguments that ask for help are answered before the
+//! proved calls, and what is wrong with a command line is said after these have refused it.
 #![tactic(auto)]
 
 mod command;

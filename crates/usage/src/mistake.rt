@@ -6,8 +6,8 @@ use clap::Error;
 use outside::Word;
 use std::alloc::{AllocError, Global};
 
-/// What is wrong with the words of a command line (without the program's name) that are no command, in
-/// one line, and how it is called rightly, in two. Each line ends with a newline.
+/// What is wrong with a command line (without the program's name) that is no command, in one line, and
+/// the right usage, in two. Each line ends with a newline.
 ///
 /// # Errors
 ///

@@ -420,7 +420,7 @@ module _ (service : Service) (journal : List Event) (worker session : ℕ) (lega
     pub had_few : length history ≤ asked
     pub counted : count ≤ asked
 
-  -- behind that text the next line is waited for
+  -- after that text the next line is waited for
   pub told : (count : ℕ) (challenged : Bool) (s : State) (Q : List Event → Type 0) (lines line text : List ℕ)
       (left : ℕ) → Lasts service.setup journal worker session Q → HasLines (suc (suc count)) lines
       → ((e : ℕ) → line_end (behind_lines (suc count) lines) ≡ Some e → e ≤ 300)

@@ -1,4 +1,4 @@
--- The client's lines, as far as they came, and what the child before the login asks behind them.
+-- The client's lines, as far as they came, and what the child before the login asks after them.
 use Rattle.std.proofs.Common.{◌≡◌, ℕ, zero, suc, ◌+◌, ◌<◌, ◌≤◌, ◌^◌, Bool, true, false, ◌&&◌, ◌||◌, cond, List, []}
 use Rattle.std.proofs.Common.{◌∷◌, ◌++◌, length, take, Option, Some, None, refl, sym, ap, subst, ◌∙◌, arith, inl, inr, ◌⊎◌, lit≤}
 use Rattle.std.specs.Prelude.{codes, nat_le, is_some}
@@ -36,7 +36,7 @@ use Rattle.welcome_laws.proofs.Meeting.{had}
 
 -- ---- fronts
 
--- where no newline came yet, the line's is behind what came
+-- where no newline came yet, the line's is after what came
 late_end : (bytes more : List ℕ) (end : ℕ) → line_end bytes ≡ None → line_end (bytes ++ more) ≡ Some end
     → length bytes ≤ end
 unfolding line_end
@@ -65,7 +65,7 @@ some_end : (o : Option ℕ) → is_some o ≡ true → (end : ℕ) × (o ≡ Som
 some_end None h = absurd cc
 some_end (Some end) h = (end, refl)
 
--- the line behind so many came whole, or more of it is to come, and then little of it came
+-- the line after so many came whole, or more of it is to come, and then little of it came
 pub record IsWhole (count : ℕ) (lines bytes : List ℕ) : Type 0 where
   pub whole : HasLines (suc count) bytes
   pub same : front_of (behind_lines count bytes) ≡ front_of (behind_lines count lines)
@@ -315,7 +315,7 @@ tells_cancelled count challenged bytes history w = record {
   next = next_done requests.Abandon [] history refl;
 }
 
--- behind its text the next line is looked at, unless the client quits
+-- after its text the next line is looked at, unless the client quits
 pub waits_next : (count : ℕ) (challenged : Bool) (bytes line text : List ℕ) (history : List Exchange)
     → Tells count challenged bytes text history → front_of (behind_lines count bytes) ≡ Line line
     → is_quit (pre_command line) ≡ false → Waits (suc count) challenged bytes (had (say text) (Done []) ∷ history)

@@ -211,7 +211,7 @@ readable session request answer small is fits short = record {
 abbrev pub had : RequestValue → AnswerValue → Exchange
 had request answer = record { request = request; answer = answer }
 
--- behind its answer
+-- after its answer
 pub answered : (role : Role) (session : ℕ) (history : List Exchange) (request : RequestValue) (answer : AnswerValue)
     (replies said : List ℕ) → next_request role history ≡ Some request → length history < 4097
     → IsReadable session request answer
@@ -278,7 +278,7 @@ alone role session history said request next few went =
 
 -- ---- the step at which it is served
 
--- no part ends by itself behind a whole frame
+-- no part ends by itself after a whole frame
 pub not_alone : (width : Width) (why : Why) (rest unread : List ℕ) (request : RequestValue)
     → IsInRange frame_width request → EndsAlone width why rest unread → rest ++ unread ≡ request_bytes request → ⊥
 unfolding request_bytes

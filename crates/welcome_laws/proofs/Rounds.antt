@@ -70,7 +70,7 @@ pub record Round : Type 0 where
   pub exchange : Exchange
   pub message : Message
 
--- behind these exchanges come these rounds
+-- after these exchanges come these rounds
 abbrev pub Runs : Role → ℕ → List Exchange → List Round → Type 0
 Runs role session history [] = Unit {0}
 Runs role session history (r ∷ rounds) =
@@ -147,7 +147,7 @@ Ended role session history left out =
     ⊎ (((4097 ≤ length history) × (out ≡ [])) ⊎ ((request : RequestValue) × (next_request role history ≡ Some request)
     × (out ≡ request_bytes request) × Unheard session request left))
 
--- a child said this to these replies, behind these exchanges
+-- a child said this to these replies, after these exchanges
 pub record Went (role : Role) (session : ℕ) (history : List Exchange) (replies said : List ℕ) : Type 0 where
   pub rounds : List Round
   pub runs : Runs role session history rounds

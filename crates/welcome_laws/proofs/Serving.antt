@@ -182,7 +182,7 @@ module _ (service : Service) (journal : List Event) (worker session : ℕ) (lega
     pub last : ends_session step.place.event ≡ false → exports step.place.event ≡ true
         → (served ≡ []) × (final ≡ Some step) × (left ≡ []) × (end ≡ HandsOver)
 
-  -- a step behind which the part may end
+  -- a step after which the part may end
   final_served : (step : Step) → final ≡ Some step → ends_session step.place.event ≡ false
       → (exports step.place.event ≡ true) × (end ≡ HandsOver)
   final_served step is going =
@@ -268,7 +268,7 @@ module _ (service : Service) (journal : List Event) (worker session : ℕ) (lega
       ∙ ap (λ n. n + cond (sends_text request) 1 0) (n.holds.told first) ∙ one_text (sends_text request)
       (texts_of history)
 
-  -- behind the answer to a request that neither ended the session nor exported
+  -- after the answer to a request that neither ended the session nor exported
   pub record Behind (s : State) (Q : List Event → Type 0) (history : List Exchange) (served : List Step) (step : Step)
       (left : List Step) : Type 0 where
     pub more : List Step

@@ -168,7 +168,7 @@ module _ (service : Service) (journal : List Event) (worker session : ℕ) (lega
       l.waits.next ∙ ap (λ f. Some (pre_first f challenged)) (l.whole.same ∙ front)
       ∙ ap (λ c. Some (pre_request c challenged)) is
 
-  -- behind a request that the client has no part in
+  -- after a request that the client has no part in
   pub answering : (count : ℕ) (challenged to : Bool) (s next : State) (Q R : List Event → Type 0)
       (lines text : List ℕ) (left : ℕ) (request : RequestValue) (answer : AnswerValue)
       (l : Lined count challenged s Q lines left)
@@ -401,7 +401,7 @@ module _ (service : Service) (journal : List Event) (worker session : ℕ) (lega
 
   -- ---- `resp`, where a challenge is open
 
-  -- behind a REPLY that was accepted
+  -- after a REPLY that was accepted
   pub record Accepted (user : Name) (account : Account) (left : ℕ) : Type 0 where
     pub before : List Event
     pub reply : Event
@@ -549,7 +549,7 @@ module _ (service : Service) (journal : List Event) (worker session : ℕ) (lega
 
   -- ---- any of these lines
 
-  -- the client's line is answered by a text, behind which a challenge may be open
+  -- the client's line is answered by a text, after which a challenge may be open
   record Passed (may : Bool) (count tried : ℕ) (lines : List ℕ) (left : ℕ) (command : PreCommand) : Type 0 where
     pub challenged : Bool
     pub tries : ℕ

@@ -137,7 +137,7 @@ module _ (service : Service) (journal : List Event) (legal : IsLegal service.set
     (few : length journal ≤ EVENTS_LIMIT) (none : has_lost journal ≡ false) (range : IsInRange service.setup)
     (sound : list_any (λ e. is_fault_end e.ask) journal ≡ false) (worker : ℕ) (user : Name) (account : Account)
     (response : List ℕ) where
-  -- the session's parts, behind its opening
+  -- the session's parts, after its opening
   by_parts : (sitting : Sitting) (ending : Step) (why : Why) (before : List Event) (more : List Place)
       → ComesToLogIn service journal user account response sitting → is_fault_end (asks.End why) ≡ false
       → sitting_session sitting < 2 ^ 32 → At service.setup worker (sitting_session sitting) start before

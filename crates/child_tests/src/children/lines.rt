@@ -404,7 +404,7 @@ const NOT_PUT_ENDS: &str = "\
     0700 00000000 0000000000000000 0002\n\
     0d00";
 
-/// The replies behind what was left.
+/// The replies after what was left.
 const PUT_REPLIES: &str = "\
     0801 00\n\
     0901 00 01000000\n\

@@ -28,7 +28,7 @@ pub(super) fn outcome(fails: &[u32], made: &mut u32, faults: &mut u64) -> Result
     Ok(())
 }
 
-/// The bytes behind a write; it begins at the end where its place is behind that.
+/// The bytes after a write. A write whose place is past the end begins at the end.
 pub(super) fn write_over(
     alloc: Global,
     old: &[u8],

@@ -14,7 +14,7 @@ pub(crate) struct Picture {
     pub(crate) image: Vec<u8>,
 }
 
-/// The picture behind one call more.
+/// The picture after one call more.
 fn picture_after(
     alloc: Global,
     fill: u8,
@@ -47,7 +47,7 @@ fn picture_after(
     }
 }
 
-/// The image behind these calls in which every byte that is not yet safe has one value.
+/// The image after these calls in which every byte that is not yet safe has one value.
 pub(super) fn image_after(
     alloc: Global,
     first: &[u8],

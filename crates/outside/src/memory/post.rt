@@ -114,7 +114,7 @@ impl MemPost {
         })
     }
 
-    /// Sets a user's file. Where memory is wanted nothing is changed.
+    /// Sets a user's file. If memory runs out nothing is changed.
     pub fn keep(&mut self, uid: u32, name: &Label, bytes: &[u8]) -> Result<(), AllocError>
         ensures ok { OnOk result (Goes (FileSet uid (label_bytes name.now) bytes.now)
             (users_files self.old) (users_files self.new)) }

@@ -40,7 +40,7 @@ const TEXTS: &str = "
     4 200 yes
     4 201 no";
 
-/// The first number of information, how many follow it in order, and one more behind them.
+/// The first number of information, how many follow it in order, and one more after them.
 const NUMBERS: &str = "
     1 0 1000 yes
     0 0 5 no

@@ -15,7 +15,7 @@ use Rattle.account_file.proofs.accounts.each_account.Goals as goal
 pub loop-item-init : goal.loop-item-init
 loop-item-init c = rw c.new-accounts.ensures.items (record { read = read_none next_account (map view c.args.items.now); len = refl; legal = refl; names = refl; uids = refl })
 
--- an account behind the same others
+-- an account after the same others
 behind : (place : ℕ) (value : Data) (accounts seen : List Account) → place ≡ length accounts + 1 → seen ≡ accounts → next_account (map account_entry accounts) value ≡ read_account place (map (λ (a : Account). name_bytes a.name) seen) (map (λ (a : Account). a.uid) seen) value
 behind place value accounts seen at same =
     let others = map account_entry accounts in

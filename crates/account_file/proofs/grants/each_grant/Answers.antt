@@ -12,7 +12,7 @@ use Rattle.account_file.proofs.grants.each_grant.Goals as goal
 pub loop-item-init : goal.loop-item-init
 loop-item-init c = rw c.new-grants.ensures.items (record { read = read_none (read_grant c.args.account) (map view c.args.items.now); len = refl; modes = refl; different = refl })
 
--- a grant behind the same others
+-- a grant after the same others
 behind : (account : ℕ) (value : Data) (grants seen : List Grant) → seen ≡ grants → read_grant account (map grant_entry grants) value ≡ read_grant account (map grant_entry seen) value
 behind account value grants seen same = ap (λ (gs : List Grant). read_grant account (map grant_entry gs) value) (sym same)
 

@@ -8,7 +8,7 @@ use Rattle.account_writer.specs.Written.{IsTextOf}
 use Rattle.account_writer.proofs.BehindLemmas.{alone_dated, is_text}
 use Rattle.account_writer.proofs.writing.write_account.Goals as goal
 
--- bytes that are a text behind an empty line
+-- bytes that are a text after an empty line
 spaced_text : {V E : Type 0} (items : V → List ℕ) (a : Account) (text : List ℕ) (r : Result V E)
     → IfOk r (λ bytes. items bytes ≡ 10 ∷ text) → IfOk r (λ bytes. IsUtf8 (items bytes))
     → (IsUtf8 (10 ∷ text) → IsTextOf a (10 ∷ text)) → IfOk r (λ bytes. IsTextOf a (items bytes))

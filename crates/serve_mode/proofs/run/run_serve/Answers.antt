@@ -40,7 +40,7 @@ returns-in-Ok-serve-clause-ended g c =
     let by_posts = subst (λ p. ServeEnded source forms done.end done.journal.items p.items g.S.Post.Post.scene g.S.Post.Post.faults old new (g.S.Site.listens c.args.site.now) (g.S.Site.listens c.serve.new.site) (g.K.Sink.held c.args.log) (g.K.Sink.held ran.log) ReadRose (Rose first last) ListenRose (Rose (g.K.Sink.faults c.args.log) (g.K.Sink.faults ran.log))) (sym c.finish.ensures.posts) by_journal in
     subst (λ l. ServeEnded source forms done.end done.journal.items done.posts.items g.S.Post.Post.scene g.S.Post.Post.faults old new (g.S.Site.listens c.args.site.now) (g.S.Site.listens c.serve.new.site) (g.K.Sink.held c.args.log) (g.K.Sink.held l) ReadRose (Rose first last) ListenRose (Rose (g.K.Sink.faults c.args.log) (g.K.Sink.faults l))) (sym c.finish.ensures.log) by_posts
 
--- memory was wanted, or the site could not listen
+-- out of memory, or the site could not listen
 pub returns-in-Ok-clause-ended : goal.returns-in-Ok-clause-ended
 returns-in-Ok-clause-ended g c =
     let source = source_of c.args.command.now in

@@ -4,7 +4,7 @@ use Rattle.state_export.specs.Spelling.{field_bytes}
 use Rattle.state_export.proofs.Puts.{at_first, on}
 use Rattle.state_export.proofs.writing.put_field.Goals as goal
 
--- three parts behind a front, as one field
+-- three parts after a front, as one field
 as_field : (front content rest : List ℕ) (tag low high : ℕ) → front ++ tag ∷ [] ++ low ∷ high ∷ [] ++ content ++ rest ≡ front ++ tag ∷ low ∷ high ∷ content ++ rest
 as_field front content rest tag low high =
     ap (λ (x : List ℕ). x ++ content ++ rest) (append_assoc front (tag ∷ []) (low ∷ high ∷ [])) ∙ ap (λ (x : List ℕ). x ++ rest) (append_assoc front (tag ∷ low ∷ high ∷ []) content)

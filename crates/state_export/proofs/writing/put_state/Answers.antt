@@ -4,7 +4,7 @@ use Rattle.state_export.specs.Spelling.{field_bytes, state_bytes, value_of}
 use Rattle.state_export.proofs.Puts.{at_first, on}
 use Rattle.state_export.proofs.writing.put_state.Goals as goal
 
--- the parts of a state, one behind the other
+-- the parts of a state, one after the other
 as_state : (front lines bytes rest : List ℕ) → front ++ 3 ∷ 8 ∷ 0 ∷ [] ++ lines ++ bytes ++ rest ≡ front ++ 3 ∷ 8 ∷ 0 ∷ (lines ++ bytes) ++ rest
 as_state front lines bytes rest =
     ap (λ (x : List ℕ). x ++ rest) (append_assoc (front ++ 3 ∷ 8 ∷ 0 ∷ []) lines bytes ∙ append_assoc front (3 ∷ 8 ∷ 0 ∷ []) (lines ++ bytes))
