@@ -48,7 +48,7 @@ fn answer_status(answer: Audit) -> u8
 ///
 /// # Errors
 ///
-/// The first error, in this order: of the setup, of the log, of the line; memory may run out at
+/// The first error, in this order: of the setup, of the log, of sending the line. Memory may run out at
 /// each.
 pub fn run_audit<F: Files, E: Stream>(
     alloc: Global,

@@ -1,4 +1,4 @@
-//! The mode `enrol`: the account of a new user, as a table to stand after a setup's, of a pass phrase.
+//! The mode `enrol`: makes a new user's account from a pass phrase, as a table to append to a setup.
 //! Believe `specs/Words.antt`, `specs/Outcome.antt` and the files that these name; the top call stands
 //! above.
 #![tactic(auto)]

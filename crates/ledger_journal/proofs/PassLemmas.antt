@@ -27,7 +27,7 @@ or_comm true false = refl
 or_comm false true = refl
 or_comm false false = refl
 
--- one reply more is looked at, from the last
+-- one reply more is looked at, from the last to the first
 pub seen_on : (setup : Settings) (later : List Login) (login : Login) (number : ℕ) (account : Account) (old : List Bool) (was : Bool) → AreSeen setup later old → login.account ≡ Some number → slice_get setup.accounts number ≡ Some account → number < length setup.accounts → was ≡ get_or old number was → AreSeen setup (login ∷ later) (set old number (was || nat_eq account.password login.password))
 seen_on setup later login number account old was seen of stands within was_is = record { same = length-set old number (was || nat_eq account.password login.password) ∙ seen.same; each = each } where
   in_range : number < length old
@@ -60,7 +60,7 @@ parts_at logins i d some le =
     let next : i - 1 + 1 ≡ i = omega (arith, some) in
     sym (drop_more logins (i - 1) d (omega (arith, some, le)) ∙ ap (λ n. get_or logins (i - 1) d ∷ drop n logins) next)
 
--- the replies that are left, from the last
+-- the replies that are left, from the last to the first
 pub left_on : (setup : Settings) (logins : List Login) (i : ℕ) (d : Login) (passed : Bool) (left : List Login) → 0 < i → i ≤ length logins → passed ≡ is_passed setup (get_or logins (i - 1) d) (drop i logins) → reverse left ≡ left_of setup (drop i logins) → reverse (cond passed left (left ++ get_or logins (i - 1) d ∷ [])) ≡ left_of setup (drop (i - 1) logins)
 left_on setup logins i d passed left some le passed_as so_far =
     go passed

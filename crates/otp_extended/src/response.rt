@@ -40,7 +40,7 @@ pub enum Response {
 pub enum ResponseFault {
     /// It doesn't begin with a kind's word and a colon.
     Kind,
-    /// After that there is not one part, or not three, as the kind has it.
+    /// Not as many parts follow as the kind has, one or three.
     Parts,
     /// The current password doesn't read.
     Current,

@@ -179,7 +179,7 @@ position_or_len-le p (x ∷ xs) = go (p x) (position_or_len-le p xs) where
   go true h = omega arith
   go false h = omega arith
 
--- the first place of a list that one was put after
+-- the first place of a list to which one was appended
 place_push : {X : Type 0} (p : X → Bool) (xs : List X) (x : X) → position p (xs ++ x ∷ []) ≡ with_one (position p xs) (length xs) (p x)
 place_push p xs x = at_length (length-append xs (x ∷ [])) ∙ ap (λ k. cond (nat_lt k (length xs + 1)) (Some k) None) (position_or_len_push p xs x) ∙ go (position_or_len p xs) (length xs) (p x) (position_or_len-le p xs) where
   at_length : length (xs ++ x ∷ []) ≡ length xs + 1 → position p (xs ++ x ∷ []) ≡ cond (nat_lt (position_or_len p (xs ++ x ∷ [])) (length xs + 1)) (Some (position_or_len p (xs ++ x ∷ []))) None

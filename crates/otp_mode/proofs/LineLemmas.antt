@@ -28,7 +28,7 @@ newline_or_len-append xs ys has =
     let differs : eqb (newline_or_len xs) (length xs) ≡ false = grind arith in
     prefix_len-append (λ c. not (c == 10)) xs ys ∙ rw differs refl
 
--- without one the next may stand only after them
+-- without a newline in the first bytes, the next may stand only after them
 newline_or_len-behind : (xs ys : List ℕ) → length xs ≤ newline_or_len xs → length xs ≤ newline_or_len (xs ++ ys)
 newline_or_len-behind xs ys none =
     let all : newline_or_len xs ≡ length xs = omega (arith, none, prefix_len-le-length (λ c. not (c == 10)) xs) in

@@ -165,7 +165,7 @@ impl<
         self.faults.link = link_count(self.faults.link, child_faults);
     }
 
-    /// Closes the connection. The client sees the end of input, also where it had sent something that
+    /// Closes the connection. The client sees the end of input, even if it had sent something that
     /// nobody read.
     fn hang_up(&mut self, conn: UnixStream)
         ensures counts { CountNothing (faults_of self.old) (faults_of self.new) }

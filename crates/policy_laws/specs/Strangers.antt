@@ -1,5 +1,4 @@
 -- Believed: what a session is shown before a login: it depends only on the session's own dialogue.
--- before.
 use Rattle.std.specs.Prelude.{ℕ, ◌≡◌, ◌+◌, Bool, true, false, not, ◌&&◌, List, filter, map, take, Option, Some, None, slice_get}
 use Rattle.request_catalogue.specs.declared.kind.Kind.{Kind}
 use Rattle.policy_model.specs.declared.event.Ask.{Ask}

@@ -29,14 +29,16 @@ pub fn verified_before_export()
     ensures { (setup : Settings) (journal : List Event) → IsLegal setup journal → VerifiedBeforeExport setup journal }
 {}
 
-/// Strangers are told alike: what is shown to a session by which nobody has logged in depends on
-/// nothing but what it asked and was told before.
+/// Strangers are told alike: take a session by which nobody has logged in, and an ask of it that is
+/// neither its opening nor a CHALLENGE nor its end. What is shown of the decision depends only on the
+/// ask, on what the session was told before, and on how many requests the setup gives a session.
 pub fn strangers_are_told_alike()
     ensures { (setup : Settings) (journal : List Event) → IsLegal setup journal → StrangersAreToldAlike setup journal }
 {}
 
-/// Sessions by which nobody has logged in, of one journal or of two, are shown the same where they ask
-/// the same and were told the same before, whatever accounts stand behind the names.
+/// Take two sessions by which nobody has logged in, of one journal or of two, under setups with as many
+/// requests a session. If both ask the same, but no CHALLENGE, and were told the same before, they are
+/// shown the same, whatever accounts the names stand for.
 pub fn shows_no_accounts()
     ensures { (setup : Settings) (journal : List Event) → IsLegal setup journal → ShowsNoAccounts setup journal }
 {}

@@ -4,7 +4,7 @@ use Rattle.std.proofs.lemmas.List.{append-nil, take_more}
 use Rattle.std.specs.List.{last_or, list_any}
 use Rattle.std.proofs.lemmas.List.Elements.{filter-append}
 
--- the last element of a list that one was put after
+-- the last element of a list to which one was appended
 pub last_or-push : {X : Type 0} (o : Option X) (xs : List X) (x : X) → last_or o (xs ++ x ∷ []) ≡ Some x
 last_or-push o [] x = refl
 last_or-push o (y ∷ ys) x = last_or-push (Some y) ys x

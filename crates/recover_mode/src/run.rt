@@ -38,9 +38,9 @@ pub fn status(outcome: Result<Recovery, RecoveryError>) -> u8
 ///
 /// # Errors
 ///
-/// The first error, in this order: of the setup, of the log's file, of its records, of memory, of the
-/// two replacings, of the sending; memory may also run out at a file. A file is replaced only where
-/// none of them came before.
+/// The first error, in this order: of the setup, the log's file, its records, memory, replacing the two
+/// files, sending the line. Memory may also run out at a file. A file is replaced only if no error came
+/// before.
 pub fn run_recover<F: Files, E: Stream>(
     alloc: Global,
     command: &RecoverCommand<'_>,

@@ -34,9 +34,9 @@ pub fn status(outcome: Result<Renewed, RenewError>) -> u8
 ///
 /// # Errors
 ///
-/// The first error, in this order: of the setup, of the word list, of the log, of the receiving, of the
-/// response, of the renewal, of memory, of the replacing, of the sending; memory may also run out at a
-/// file. The file is replaced only where none of them came before.
+/// The first error, in this order: of the setup, the word list, the log, receiving the line, the
+/// response, the renewal, memory, replacing the file, sending the line. Memory may also run out at a
+/// file. The file is replaced only if no error came before.
 pub fn run_renew<F: Files, E: Stream>(
     alloc: Global,
     command: &RenewCommand<'_>,

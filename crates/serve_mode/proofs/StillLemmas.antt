@@ -111,7 +111,7 @@ ready_by Plain forms contents setup words read fresh = tt
 ready_by (Named name log) forms None setup words read fresh = tt
 ready_by (Named name log) forms (Some files) setup words read fresh = (ap is_ok read, fresh)
 
--- after what was read a log that is refused leaves nothing to begin with
+-- a log that is refused after what was read leaves nothing to begin with
 pub unready_log : (source : Source) (forms : List Key) (mid new : Option Contents) (setup : Settings) (words : List (List ℕ)) (first meanwhile last : ℕ) (error : ServeError) → IsReadFrom source forms mid setup words → Goes SameFiles mid new → first ≤ meanwhile → IsLogRefused (log_of source) new (Rose meanwhile last) error → IsUnready source forms new (Rose first last) error
 unready_log Plain forms mid new setup words first meanwhile last error read kept low refused = absurd refused
 unready_log (Named name None) forms mid new setup words first meanwhile last error read kept low refused = absurd refused

@@ -30,8 +30,8 @@ pub struct ServiceParts {
 ///
 /// # Errors
 ///
-/// The first, in this order: of the setup's file, of the setup, of a number of information that
-/// can't be said, of the list's file, of the list. Memory may run out at each file.
+/// The first error, in this order: of the setup's file, the setup, a number of information that can't be
+/// said, the list's file, the list. Memory may run out at each file.
 pub fn read_service<F: Files, I: Information>(
     alloc: Global,
     files: &mut F,

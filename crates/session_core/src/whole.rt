@@ -106,8 +106,8 @@ impl Core {
         self.judge(worker, ask)
     }
 
-    /// The event of an ask with what `decide` answers, which is settled: the next decision stands after
-    /// it. A permitted opening has to be within the sessions that may be opened.
+    /// Makes the event of an ask with what `decide` answered, and settles it: later decisions take it into
+    /// account. A permitted opening has to be within the sessions that may be opened.
     pub fn settle(&mut self, worker: u32, ask: &Ask, decision: Decision) -> Event
         requires worker { worker < self.old.ledger.setup.workers }
         requires decided { (journal : List Event) → Stands self.old journal → decision ≡ verdict_of self.old.ledger.setup journal worker ask.now }

@@ -12,7 +12,7 @@ ghost use Rattle.session_laws.specs.Handled.{HandlesGoOn};
 ghost use Rattle.session_laws.specs.Laws.{BeginsFresh, ChangesOneUser, CountsOnce, FollowsLegal, HandlesAreApart, HoldersAreTied, SessionsAreApart, SessionsHaveUsers};
 ghost use Rattle.session_laws.specs.Phased.{IsPhasedBy};
 
-/// A session's phase after an event is told by its phase before and by that event alone.
+/// A session's phase after an event follows from its phase before and from that event alone.
 pub fn phases_go_on()
     ensures { (journal : List Event) (e : Event) → IsPhasedBy journal e }
 {}

@@ -65,8 +65,8 @@ where
     );
 }
 
-/// One cell over the object, whose passes each make the call so many times, on threads of their own. The object comes
-/// back with all of these calls, or, where there is no memory for the cell, as it was.
+/// Puts the object into a cell. Each of the cell's passes, in a thread of its own, makes the call `times` times. The
+/// object comes back with all of these calls, or, if there is no memory for the cell, as it was.
 pub fn call_all<O: Object, R: Threads + Wait + Sync>(
     rt: &R,
     alloc: Global,

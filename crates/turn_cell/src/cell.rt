@@ -46,8 +46,8 @@ impl<O: Object> Model for TurnCell<O> {
 }
 
 impl<O: Object> TurnCell<O> {
-    /// A cell of the object, and its passes, one for each number from 0, whose places are their numbers. Where memory
-    /// runs out the object comes back as it was.
+    /// A cell over the object, and its passes: one for each number from 0, at the place of its number. If memory runs
+    /// out, the object comes back as it was.
     pub fn new(alloc: Global, object: O) -> Result<(TurnCell<O>, Vec<Pass<O>>), (O, AllocError)>
         requires empty { O.history object ≡ [] }
         requires some { 0 < O.passes object }
