@@ -75,7 +75,7 @@ fn put_account(
     put(alloc, table, "grants", Value::from(grants))
 }
 
-/// Puts the tables of accounts, where there are any: after a key with no table none could follow.
+/// Puts the tables of accounts. Without accounts it leaves the key out, so that a table may be appended.
 pub(crate) fn put_accounts(
     alloc: Global,
     table: &mut Table,

@@ -11,8 +11,8 @@ use request_catalogue::Width;
 #[derive(Clone, Copy, PartialEq, Eq)]
 pub struct TooLong;
 
-/// Writes a frame with flags 0 to the front of `out`, and answers how many bytes it has: 16 and the
-/// body's. The bytes of `out` after the frame stay as they were. A frame of at most 16,384 bytes is
+/// Writes a frame with flags 0 to the front of `out`, and answers how many bytes it has: 16 more than
+/// the body. The bytes of `out` after the frame stay as they were. A frame of at most 16,384 bytes is
 /// written alike in both widths.
 ///
 /// `out` needs room for the frame, unless the body is too long for any.
