@@ -1,3 +1,4 @@
 pub mod Apart
+pub mod Posts
 pub mod Told
 pub mod Whole

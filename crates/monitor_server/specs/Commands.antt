@@ -60,10 +60,19 @@ asks_recover words = option_and_then recover_command (words_without_hyphen words
 abbrev pub asks_enrol : List (List ℕ) → Option EnrolParts
 asks_enrol words = option_and_then enrol_command (words_without_hyphen words)
 
--- the words of a command: those of the modes `serve`, `otp` and `check`, of the children's, and of `audit`, `renew`, `drill`, `recover`
--- and `enrol`
+-- the words of a command: those of the modes `serve`, `otp` and `check`, of the children's, and of `audit`, `renew`,
+-- `drill`, `recover` and `enrol`
 abbrev pub IsCommand : List (List ℕ) → Type 0
-IsCommand words = ((source : Source) × (asks_serve words ≡ Some source)) ⊎ ((parts : OtpParts) × (asks_otp words ≡ Some parts)) ⊎ ((setup : List ℕ) × (asks_check words ≡ Some setup)) ⊎ ((parts : ChildParts) × (asks_child words ≡ Some parts)) ⊎ ((parts : AuditParts) × (asks_audit words ≡ Some parts)) ⊎ ((parts : RenewParts) × (asks_renew words ≡ Some parts)) ⊎ ((number : ℕ) × (asks_drill words ≡ Some number)) ⊎ ((parts : RecoverParts) × (asks_recover words ≡ Some parts)) ⊎ ((parts : EnrolParts) × (asks_enrol words ≡ Some parts))
+IsCommand words =
+    ((source : Source) × (asks_serve words ≡ Some source))
+    ⊎ ((parts : OtpParts) × (asks_otp words ≡ Some parts))
+    ⊎ ((setup : List ℕ) × (asks_check words ≡ Some setup))
+    ⊎ ((parts : ChildParts) × (asks_child words ≡ Some parts))
+    ⊎ ((parts : AuditParts) × (asks_audit words ≡ Some parts))
+    ⊎ ((parts : RenewParts) × (asks_renew words ≡ Some parts))
+    ⊎ ((number : ℕ) × (asks_drill words ≡ Some number))
+    ⊎ ((parts : RecoverParts) × (asks_recover words ≡ Some parts))
+    ⊎ ((parts : EnrolParts) × (asks_enrol words ≡ Some parts))
 
 -- what a mode's word and the words after it are read as that is done without threads
 abbrev pub IsMeantAlone : List (List ℕ) → Option AloneCommand → Type 0

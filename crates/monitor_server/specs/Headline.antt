@@ -2,19 +2,29 @@
 use Rattle.std.specs.Prelude.{◌≡◌, ◌⊎◌, ℕ, Bool, true, false, ◌==◌, List, [], ◌∷◌, None}
 use Rattle.std.specs.List.{list_any}
 use Rattle.command_line.specs.Words.{words_without_hyphen}
-use Rattle.policy_model.specs.declared.event.Event.{Event}
+use Rattle.monitor_server.specs.declared.report.Detail.TheVariants.{Nothing}
+use Rattle.monitor_server.specs.Around.{Around, Said}
 use Rattle.monitor_server.specs.Commands.{IsCommand, asks_serve}
 
 -- nobody was served: there is no post, and the log is as it was
-pub record IsUnserved {P K : Type 0} (before after : K) (posts : List P) : Type 0 where
-  pub log : after ≡ before
-  pub workers : posts ≡ []
+pub record IsUnserved {F S K E : Type 0} (before after : Around F S K E) (said : Said) : Type 0 where
+  pub log : after.log ≡ before.log
+  pub workers : said.posts ≡ []
 
--- nothing was used: no event, no post, and the log is as it was
-pub record UsesNothing {P K : Type 0} (before after : K) (journal : List Event) (posts : List P) : Type 0 where
-  pub log : after ≡ before
-  pub events : journal ≡ []
-  pub workers : posts ≡ []
+-- nothing was used but files and ends: no event, no post, and the site and the log are as they were
+pub record UsesNothing {F S K E : Type 0} (before after : Around F S K E) (said : Said) : Type 0 where
+  pub site : after.site ≡ before.site
+  pub log : after.log ≡ before.log
+  pub events : said.journal ≡ []
+  pub workers : said.posts ≡ []
+
+-- of what is around the ends alone were used, nobody was served, and there is no more to tell than the status
+pub record UsesEndsAlone {F S K E : Type 0} (before after : Around F S K E) (said : Said) : Type 0 where
+  pub files : after.files ≡ before.files
+  pub site : after.site ≡ before.site
+  pub log : after.log ≡ before.log
+  pub workers : said.posts ≡ []
+  pub plain : said.detail ≡ Nothing
 
 -- the statuses of the program
 abbrev pub statuses : List ℕ
@@ -23,7 +33,8 @@ statuses = 0 ∷ 2 ∷ 3 ∷ 4 ∷ 5 ∷ 6 ∷ 7 ∷ 8 ∷ 9 ∷ 10 ∷ 11 ∷ 1
 abbrev pub IsStatus : ℕ → Type 0
 IsStatus status = list_any (λ s. s == status) statuses ≡ true
 
--- of these statuses, those are of `serve` alone: the site could not listen, the log could not be written, an accept failed
+-- of these statuses, those are of `serve` alone: the site could not listen, the log could not be written, an accept
+-- failed
 abbrev pub is_serve_status : ℕ → Bool
 is_serve_status status = list_any (λ s. s == status) (6 ∷ 7 ∷ 10 ∷ [])
 

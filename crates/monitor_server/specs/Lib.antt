@@ -1,3 +1,4 @@
+pub mod Around
 pub mod Commands
 pub mod Headline
 pub mod Modes

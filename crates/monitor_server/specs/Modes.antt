@@ -2,11 +2,7 @@
 use Rattle.std.specs.Prelude.{◌≡◌, ◌≢◌, ◌⊎◌, ℕ, cond, nat_lt, List, [], Option, Some, None, Result, Ok, Err, Vec}
 use Rattle.std.specs.Global.{Global}
 use Rattle.info_hooks.specs.declared.key.Key.{Key}
-use Rattle.outside.specs.declared.faults.Faults.{Faults}
-use Rattle.outside.specs.declared.place.Place.{Place as SitePlace}
 use Rattle.outside.specs.Files.{Contents, SameFiles}
-use Rattle.outside.specs.Link.{Link}
-use Rattle.outside.specs.Scene.{Scene}
 use Rattle.outside.specs.Told.{Goes}
 use Rattle.policy_model.specs.declared.event.Event.{Event}
 use Rattle.service_reading.specs.declared.error.ServiceError.TheVariants as service_errors
@@ -56,11 +52,16 @@ use Rattle.recover_mode.specs.Errors as recovery_statuses
 use Rattle.recover_mode.specs.Outcome as recoveries
 use Rattle.recover_mode.specs.Returning.{BringsBack}
 use Rattle.recover_mode.specs.Words.{RecoverParts}
+use Rattle.monitor_server.specs.declared.report.Answer.{Answer}
 use Rattle.monitor_server.specs.declared.report.Detail.{Detail}
-use Rattle.monitor_server.specs.declared.report.Detail.TheVariants.{AuditNo, FewRequests, LogBad, LogNotFresh, Missing, Nothing, RenewBad, SetupBad, WordsBad}
+use Rattle.monitor_server.specs.declared.report.Detail.TheVariants.{AuditNo, FewRequests, LogBad, LogNotFresh, Missing}
+use Rattle.monitor_server.specs.declared.report.Detail.TheVariants.{Nothing, RenewBad, SetupBad, WordsBad}
 use Rattle.monitor_server.specs.declared.report.FileKind.TheVariants.{Log, Setup, Words}
 use Rattle.monitor_server.specs.declared.report.TheConstants.{FEW_REQUESTS}
-use Rattle.monitor_server.specs.Commands.{asks_audit, asks_check, asks_child, asks_drill, asks_enrol, asks_otp, asks_recover, asks_renew, asks_serve}
+use Rattle.monitor_server.specs.Around.{Around, EndsNow, EndsRose, FilesGo, ListenRose, LogRose, ReadRose, ReplaceRose}
+use Rattle.monitor_server.specs.Around.{Said, SidesNow, answer_in, sides_of}
+use Rattle.monitor_server.specs.Commands.{asks_audit, asks_check, asks_child, asks_drill, asks_enrol, asks_otp}
+use Rattle.monitor_server.specs.Commands.{asks_recover, asks_renew, asks_serve}
 use Rattle.monitor_server.specs.Headline.{IsUnserved}
 
 -- what is missing or refused of what a run serves by and logs to
@@ -73,15 +74,21 @@ serve_detail (Err serve_errors.LogNotFresh) = LogNotFresh
 serve_detail _ = Nothing
 
 -- the mode `serve` came to an end that is told by status and detail
-pub record ServeRan {P : Type 0} (source : Source) (forms : List Key) (status : ℕ) (detail : Detail) (journal : List Event) (posts : List P) (scene : P → Option Scene) (faults : P → Faults) (old new : Option Contents) (listens_old listens_new : Option (List SitePlace)) (held_old held_new : Option (List ℕ)) (ReadRose ReplaceRose ListenRose LogRose : Type 0) : Type 0 where
+pub record ServeRan {F S K E : Type 0} (source : Source) (forms : List Key) (contents : F → Option Contents)
+    (before after : Around F S K E) (said : Said) : Type 0 where
   pub end : Result (Unit {0}) ServeError
-  pub status_is : status ≡ serves.status_of end
-  pub detail_is : detail ≡ serve_detail end
-  pub ended : ServeEnded source forms end journal posts scene faults old new listens_old listens_new held_old held_new ReadRose ReplaceRose ListenRose LogRose
+  pub status_is : said.status ≡ serves.status_of end
+  pub detail_is : said.detail ≡ serve_detail end
+  pub ended : ServeEnded source forms end said.journal said.posts (λ p. p.scene) (λ p. p.faults)
+      (contents before.files.it) (contents after.files.it) before.site.listens after.site.listens
+      before.log.held after.log.held
+      (ReadRose before.files after.files) (ReplaceRose before.files after.files)
+      (ListenRose before.site after.site) (LogRose before.log after.log)
 
 -- where the words are those of the mode `serve`, it ran
-pub record ServeMode {P : Type 0} (words : List (List ℕ)) (forms : List Key) (status : ℕ) (detail : Detail) (journal : List Event) (posts : List P) (scene : P → Option Scene) (faults : P → Faults) (old new : Option Contents) (listens_old listens_new : Option (List SitePlace)) (held_old held_new : Option (List ℕ)) (ReadRose ReplaceRose ListenRose LogRose : Type 0) : Type 0 where
-  pub ran : (source : Source) → asks_serve words ≡ Some source → ServeRan source forms status detail journal posts scene faults old new listens_old listens_new held_old held_new ReadRose ReplaceRose ListenRose LogRose
+pub record ServeMode {F S K E : Type 0} (words : List (List ℕ)) (forms : List Key) (contents : F → Option Contents)
+    (before after : Around F S K E) (said : Said) : Type 0 where
+  pub ran : (source : Source) → asks_serve words ≡ Some source → ServeRan source forms contents before after said
 
 -- where a fault of the mode `otp` lies
 abbrev pub fault_detail : OtpFault → Detail
@@ -94,20 +101,26 @@ detail_of (Ok _) = Nothing
 detail_of (Err fault) = fault_detail fault
 
 -- the mode `otp` came to an outcome that the files and the ends account for, and that is told by status and detail
-pub record PasswordRan (parts : OtpParts) (status : ℕ) (detail : Detail) (contents : Option Contents) (before after : Option Link) (ReadFailed EndsFailed : Type 0) : Type 0 where
+pub record PasswordRan {F E : Type 0} (parts : OtpParts) (contents : F → Option Contents)
+    (before after : SidesNow F E) (answer : Answer) : Type 0 where
   pub outcome : Result (Unit {0}) OtpFault
-  pub status_is : status ≡ status_of outcome
-  pub detail_is : detail ≡ detail_of outcome
-  pub cause : IsOutcome parts contents before after ReadFailed EndsFailed outcome
-  pub exact : IsExact parts contents before after ReadFailed EndsFailed outcome
+  pub status_is : answer.status ≡ status_of outcome
+  pub detail_is : answer.detail ≡ detail_of outcome
+  pub cause : IsOutcome parts (contents after.files.it) before.ends.link after.ends.link
+      (ReadRose before.files after.files) (EndsRose before.ends after.ends) outcome
+  pub exact : IsExact parts (contents after.files.it) before.ends.link after.ends.link
+      (ReadRose before.files after.files) (EndsRose before.ends after.ends) outcome
 
 -- where the words are those of the mode `otp`, it ran, unless memory was wanted
-pub record PasswordMode (words : List (List ℕ)) (status : ℕ) (detail : Detail) (contents : Option Contents) (before after : Option Link) (ReadFailed EndsFailed : Type 0) : Type 0 where
-  pub ran : (parts : OtpParts) → asks_otp words ≡ Some parts → (status ≡ 9) ⊎ PasswordRan parts status detail contents before after ReadFailed EndsFailed
+pub record PasswordMode {F S K E : Type 0} (words : List (List ℕ)) (contents : F → Option Contents)
+    (before after : Around F S K E) (said : Said) : Type 0 where
+  pub ran : (parts : OtpParts) → asks_otp words ≡ Some parts
+      → (said.status ≡ 9) ⊎ PasswordRan parts contents (sides_of before) (sides_of after) (answer_in said)
 
 -- what is missing or refused of a setup, and where it is right, that its requests are few
 abbrev pub finding_detail : Finding → Detail
-finding_detail (findings.Right accounts workers requests) = cond (nat_lt requests FEW_REQUESTS) (FewRequests requests) Nothing
+finding_detail (findings.Right accounts workers requests) =
+    cond (nat_lt requests FEW_REQUESTS) (FewRequests requests) Nothing
 finding_detail findings.SetupMissing = Missing Setup
 finding_detail (findings.SetupRefused fault) = SetupBad fault
 finding_detail findings.WordsMissing = Missing Words
@@ -118,25 +131,31 @@ checked_detail (Ok finding) = finding_detail finding
 checked_detail (Err _) = Nothing
 
 -- the mode `check` came to an outcome that the files and the ends account for, and that is told by status and detail
-pub record CheckRan (forms : List Key) (setup : List ℕ) (status : ℕ) (detail : Detail) (contents : Option Contents) (before after : Option Link) (ReadFailed EndsFailed : Type 0) : Type 0 where
+pub record CheckRan {F E : Type 0} (forms : List Key) (setup : List ℕ) (contents : F → Option Contents)
+    (before after : SidesNow F E) (answer : Answer) : Type 0 where
   pub outcome : Result Finding CheckFault
-  pub status_is : status ≡ checks.status_of outcome
-  pub detail_is : detail ≡ checked_detail outcome
-  pub cause : checks.IsOutcome forms setup contents before after ReadFailed EndsFailed outcome
+  pub status_is : answer.status ≡ checks.status_of outcome
+  pub detail_is : answer.detail ≡ checked_detail outcome
+  pub cause : checks.IsOutcome forms setup (contents after.files.it) before.ends.link after.ends.link
+      (ReadRose before.files after.files) (EndsRose before.ends after.ends) outcome
 
 -- where the words are those of the mode `check`, it ran, unless memory was wanted
-pub record CheckMode (words : List (List ℕ)) (forms : List Key) (status : ℕ) (detail : Detail) (contents : Option Contents) (before after : Option Link) (ReadFailed EndsFailed : Type 0) : Type 0 where
-  pub ran : (setup : List ℕ) → asks_check words ≡ Some setup → (status ≡ 9) ⊎ CheckRan forms setup status detail contents before after ReadFailed EndsFailed
+pub record CheckMode {F S K E : Type 0} (words : List (List ℕ)) (forms : List Key) (contents : F → Option Contents)
+    (before after : Around F S K E) (said : Said) : Type 0 where
+  pub ran : (setup : List ℕ) → asks_check words ≡ Some setup
+      → (said.status ≡ 9) ⊎ CheckRan forms setup contents (sides_of before) (sides_of after) (answer_in said)
 
 -- the mode of a child came to an outcome that the ends account for, and that is told by the status
-pub record ChildRan (parts : ChildParts) (status : ℕ) (before after : Option Link) (EndsFailed : Type 0) : Type 0 where
+pub record ChildRan {E : Type 0} (parts : ChildParts) (before after : EndsNow E) (status : ℕ) : Type 0 where
   pub outcome : ChildRun
   pub status_is : status ≡ children.run_status outcome
-  pub cause : children.IsOutcome parts before after EndsFailed outcome
+  pub cause : children.IsOutcome parts before.link after.link (EndsRose before after) outcome
 
 -- where the words are those of a child's mode, it ran, unless memory was wanted
-pub record ChildMode (words : List (List ℕ)) (status : ℕ) (before after : Option Link) (EndsFailed : Type 0) : Type 0 where
-  pub ran : (parts : ChildParts) → asks_child words ≡ Some parts → (status ≡ 9) ⊎ ChildRan parts status before after EndsFailed
+pub record ChildMode {F S K E : Type 0} (words : List (List ℕ)) (before after : Around F S K E) (said : Said)
+    : Type 0 where
+  pub ran : (parts : ChildParts) → asks_child words ≡ Some parts
+      → (said.status ≡ 9) ⊎ ChildRan parts before.ends after.ends said.status
 
 -- what is missing or refused of a setup and a log
 abbrev pub audit_detail : Result Audit AuditError → Detail
@@ -147,15 +166,19 @@ audit_detail (Err audit_errors.LogMissing) = Missing Log
 audit_detail _ = Nothing
 
 -- the mode `audit` came to an outcome that the files and the ends account for, and that is told by status and detail
-pub record AuditRan (parts : AuditParts) (status : ℕ) (detail : Detail) (contents : Option Contents) (before after : Option Link) (ReadFailed EndsFailed : Type 0) : Type 0 where
+pub record AuditRan {F E : Type 0} (parts : AuditParts) (contents : F → Option Contents)
+    (before after : SidesNow F E) (answer : Answer) : Type 0 where
   pub outcome : Result Audit AuditError
-  pub status_is : status ≡ audits.status_of outcome
-  pub detail_is : detail ≡ audit_detail outcome
-  pub cause : audits.IsOutcome parts contents before after ReadFailed EndsFailed outcome
+  pub status_is : answer.status ≡ audits.status_of outcome
+  pub detail_is : answer.detail ≡ audit_detail outcome
+  pub cause : audits.IsOutcome parts (contents after.files.it) before.ends.link after.ends.link
+      (ReadRose before.files after.files) (EndsRose before.ends after.ends) outcome
 
 -- where the words are those of the mode `audit`, it ran, unless memory was wanted
-pub record AuditMode (words : List (List ℕ)) (status : ℕ) (detail : Detail) (contents : Option Contents) (before after : Option Link) (ReadFailed EndsFailed : Type 0) : Type 0 where
-  pub ran : (parts : AuditParts) → asks_audit words ≡ Some parts → (status ≡ 9) ⊎ AuditRan parts status detail contents before after ReadFailed EndsFailed
+pub record AuditMode {F S K E : Type 0} (words : List (List ℕ)) (contents : F → Option Contents)
+    (before after : Around F S K E) (said : Said) : Type 0 where
+  pub ran : (parts : AuditParts) → asks_audit words ≡ Some parts
+      → (said.status ≡ 9) ⊎ AuditRan parts contents (sides_of before) (sides_of after) (answer_in said)
 
 -- what is missing or refused of a setup, a word list, a log and a response
 abbrev pub renew_detail : Result Renewed RenewError → Detail
@@ -167,18 +190,27 @@ renew_detail (Err renew_errors.LogNotFresh) = LogNotFresh
 renew_detail (Err (renew_errors.NoRenewal (renewal_faults.Refused fault))) = RenewBad fault
 renew_detail _ = Nothing
 
--- the mode `renew` came to an outcome that the files, before and after, and the ends account for, and that is told by status and detail
-pub record RenewRan (parts : RenewParts) (status : ℕ) (detail : Detail) (old new : Option Contents) (before after : Option Link) (ReadFailed ReplaceFailed EndsFailed : Type 0) : Type 0 where
+-- the mode `renew` came to an outcome that the files, before and after, and the ends account for, and that is told by
+-- status and detail
+pub record RenewRan {F E : Type 0} (parts : RenewParts) (contents : F → Option Contents)
+    (before after : SidesNow F E) (answer : Answer) : Type 0 where
   pub outcome : Result Renewed RenewError
-  pub status_is : status ≡ error_statuses.status_of outcome
-  pub detail_is : detail ≡ renew_detail outcome
-  pub cause : renews.IsOutcome parts old new before after ReadFailed ReplaceFailed EndsFailed outcome
-  pub spares : Goes (renews.Spares parts.setup) old new
-  pub unwritten : status ≢ 0 → status ≢ 8 → status ≢ 11 → Goes SameFiles old new
+  pub status_is : answer.status ≡ error_statuses.status_of outcome
+  pub detail_is : answer.detail ≡ renew_detail outcome
+  pub cause : renews.IsOutcome parts (contents before.files.it) (contents after.files.it)
+      before.ends.link after.ends.link
+      (ReadRose before.files after.files) (ReplaceRose before.files after.files) (EndsRose before.ends after.ends)
+      outcome
+  pub spares : FilesGo (renews.Spares parts.setup) contents before.files after.files
+  pub unwritten : answer.status ≢ 0 → answer.status ≢ 8 → answer.status ≢ 11
+      → FilesGo SameFiles contents before.files after.files
 
 -- where the words are those of the mode `renew`, it ran, unless memory was wanted for them
-pub record RenewMode (words : List (List ℕ)) (status : ℕ) (detail : Detail) (old new : Option Contents) (before after : Option Link) (ReadFailed ReplaceFailed EndsFailed : Type 0) : Type 0 where
-  pub ran : (parts : RenewParts) → asks_renew words ≡ Some parts → (status ≡ 9) × Goes OnlyReceived before after ⊎ RenewRan parts status detail old new before after ReadFailed ReplaceFailed EndsFailed
+pub record RenewMode {F S K E : Type 0} (words : List (List ℕ)) (contents : F → Option Contents)
+    (before after : Around F S K E) (said : Said) : Type 0 where
+  pub ran : (parts : RenewParts) → asks_renew words ≡ Some parts
+      → (said.status ≡ 9) × Goes OnlyReceived before.ends.link after.ends.link
+      ⊎ RenewRan parts contents (sides_of before) (sides_of after) (answer_in said)
 
 -- what is missing, refused or bad of a setup and a durable log
 abbrev pub recover_detail : Result Recovery RecoveryError → Detail
@@ -187,30 +219,40 @@ recover_detail (Err (recovery_errors.SetupRefused fault)) = SetupBad fault
 recover_detail (Err (recovery_errors.LogRefused number)) = LogBad number
 recover_detail _ = Nothing
 
--- the mode `recover` came to an outcome that the files, before and after, and the ends account for, and that is told by status and detail
-pub record RecoverRan (parts : RecoverParts) (status : ℕ) (detail : Detail) (old new : Option Contents) (before after : Option Link) (ReadFailed ReplaceFailed EndsFailed : Type 0) : Type 0 where
+-- the mode `recover` came to an outcome that the files, before and after, and the ends account for, and that is told by
+-- status and detail
+pub record RecoverRan {F E : Type 0} (parts : RecoverParts) (contents : F → Option Contents)
+    (before after : SidesNow F E) (answer : Answer) : Type 0 where
   pub outcome : Result Recovery RecoveryError
-  pub status_is : status ≡ recovery_statuses.status_of outcome
-  pub detail_is : detail ≡ recover_detail outcome
-  pub cause : recoveries.IsOutcome parts old new before after ReadFailed ReplaceFailed EndsFailed outcome
-  pub logged : Goes (BringsBack parts outcome) old new
-  pub spares : Goes (recoveries.Spares parts) old new
-  pub unwritten : status ≢ 0 → status ≢ 8 → status ≢ 11 → Goes SameFiles old new
+  pub status_is : answer.status ≡ recovery_statuses.status_of outcome
+  pub detail_is : answer.detail ≡ recover_detail outcome
+  pub cause : recoveries.IsOutcome parts (contents before.files.it) (contents after.files.it)
+      before.ends.link after.ends.link
+      (ReadRose before.files after.files) (ReplaceRose before.files after.files) (EndsRose before.ends after.ends)
+      outcome
+  pub logged : FilesGo (BringsBack parts outcome) contents before.files after.files
+  pub spares : FilesGo (recoveries.Spares parts) contents before.files after.files
+  pub unwritten : answer.status ≢ 0 → answer.status ≢ 8 → answer.status ≢ 11
+      → FilesGo SameFiles contents before.files after.files
 
 -- where the words are those of the mode `recover`, it ran, unless memory was wanted for them
-pub record RecoverMode (words : List (List ℕ)) (status : ℕ) (detail : Detail) (old new : Option Contents) (before after : Option Link) (ReadFailed ReplaceFailed EndsFailed : Type 0) : Type 0 where
-  pub ran : (parts : RecoverParts) → asks_recover words ≡ Some parts → (status ≡ 9) ⊎ RecoverRan parts status detail old new before after ReadFailed ReplaceFailed EndsFailed
+pub record RecoverMode {F S K E : Type 0} (words : List (List ℕ)) (contents : F → Option Contents)
+    (before after : Around F S K E) (said : Said) : Type 0 where
+  pub ran : (parts : RecoverParts) → asks_recover words ≡ Some parts
+      → (said.status ≡ 9) ⊎ RecoverRan parts contents (sides_of before) (sides_of after) (answer_in said)
 
 -- the mode `enrol` came to an outcome that the ends account for, and that is told by the status
-pub record EnrolRan (parts : EnrolParts) (status : ℕ) (before after : Option Link) (EndsFailed : Type 0) : Type 0 where
+pub record EnrolRan {E : Type 0} (parts : EnrolParts) (before after : EndsNow E) (status : ℕ) : Type 0 where
   pub outcome : Result (Unit {0}) EnrolFault
   pub status_is : status ≡ enrol_faults.status_of outcome
-  pub cause : enrols.IsOutcome parts before after EndsFailed outcome
-  pub exact : enrols_exact.IsExact before after EndsFailed outcome
+  pub cause : enrols.IsOutcome parts before.link after.link (EndsRose before after) outcome
+  pub exact : enrols_exact.IsExact before.link after.link (EndsRose before after) outcome
 
 -- where the words are those of the mode `enrol`, it ran, unless memory was wanted for them
-pub record EnrolMode (words : List (List ℕ)) (status : ℕ) (before after : Option Link) (EndsFailed : Type 0) : Type 0 where
-  pub ran : (parts : EnrolParts) → asks_enrol words ≡ Some parts → (status ≡ 9) × (after ≡ before) ⊎ EnrolRan parts status before after EndsFailed
+pub record EnrolMode {F S K E : Type 0} (words : List (List ℕ)) (before after : Around F S K E) (said : Said)
+    : Type 0 where
+  pub ran : (parts : EnrolParts) → asks_enrol words ≡ Some parts
+      → (said.status ≡ 9) × (after.ends.link ≡ before.ends.link) ⊎ EnrolRan parts before.ends after.ends said.status
 
 -- the journal that is given of a drill
 abbrev pub drilled_journal : Result (Vec Event Global) DrillError → List Event
@@ -218,37 +260,52 @@ drilled_journal (Ok journal) = journal.items
 drilled_journal (Err _) = []
 
 -- the mode `drill` came to an outcome that the ends account for, and that is told by the status; its journal is given
-pub record DrillRan (number : ℕ) (status : ℕ) (journal : List Event) (before after : Option Link) (EndsFailed : Type 0) : Type 0 where
+pub record DrillRan {E : Type 0} (number : ℕ) (before after : EndsNow E) (said : Said) : Type 0 where
   pub outcome : Result (Vec Event Global) DrillError
-  pub status_is : status ≡ drill_errors.status_of outcome
-  pub journal_is : journal ≡ drilled_journal outcome
-  pub cause : drills.IsOutcome number before after EndsFailed outcome
+  pub status_is : said.status ≡ drill_errors.status_of outcome
+  pub journal_is : said.journal ≡ drilled_journal outcome
+  pub cause : drills.IsOutcome number before.link after.link (EndsRose before after) outcome
 
 -- where the words are those of the mode `drill`, it ran
-pub record DrillMode (words : List (List ℕ)) (status : ℕ) (journal : List Event) (before after : Option Link) (EndsFailed : Type 0) : Type 0 where
-  pub ran : (number : ℕ) → asks_drill words ≡ Some number → DrillRan number status journal before after EndsFailed
+pub record DrillMode {F S K E : Type 0} (words : List (List ℕ)) (before after : Around F S K E) (said : Said)
+    : Type 0 where
+  pub ran : (number : ℕ) → asks_drill words ≡ Some number → DrillRan number before.ends after.ends said
 
--- no mode but `renew`, `recover` and `serve` changes a file; `renew` at most the setup's that its words name, `recover` at most the two
--- that its words name, and both with other statuses than 0, 8 and 11 none; what `serve` changes its own promises tell
-pub record ChangesFiles (words : List (List ℕ)) (status : ℕ) (old new : Option Contents) : Type 0 where
-  pub same : asks_serve words ≡ None → asks_renew words ≡ None → asks_recover words ≡ None → Goes SameFiles old new
-  pub spares : (parts : RenewParts) → asks_renew words ≡ Some parts → Goes (renews.Spares parts.setup) old new
-  pub recovered : (parts : RecoverParts) → asks_recover words ≡ Some parts → Goes (recoveries.Spares parts) old new
-  pub unwritten : asks_serve words ≡ None → status ≢ 0 → status ≢ 8 → status ≢ 11 → Goes SameFiles old new
+-- no mode but `renew`, `recover` and `serve` changes a file; `renew` at most the setup's that its words name,
+-- `recover` at most the two that its words name, and both with other statuses than 0, 8 and 11 none; what `serve`
+-- changes its own promises tell
+pub record ChangesFiles {F S K E : Type 0} (words : List (List ℕ)) (contents : F → Option Contents)
+    (before after : Around F S K E) (said : Said) : Type 0 where
+  pub same : asks_serve words ≡ None → asks_renew words ≡ None → asks_recover words ≡ None
+      → FilesGo SameFiles contents before.files after.files
+  pub spares : (parts : RenewParts) → asks_renew words ≡ Some parts
+      → FilesGo (renews.Spares parts.setup) contents before.files after.files
+  pub recovered : (parts : RecoverParts) → asks_recover words ≡ Some parts
+      → FilesGo (recoveries.Spares parts) contents before.files after.files
+  pub unwritten : asks_serve words ≡ None → said.status ≢ 0 → said.status ≢ 8 → said.status ≢ 11
+      → FilesGo SameFiles contents before.files after.files
 
--- what a mode doesn't use it leaves as it was: all but `serve`, `otp`, `check`, `audit`, `renew` and `recover` the files; all but `otp`,
--- `check`, `audit`, `renew`, `recover`, `drill`, `enrol` and the children's the ends; all but `serve` the site, the log and the posts; and all but
--- `serve` and `drill` the journal. `serve` leaves the files where it serves by the plain setup, and `otp` where the words name no list.
--- With 3 nothing was received or sent, with 9 only by `renew` and `enrol`, and with 4, 5 and 13 at most by `check`. The detail tells of 4, 5, 13, 14 and 15
--- alone, and of 0 by `check`
-pub record LeavesRest {F S E K P : Type 0} (words : List (List ℕ)) (status : ℕ) (detail : Detail) (files_old files_new : F) (site_old site_new : S) (ends_old ends_new : E) (log_old log_new : K) (journal : List Event) (posts : List P) : Type 0 where
-  pub files : asks_serve words ≡ None → asks_otp words ≡ None → asks_check words ≡ None → asks_audit words ≡ None → asks_renew words ≡ None → asks_recover words ≡ None → files_new ≡ files_old
-  pub plain_setup : asks_serve words ≡ Some Plain → files_new ≡ files_old
-  pub ends : asks_otp words ≡ None → asks_check words ≡ None → asks_child words ≡ None → asks_audit words ≡ None → asks_renew words ≡ None → asks_drill words ≡ None → asks_recover words ≡ None → asks_enrol words ≡ None → ends_new ≡ ends_old
-  pub site : asks_serve words ≡ None → site_new ≡ site_old
-  pub unserved : asks_serve words ≡ None → IsUnserved log_old log_new posts
-  pub eventless : asks_serve words ≡ None → asks_drill words ≡ None → journal ≡ []
-  pub unread : (parts : OtpParts) → asks_otp words ≡ Some parts → parts.list ≡ None → files_new ≡ files_old
-  pub silent : (status ≡ 3) ⊎ (status ≡ 9) × (asks_renew words ≡ None) × (asks_enrol words ≡ None) → ends_new ≡ ends_old
-  pub unprinted : asks_check words ≡ None → (status ≡ 4) ⊎ (status ≡ 5) ⊎ (status ≡ 13) → ends_new ≡ ends_old
-  pub plain : (status ≡ 0 → asks_check words ≡ None) → status ≢ 4 → status ≢ 5 → status ≢ 13 → status ≢ 14 → status ≢ 15 → detail ≡ Nothing
+-- what a mode doesn't use it leaves as it was: all but `serve`, `otp`, `check`, `audit`, `renew` and `recover` the
+-- files; all but `otp`, `check`, `audit`, `renew`, `recover`, `drill`, `enrol` and the children's the ends; all but
+-- `serve` the site, the log and the posts; and all but `serve` and `drill` the journal. `serve` leaves the files where
+-- it serves by the plain setup, and `otp` where the words name no list. With 3 nothing was received or sent, with 9
+-- only by `renew` and `enrol`, and with 4, 5 and 13 at most by `check`. The detail tells of 4, 5, 13, 14 and 15 alone,
+-- and of 0 by `check`
+pub record LeavesRest {F S K E : Type 0} (words : List (List ℕ)) (before after : Around F S K E) (said : Said)
+    : Type 0 where
+  pub files : asks_serve words ≡ None → asks_otp words ≡ None → asks_check words ≡ None → asks_audit words ≡ None
+      → asks_renew words ≡ None → asks_recover words ≡ None → after.files ≡ before.files
+  pub plain_setup : asks_serve words ≡ Some Plain → after.files ≡ before.files
+  pub ends : asks_otp words ≡ None → asks_check words ≡ None → asks_child words ≡ None → asks_audit words ≡ None
+      → asks_renew words ≡ None → asks_drill words ≡ None → asks_recover words ≡ None → asks_enrol words ≡ None
+      → after.ends ≡ before.ends
+  pub site : asks_serve words ≡ None → after.site ≡ before.site
+  pub unserved : asks_serve words ≡ None → IsUnserved before after said
+  pub eventless : asks_serve words ≡ None → asks_drill words ≡ None → said.journal ≡ []
+  pub unread : (parts : OtpParts) → asks_otp words ≡ Some parts → parts.list ≡ None → after.files ≡ before.files
+  pub silent : (said.status ≡ 3) ⊎ (said.status ≡ 9) × (asks_renew words ≡ None) × (asks_enrol words ≡ None)
+      → after.ends ≡ before.ends
+  pub unprinted : asks_check words ≡ None → (said.status ≡ 4) ⊎ (said.status ≡ 5) ⊎ (said.status ≡ 13)
+      → after.ends ≡ before.ends
+  pub plain : (said.status ≡ 0 → asks_check words ≡ None) → said.status ≢ 4 → said.status ≢ 5 → said.status ≢ 13
+      → said.status ≢ 14 → said.status ≢ 15 → said.detail ≡ Nothing

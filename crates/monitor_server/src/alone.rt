@@ -1,16 +1,18 @@
 //! What is done without threads.
 
 ghost use Rattle.std.specs.Prelude.{◌≡◌, IfSome, None};
-ghost use Rattle.outside.specs.Told.{Rose};
 ghost use Rattle.monitor_server.specs.Alone.{IsDoneAlone, IsRunOf, NeedsThreads, SparesRest, unread_answer};
+ghost use Rattle.monitor_server.specs.Around.{answer_in, sides_of};
+ghost use Rattle.monitor_server.specs.Headline.{UsesNothing};
 
 use crate::command::{AloneCommand, Command, Unread, read_command};
 use crate::modes::{
     audit_log, check_setup, print_account, print_password, recover_accounts, renew_account,
     run_child,
 };
-use crate::report::Answer;
-use outside::{Files, Stream, Word};
+use crate::report::{Answer, Ended, end_unserved};
+use crate::world::{Sides, World};
+use outside::{Files, Sink, Site, Stream, Word};
 use service_reading::Information;
 use std::alloc::Global;
 
@@ -33,28 +35,54 @@ impl Unread {
 }
 
 /// Does what a command asks for.
-pub(crate) fn answer<F: Files, E: Stream, I: Information>(
+fn answer<F: Files, E: Stream, I: Information>(
     alloc: Global,
     command: AloneCommand<'_>,
-    files: &mut F,
-    ends: &mut E,
+    sides: &mut Sides<F, E>,
     information: &I,
 ) -> Answer
-    ensures ran { IsRunOf command.entry (I.forms information.now) result (F.contents files.old) (F.contents files.new)
-        (E.link ends.old) (E.link ends.new) (Rose (F.read_faults files.old) (F.read_faults files.new))
-        (Rose (F.replace_faults files.old) (F.replace_faults files.new)) (Rose (E.faults ends.old) (E.faults ends.new)) }
-    ensures spares { SparesRest command.entry result.status files.old files.new ends.old ends.new (F.contents files.old)
-        (F.contents files.new) }
+    ensures ran { IsRunOf command.entry (I.forms information.now) F.contents sides.old sides.new result }
+    ensures spares { SparesRest command.entry F.contents sides.old sides.new result.status }
 {
     match command {
-        AloneCommand::Password(command) => print_password(alloc, &command, files, ends),
-        AloneCommand::Check(setup) => check_setup(alloc, setup, information, files, ends),
-        AloneCommand::Child(command) => run_child(alloc, &command, ends),
-        AloneCommand::Audit(command) => audit_log(alloc, &command, files, ends),
-        AloneCommand::Renew(command) => renew_account(alloc, &command, files, ends),
-        AloneCommand::Recover(command) => recover_accounts(alloc, &command, files, ends),
-        AloneCommand::Enrol(command) => print_account(alloc, &command, ends),
+        AloneCommand::Password(command) => print_password(alloc, &command, sides),
+        AloneCommand::Check(setup) => check_setup(alloc, setup, information, sides),
+        AloneCommand::Child(command) => run_child(alloc, &command, sides),
+        AloneCommand::Audit(command) => audit_log(alloc, &command, sides),
+        AloneCommand::Renew(command) => renew_account(alloc, &command, sides),
+        AloneCommand::Recover(command) => recover_accounts(alloc, &command, sides),
+        AloneCommand::Enrol(command) => print_account(alloc, &command, sides),
     }
+}
+
+/// Does what a command asks for, in a world of which only the sides are used.
+pub(crate) fn answer_within<F: Files, S: Site, K: Sink, E: Stream, I: Information>(
+    alloc: Global,
+    command: AloneCommand<'_>,
+    world: World<F, S, K, E>,
+    information: &I,
+) -> Ended<F, S, K, E>
+    ensures ran { IsRunOf command.entry (I.forms information.now) F.contents
+        (sides_of world) (sides_of result.world) (answer_in result.said) }
+    ensures spares { SparesRest command.entry F.contents (sides_of world) (sides_of result.world) result.said.status }
+    ensures unused { UsesNothing world result.world result.said }
+{
+    let World {
+        files,
+        site,
+        log,
+        ends,
+    } = world;
+    let mut sides = Sides { files, ends };
+    let answer = answer(alloc, command, &mut sides, information);
+    let Sides { files, ends } = sides;
+    let world = World {
+        files,
+        site,
+        log,
+        ends,
+    };
+    end_unserved(alloc, answer, world)
 }
 
 /// Does what the words of a command line ask for, without the program's name, where that takes no
@@ -65,21 +93,17 @@ pub(crate) fn answer<F: Files, E: Stream, I: Information>(
 pub fn run_alone<F: Files, E: Stream, I: Information>(
     alloc: Global,
     words: &[Word],
-    files: &mut F,
-    ends: &mut E,
+    sides: &mut Sides<F, E>,
     information: &I,
 ) -> Option<Answer>
     // What the top call says of these words, where there is no site, no log and no post.
-    ensures done { IfSome result (λ answer. IsDoneAlone words.now (I.forms information.now) answer files.old files.new
-        ends.old ends.new (F.contents files.old) (F.contents files.new) (E.link ends.old) (E.link ends.new)
-        (Rose (F.read_faults files.old) (F.read_faults files.new))
-        (Rose (F.replace_faults files.old) (F.replace_faults files.new)) (Rose (E.faults ends.old) (E.faults ends.new))) }
+    ensures done { IfSome result (IsDoneAlone words.now (I.forms information.now) F.contents sides.old sides.new) }
     // What needs threads is left to the top call, and nothing else is.
-    ensures left { result ≡ None → NeedsThreads words.now files.old files.new ends.old ends.new }
+    ensures left { result ≡ None → NeedsThreads words.now sides.old sides.new }
 {
     match read_command(alloc, words) {
         Ok(Command::Serve(_) | Command::Drill(_)) => None,
-        Ok(Command::Alone(command)) => Some(answer(alloc, command, files, ends, information)),
+        Ok(Command::Alone(command)) => Some(answer(alloc, command, sides, information)),
         Err(unread) => Some(unread.answer()),
     }
 }

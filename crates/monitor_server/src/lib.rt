@@ -1,5 +1,5 @@
-//! The monitor: what it promises of a whole run stands on its top call. Believe `specs/` but for
-//! `Whole.antt`; the program stands above.
+//! The monitor: what it promises of a whole run stands on its top call. Believe `specs/`, and how `World`,
+//! `Sides` and `Report` are seen; the program stands above.
 #![tactic(auto)]
 
 mod alone;
@@ -7,7 +7,9 @@ mod command;
 mod modes;
 mod report;
 mod top;
+mod world;
 
 pub use alone::run_alone;
-pub use report::{Answer, Detail, FEW_REQUESTS, FileKind, Report};
+pub use report::{Answer, Detail, Ended, FEW_REQUESTS, FileKind, Report};
 pub use top::otplogd;
+pub use world::{Sides, World};

@@ -1,8 +1,6 @@
 //! The modes.
 
-ghost use Rattle.std.specs.Prelude.{◌≡◌, ◌⊎◌, ◌≤◌, [], None, false};
-ghost use Rattle.outside.specs.Files.{SameFiles};
-ghost use Rattle.outside.specs.Told.{Goes, Rose};
+ghost use Rattle.std.specs.Prelude.{◌≡◌, ◌⊎◌, ◌≤◌, false};
 ghost use Rattle.policy_model.specs.Journal.{has_lost};
 ghost use Rattle.otp_mode.specs.Command.{command_parts};
 ghost use Rattle.child_mode.specs.Commands.{parts_of};
@@ -10,12 +8,18 @@ ghost use Rattle.enrol_mode.specs.Command as enrolments;
 ghost use Rattle.audit_mode.specs.Commands as audits;
 ghost use Rattle.otp_extended.specs.Commands as renewals;
 ghost use Rattle.recover_mode.specs.Commands as recoveries;
+ghost use Rattle.monitor_server.specs.declared.command.AloneCommand.TheVariants as alone;
 ghost use Rattle.monitor_server.specs.declared.report.Detail.TheVariants.{Nothing};
 ghost use Rattle.serve_mode.specs.Commands as serves;
 ghost use Rattle.serve_mode.specs.Words.{Plain};
-ghost use Rattle.monitor_server.specs.Modes.{AuditRan, CheckRan, ChildRan, DrillRan, EnrolRan, PasswordRan, RecoverRan, RenewRan, ServeRan, audit_detail, fault_detail, finding_detail, recover_detail, renew_detail, serve_detail};
+ghost use Rattle.monitor_server.specs.Alone.{SparesRest};
+ghost use Rattle.monitor_server.specs.Headline.{UsesEndsAlone};
+ghost use Rattle.monitor_server.specs.Modes.{AuditRan, CheckRan, ChildRan, DrillRan, EnrolRan, PasswordRan, RecoverRan};
+ghost use Rattle.monitor_server.specs.Modes.{RenewRan, ServeRan, audit_detail, fault_detail, finding_detail};
+ghost use Rattle.monitor_server.specs.Modes.{recover_detail, renew_detail, serve_detail};
 
-use crate::report::{Answer, Detail, FEW_REQUESTS, FileKind, Report};
+use crate::report::{Answer, Detail, Ended, FEW_REQUESTS, FileKind, Report};
+use crate::world::{Sides, World};
 use audit_check::Audit;
 use audit_mode::{AuditCommand, AuditError, run_audit};
 use check_mode::{Finding, run_check};
@@ -38,34 +42,47 @@ pub(crate) fn serve_setup<
     F: Files,
     S: Site,
     K: Sink,
+    E: Stream,
     I: Information + Sync,
     R: Threads + Wait + Sync,
 >(
     rt: &R,
     alloc: Global,
     command: &ServeCommand<'_>,
-    files: &mut F,
-    site: &mut S,
-    log: K,
+    world: World<F, S, K, E>,
     information: &I,
-) -> Report<S::Post, K>
-    ensures serve { ServeRan (serves.source_of command.now) (I.forms information.now) result.status result.detail result.journal.items result.posts.items S.Post.scene S.Post.faults (F.contents files.old) (F.contents files.new) (S.listens site.old) (S.listens site.new) (K.held log) (K.held result.log) (Rose (F.read_faults files.old) (F.read_faults files.new)) (Rose (F.replace_faults files.old) (F.replace_faults files.new)) (Rose (S.listen_faults site.old) (S.listen_faults site.new)) (Rose (K.faults log) (K.faults result.log)) }
-    ensures plain { serves.source_of command.now ≡ Plain → files.new ≡ files.old }
-    ensures logged { has_lost result.journal.items ≡ false → K.faults result.log ≡ K.faults log }
+) -> Ended<F, S, K, E>
+    ensures serve { ServeRan (serves.source_of command.now) (I.forms information.now) F.contents
+        world result.world result.said }
+    ensures plain { serves.source_of command.now ≡ Plain → result.world.files ≡ world.files }
+    ensures ends { result.world.ends ≡ world.ends }
+    ensures logged { has_lost result.said.journal ≡ false → result.world.log.faults ≡ world.log.faults }
 {
+    let World {
+        mut files,
+        mut site,
+        log,
+        ends,
+    } = world;
     let Served {
         end,
         journal,
         log,
         posts,
-    } = run_serve(rt, alloc, command, files, site, log, information);
-    Report {
+    } = run_serve(rt, alloc, command, &mut files, &mut site, log, information);
+    let said = Report {
         status: serve_mode::status(end),
         detail: serve_detail(end),
         journal,
-        log,
         posts,
-    }
+    };
+    let world = World {
+        files,
+        site,
+        log,
+        ends,
+    };
+    Ended { said, world }
 }
 
 /// What is missing or refused of what a run serves by and logs to.
@@ -90,16 +107,12 @@ fn serve_detail(end: Result<(), ServeError>) -> Detail
 pub(crate) fn print_password<F: Files, E: Stream>(
     alloc: Global,
     command: &OtpCommand<'_>,
-    files: &mut F,
-    ends: &mut E,
+    sides: &mut Sides<F, E>,
 ) -> Answer
-    ensures password { PasswordRan (command_parts command.now) result.status result.detail (F.contents files.new) (E.link ends.old) (E.link ends.new) (Rose (F.read_faults files.old) (F.read_faults files.new)) (Rose (E.faults ends.old) (E.faults ends.new)) }
-    ensures no_list { (command_parts command.now).list ≡ None → files.new ≡ files.old }
-    ensures silent { (result.status ≡ 3) ⊎ (result.status ≡ 9) → ends.new ≡ ends.old }
-    ensures at_list { (result.status ≡ 4) ⊎ (result.status ≡ 5) ⊎ (result.status ≡ 13) → ends.new ≡ ends.old }
-    ensures files { Goes SameFiles (F.contents files.old) (F.contents files.new) }
+    ensures password { PasswordRan (command_parts command.now) F.contents sides.old sides.new result }
+    ensures spares { SparesRest (alone.Password command.now) F.contents sides.old sides.new result.status }
 {
-    match run_otp(alloc, command, files, ends) {
+    match run_otp(alloc, command, &mut sides.files, &mut sides.ends) {
         Ok(()) => Answer::plain(0),
         Err(fault) => Answer {
             status: fault.status(),
@@ -129,14 +142,12 @@ pub(crate) fn check_setup<F: Files, I: Information, E: Stream>(
     alloc: Global,
     setup: &str,
     information: &I,
-    files: &mut F,
-    ends: &mut E,
+    sides: &mut Sides<F, E>,
 ) -> Answer
-    ensures check { CheckRan (I.forms information.now) setup.now result.status result.detail (F.contents files.new) (E.link ends.old) (E.link ends.new) (Rose (F.read_faults files.old) (F.read_faults files.new)) (Rose (E.faults ends.old) (E.faults ends.new)) }
-    ensures silent { (result.status ≡ 3) ⊎ (result.status ≡ 9) → ends.new ≡ ends.old }
-    ensures files { Goes SameFiles (F.contents files.old) (F.contents files.new) }
+    ensures check { CheckRan (I.forms information.now) setup.now F.contents sides.old sides.new result }
+    ensures spares { SparesRest (alone.Check setup) F.contents sides.old sides.new result.status }
 {
-    match run_check(alloc, setup, information, files, ends) {
+    match run_check(alloc, setup, information, &mut sides.files, &mut sides.ends) {
         Ok(finding) => Answer {
             status: finding.status(),
             detail: detail_of_finding(finding),
@@ -166,13 +177,16 @@ fn detail_of_finding(finding: Finding) -> Detail
 }
 
 /// Runs a child program, the monitor's side of whose link is the ends.
-pub(crate) fn run_child<E: Stream>(alloc: Global, command: &ChildCommand, ends: &mut E) -> Answer
-    ensures child { ChildRan (parts_of command.now) result.status (E.link ends.old) (E.link ends.new) (Rose (E.faults ends.old) (E.faults ends.new)) }
+pub(crate) fn run_child<F: Files, E: Stream>(
+    alloc: Global,
+    command: &ChildCommand,
+    sides: &mut Sides<F, E>,
+) -> Answer
+    ensures child { ChildRan (parts_of command.now) sides.old.ends sides.new.ends result.status }
     ensures detail { result.detail ≡ Nothing }
-    ensures silent { (result.status ≡ 3) ⊎ (result.status ≡ 9) → ends.new ≡ ends.old }
-    ensures no_file { (result.status ≡ 4) ⊎ (result.status ≡ 5) ⊎ (result.status ≡ 13) → ends.new ≡ ends.old }
+    ensures spares { SparesRest (alone.Child command.now) F.contents sides.old sides.new result.status }
 {
-    let run = run_child_mode(alloc, command, ends);
+    let run = run_child_mode(alloc, command, &mut sides.ends);
     Answer::plain(run.status())
 }
 
@@ -180,15 +194,12 @@ pub(crate) fn run_child<E: Stream>(alloc: Global, command: &ChildCommand, ends: 
 pub(crate) fn audit_log<F: Files, E: Stream>(
     alloc: Global,
     command: &AuditCommand<'_>,
-    files: &mut F,
-    ends: &mut E,
+    sides: &mut Sides<F, E>,
 ) -> Answer
-    ensures audit { AuditRan (audits.command_parts command.now) result.status result.detail (F.contents files.new) (E.link ends.old) (E.link ends.new) (Rose (F.read_faults files.old) (F.read_faults files.new)) (Rose (E.faults ends.old) (E.faults ends.new)) }
-    ensures silent { (result.status ≡ 3) ⊎ (result.status ≡ 9) → ends.new ≡ ends.old }
-    ensures at_file { (result.status ≡ 4) ⊎ (result.status ≡ 5) ⊎ (result.status ≡ 13) → ends.new ≡ ends.old }
-    ensures files { Goes SameFiles (F.contents files.old) (F.contents files.new) }
+    ensures audit { AuditRan (audits.command_parts command.now) F.contents sides.old sides.new result }
+    ensures spares { SparesRest (alone.Audit command.now) F.contents sides.old sides.new result.status }
 {
-    let outcome = run_audit(alloc, command, files, ends);
+    let outcome = run_audit(alloc, command, &mut sides.files, &mut sides.ends);
     Answer {
         status: audit_mode::status(outcome),
         detail: audit_detail(outcome),
@@ -219,13 +230,12 @@ fn audit_detail(outcome: Result<Audit, AuditError>) -> Detail
 pub(crate) fn renew_account<F: Files, E: Stream>(
     alloc: Global,
     command: &RenewCommand<'_>,
-    files: &mut F,
-    ends: &mut E,
+    sides: &mut Sides<F, E>,
 ) -> Answer
-    ensures renew { RenewRan (renewals.command_parts command.now) result.status result.detail (F.contents files.old) (F.contents files.new) (E.link ends.old) (E.link ends.new) (Rose (F.read_faults files.old) (F.read_faults files.new)) (Rose (F.replace_faults files.old) (F.replace_faults files.new)) (Rose (E.faults ends.old) (E.faults ends.new)) }
-    ensures at_files { (result.status ≡ 3) ⊎ (result.status ≡ 4) ⊎ (result.status ≡ 5) ⊎ (result.status ≡ 13) → ends.new ≡ ends.old }
+    ensures renew { RenewRan (renewals.command_parts command.now) F.contents sides.old sides.new result }
+    ensures spares { SparesRest (alone.Renew command.now) F.contents sides.old sides.new result.status }
 {
-    let outcome = run_renew(alloc, command, files, ends);
+    let outcome = run_renew(alloc, command, &mut sides.files, &mut sides.ends);
     Answer {
         status: renew_mode::status(outcome),
         detail: renew_detail(outcome),
@@ -255,14 +265,12 @@ fn renew_detail(outcome: Result<Renewed, RenewError>) -> Detail
 pub(crate) fn recover_accounts<F: Files, E: Stream>(
     alloc: Global,
     command: &RecoverCommand<'_>,
-    files: &mut F,
-    ends: &mut E,
+    sides: &mut Sides<F, E>,
 ) -> Answer
-    ensures recover { RecoverRan (recoveries.command_parts command.now) result.status result.detail (F.contents files.old) (F.contents files.new) (E.link ends.old) (E.link ends.new) (Rose (F.read_faults files.old) (F.read_faults files.new)) (Rose (F.replace_faults files.old) (F.replace_faults files.new)) (Rose (E.faults ends.old) (E.faults ends.new)) }
-    ensures silent { (result.status ≡ 3) ⊎ (result.status ≡ 9) → ends.new ≡ ends.old }
-    ensures at_files { (result.status ≡ 4) ⊎ (result.status ≡ 5) ⊎ (result.status ≡ 13) → ends.new ≡ ends.old }
+    ensures recover { RecoverRan (recoveries.command_parts command.now) F.contents sides.old sides.new result }
+    ensures spares { SparesRest (alone.Recover command.now) F.contents sides.old sides.new result.status }
 {
-    let outcome = run_recover(alloc, command, files, ends);
+    let outcome = run_recover(alloc, command, &mut sides.files, &mut sides.ends);
     Answer {
         status: recover_mode::status(outcome),
         detail: recover_detail(outcome),
@@ -284,49 +292,47 @@ fn recover_detail(outcome: Result<Recovery, RecoveryError>) -> Detail
 }
 
 /// Prints the account of a new user: the pass phrase is read from the ends.
-pub(crate) fn print_account<E: Stream>(
+pub(crate) fn print_account<F: Files, E: Stream>(
     alloc: Global,
     command: &EnrolCommand,
-    ends: &mut E,
+    sides: &mut Sides<F, E>,
 ) -> Answer
-    ensures enrol { EnrolRan (enrolments.command_parts command.now) result.status (E.link ends.old) (E.link ends.new) (Rose (E.faults ends.old) (E.faults ends.new)) }
+    ensures enrol { EnrolRan (enrolments.command_parts command.now) sides.old.ends sides.new.ends result.status }
     ensures detail { result.detail ≡ Nothing }
-    ensures at_files { (result.status ≡ 3) ⊎ (result.status ≡ 4) ⊎ (result.status ≡ 5) ⊎ (result.status ≡ 13) → ends.new ≡ ends.old }
+    ensures spares { SparesRest (alone.Enrol command.now) F.contents sides.old sides.new result.status }
 {
-    match run_enrol(alloc, command, ends) {
+    match run_enrol(alloc, command, &mut sides.ends) {
         Ok(()) => Answer::plain(0),
         Err(refused) => Answer::plain(refused.status()),
     }
 }
 
 /// Runs the drill of a number, from 1 to 64, and tells the counts of its journal.
-pub(crate) fn play_drill<P, K, E: Stream, R: Threads + Wait + Sync>(
+pub(crate) fn play_drill<F: Files, S: Site, K: Sink, E: Stream, R: Threads + Wait + Sync>(
     rt: &R,
     alloc: Global,
     number: u32,
-    log: K,
-    ends: &mut E,
-) -> Report<P, K>
+    mut world: World<F, S, K, E>,
+) -> Ended<F, S, K, E>
     requires low { 1 ≤ number }
     requires high { number ≤ 64 }
-    ensures drill { DrillRan number result.status result.journal.items (E.link ends.old) (E.link ends.new) (Rose (E.faults ends.old) (E.faults ends.new)) }
-    ensures detail { result.detail ≡ Nothing }
-    ensures log { result.log ≡ log }
-    ensures posts { result.posts.items ≡ [] }
-    ensures silent { (result.status ≡ 3) ⊎ (result.status ≡ 9) → ends.new ≡ ends.old }
-    ensures no_file { (result.status ≡ 4) ⊎ (result.status ≡ 5) ⊎ (result.status ≡ 13) → ends.new ≡ ends.old }
+    ensures drill { DrillRan number world.ends result.world.ends result.said }
+    ensures alone { UsesEndsAlone world result.world result.said }
+    ensures silent { (result.said.status ≡ 3) ⊎ (result.said.status ≡ 9) → result.world.ends ≡ world.ends }
+    ensures no_file { (result.said.status ≡ 4) ⊎ (result.said.status ≡ 5) ⊎ (result.said.status ≡ 13)
+        → result.world.ends ≡ world.ends }
 {
-    let outcome = run_drill(rt, alloc, number, ends);
+    let outcome = run_drill(rt, alloc, number, &mut world.ends);
     let status = drill_mode::status(&outcome);
     let journal = match outcome {
         Ok(journal) => journal,
         Err(_) => Vec::new(alloc),
     };
-    Report {
+    let said = Report {
         status,
         detail: Detail::Nothing,
         journal,
-        log,
         posts: Vec::new(alloc),
-    }
+    };
+    Ended { said, world }
 }

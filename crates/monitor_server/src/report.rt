@@ -2,14 +2,17 @@
 
 ghost use Rattle.std.specs.Prelude.{◌≡◌};
 ghost use Rattle.monitor_server.specs.declared.report.Detail.TheVariants.{Nothing};
-ghost use Rattle.monitor_server.specs.Headline.{UsesNothing};
+ghost use Rattle.monitor_server.specs.Around.{only_answer};
 
+use crate::world::World;
 use account_file::SetupFault;
 use audit_check::AuditWhy;
 use otp_extended::RenewFault;
 use otp_words::DictFault;
+use outside::{Files, Post, Sink, Site, Stream};
 use policy_model::Event;
 use std::alloc::Global;
+use std::marker::Model;
 
 /// A file that the words of the command line, or the setup, name.
 #[derive(Clone, Copy, PartialEq, Eq)]
@@ -72,38 +75,62 @@ impl Answer {
     }
 }
 
-/// What a run came to.
+/// What a run says. Contracts see it as `Said`, and each post as what that reports and its counts of faults.
 #[derive(Drop)]
-pub struct Report<P, K> {
+pub struct Report<P: Post> {
     /// The program's exit status: 0 where nothing below applies, 2 where the words are no command,
     /// 3 where a file could not be read, 4 where one isn't there, 5 where a setup or a word list is
     /// refused, 6 where the site could not listen, 7 where the log could not be written, 8 where the
     /// setup could not be replaced, 9 where memory was wanted, 10 where a worker could not wait for a
     /// connection, 11 where the ends failed, 12 where the pass phrase is refused, a response isn't one
-    /// or what a child was sent can't be read, 13 where a durable log isn't fresh or has a fault, 14 where a log is not legal, 15 where a response renews
-    /// nothing.
+    /// or what a child was sent can't be read, 13 where a durable log isn't fresh or has a fault, 14 where
+    /// a log is not legal, 15 where a response renews nothing.
     pub status: u8,
     /// Which file is missing, or what is wrong with one or with the response.
     pub detail: Detail,
     /// All events of the run, in the order in which they were decided.
     pub journal: Vec<Event>,
-    /// The log that was handed in.
-    pub log: K,
     /// The posts of the workers, in their order; none where nobody was served.
     pub posts: Vec<P>,
 }
 
-/// A report of words that served nobody.
-pub(crate) fn unused<P, K>(alloc: Global, answer: Answer, log: K) -> Report<P, K>
-    ensures status { result.status ≡ answer.status }
-    ensures detail { result.detail ≡ answer.detail }
-    ensures unused { UsesNothing log result.log result.journal.items result.posts.items }
+impl<P: Post> Model for Report<P> {
+    ghost use Rattle.std.specs.Prelude.{map};
+    ghost use Rattle.monitor_server.specs.Around.{Said, seen};
+
+    ghost Value = { Said };
+
+    ghost view = { λ r. record {
+      status = r.status;
+      detail = r.detail;
+      journal = r.journal.items;
+      posts = map (seen P.scene P.faults) r.posts.items;
+    } };
+}
+
+/// A run that is over: what it says, and what it was made over.
+#[derive(Drop)]
+pub struct Ended<F: Files, S: Site, K: Sink, E: Stream> {
+    /// What it says.
+    pub said: Report<S::Post>,
+    /// What it was made over.
+    pub world: World<F, S, K, E>,
+}
+
+/// The end of words that served nobody, and of which there is no event.
+pub(crate) fn end_unserved<F: Files, S: Site, K: Sink, E: Stream>(
+    alloc: Global,
+    answer: Answer,
+    world: World<F, S, K, E>,
+) -> Ended<F, S, K, E>
+    ensures said { result.said ≡ only_answer answer }
+    ensures world { result.world ≡ world }
 {
-    Report {
+    let said = Report {
         status: answer.status,
         detail: answer.detail,
         journal: Vec::new(alloc),
-        log,
         posts: Vec::new(alloc),
-    }
+    };
+    Ended { said, world }
 }

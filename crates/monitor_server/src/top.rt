@@ -1,16 +1,17 @@
 //! The top call.
 
 ghost use Rattle.std.specs.Prelude.{◌≡◌, false};
-ghost use Rattle.outside.specs.Told.{Rose};
 ghost use Rattle.policy_model.specs.Journal.{has_lost};
 ghost use Rattle.monitor_server.specs.Headline.{StatusHasCause};
-ghost use Rattle.monitor_server.specs.Modes.{AuditMode, ChangesFiles, CheckMode, ChildMode, DrillMode, EnrolMode, LeavesRest, PasswordMode, RecoverMode, RenewMode, ServeMode};
+ghost use Rattle.monitor_server.specs.Modes.{AuditMode, ChangesFiles, CheckMode, ChildMode, DrillMode, EnrolMode};
+ghost use Rattle.monitor_server.specs.Modes.{LeavesRest, PasswordMode, RecoverMode, RenewMode, ServeMode};
 ghost use Rattle.monitor_server.specs.Whole.{Whole};
 
-use crate::alone::answer;
+use crate::alone::answer_within;
 use crate::command::{Command, read_command};
 use crate::modes::{play_drill, serve_setup};
-use crate::report::{Report, unused};
+use crate::report::{Ended, end_unserved};
+use crate::world::World;
 use outside::{Files, Sink, Site, Stream, Word};
 use service_reading::Information;
 use std::alloc::Global;
@@ -29,25 +30,17 @@ fn run_command<
     rt: &R,
     alloc: Global,
     words: &[Word],
-    files: &mut F,
-    site: &mut S,
-    log: K,
-    ends: &mut E,
+    world: World<F, S, K, E>,
     information: &I,
-) -> Report<S::Post, K>
-    ensures whole { Whole words.now (I.forms information.now) result.status result.detail result.journal.items result.posts.items S.Post.scene S.Post.faults files.old files.new site.old site.new ends.old ends.new log result.log (F.contents files.old) (F.contents files.new) (E.link ends.old) (E.link ends.new) (S.listens site.old) (S.listens site.new) (K.held log) (K.held result.log) (Rose (F.read_faults files.old) (F.read_faults files.new)) (Rose (F.replace_faults files.old) (F.replace_faults files.new)) (Rose (S.listen_faults site.old) (S.listen_faults site.new)) (Rose (K.faults log) (K.faults result.log)) (Rose (E.faults ends.old) (E.faults ends.new)) }
-    ensures logged { has_lost result.journal.items ≡ false → K.faults result.log ≡ K.faults log }
+) -> Ended<F, S, K, E>
+    ensures whole { Whole words.now (I.forms information.now) F.contents world result.world result.said }
+    ensures logged { has_lost result.said.journal ≡ false → result.world.log.faults ≡ world.log.faults }
 {
     match read_command(alloc, words) {
-        Ok(Command::Serve(command)) => {
-            serve_setup(rt, alloc, &command, files, site, log, information)
-        }
-        Ok(Command::Drill(number)) => play_drill(rt, alloc, number, log, ends),
-        Ok(Command::Alone(command)) => {
-            let answer = answer(alloc, command, files, ends, information);
-            unused(alloc, answer, log)
-        }
-        Err(unread) => unused(alloc, unread.answer(), log),
+        Ok(Command::Serve(command)) => serve_setup(rt, alloc, &command, world, information),
+        Ok(Command::Drill(number)) => play_drill(rt, alloc, number, world),
+        Ok(Command::Alone(command)) => answer_within(alloc, command, world, information),
+        Err(unread) => end_unserved(alloc, unread.answer(), world),
     }
 }
 
@@ -55,9 +48,9 @@ fn run_command<
 ///
 /// - `serve` serves the connections of the plain setup, and `serve SETUP` those of the setup in that
 ///   file, into which the accounts are written back when the run ends; `serve SETUP LOG` does so where
-///   the file LOG is a durable log without a record, and for it `log` is to be one over that file;
+///   the file LOG is a durable log without a record, and for it the world's `log` is to be one over that file;
 /// - `recover SETUP LOG` brings back from that durable log what a run came to that was stopped, writes it
-///   into the setup's file, makes the log fresh, and sends to `ends` one line that says so;
+///   into the setup's file, makes the log fresh, and sends to its `ends` one line that says so;
 /// - `check SETUP` sends to `ends` one line that says whether the setup in that file and its word
 ///   list are right;
 /// - `otp ALGO N SEED` and `otp ALGO N SEED WORDS` print a one-time password of RFC 2289: the pass
@@ -88,38 +81,35 @@ pub fn otplogd<
     rt: &R,
     alloc: Global,
     words: &[Word],
-    files: &mut F,
-    site: &mut S,
-    log: K,
-    ends: &mut E,
+    world: World<F, S, K, E>,
     information: &I,
-) -> Report<S::Post, K>
+) -> Ended<F, S, K, E>
     // Each status has its cause in the words.
-    ensures causes { StatusHasCause words.now result.status }
+    ensures causes { StatusHasCause words.now result.said.status }
     // The mode `serve` serves by the setup that the words name, as its promises say, or says why not.
-    ensures serve { ServeMode words.now (I.forms information.now) result.status result.detail result.journal.items result.posts.items S.Post.scene S.Post.faults (F.contents files.old) (F.contents files.new) (S.listens site.old) (S.listens site.new) (K.held log) (K.held result.log) (Rose (F.read_faults files.old) (F.read_faults files.new)) (Rose (F.replace_faults files.old) (F.replace_faults files.new)) (Rose (S.listen_faults site.old) (S.listen_faults site.new)) (Rose (K.faults log) (K.faults result.log)) }
+    ensures serve { ServeMode words.now (I.forms information.now) F.contents world result.world result.said }
     // The mode `otp` prints the password that its words, files and input spell, or says why not.
-    ensures password { PasswordMode words.now result.status result.detail (F.contents files.new) (E.link ends.old) (E.link ends.new) (Rose (F.read_faults files.old) (F.read_faults files.new)) (Rose (E.faults ends.old) (E.faults ends.new)) }
+    ensures password { PasswordMode words.now F.contents world result.world result.said }
     // The mode `check` says what its files hold of a setup, or why it says nothing.
-    ensures check { CheckMode words.now (I.forms information.now) result.status result.detail (F.contents files.new) (E.link ends.old) (E.link ends.new) (Rose (F.read_faults files.old) (F.read_faults files.new)) (Rose (E.faults ends.old) (E.faults ends.new)) }
+    ensures check { CheckMode words.now (I.forms information.now) F.contents world result.world result.said }
     // The modes of the children run them over the ends.
-    ensures child { ChildMode words.now result.status (E.link ends.old) (E.link ends.new) (Rose (E.faults ends.old) (E.faults ends.new)) }
+    ensures child { ChildMode words.now world result.world result.said }
     // The mode `audit` says whether a log is legal, or why it says nothing.
-    ensures audit { AuditMode words.now result.status result.detail (F.contents files.new) (E.link ends.old) (E.link ends.new) (Rose (F.read_faults files.old) (F.read_faults files.new)) (Rose (E.faults ends.old) (E.faults ends.new)) }
+    ensures audit { AuditMode words.now F.contents world result.world result.said }
     // The mode `renew` writes the setup with the new chain, or says why not.
-    ensures renew { RenewMode words.now result.status result.detail (F.contents files.old) (F.contents files.new) (E.link ends.old) (E.link ends.new) (Rose (F.read_faults files.old) (F.read_faults files.new)) (Rose (F.replace_faults files.old) (F.replace_faults files.new)) (Rose (E.faults ends.old) (E.faults ends.new)) }
+    ensures renew { RenewMode words.now F.contents world result.world result.said }
     // The mode `enrol` prints the account that its words and input spell, or says why not.
-    ensures enrol { EnrolMode words.now result.status (E.link ends.old) (E.link ends.new) (Rose (E.faults ends.old) (E.faults ends.new)) }
+    ensures enrol { EnrolMode words.now world result.world result.said }
     // The mode `drill` runs the drill of its number, gives its journal and tells the journal's counts, or says why not.
-    ensures drill { DrillMode words.now result.status result.journal.items (E.link ends.old) (E.link ends.new) (Rose (E.faults ends.old) (E.faults ends.new)) }
+    ensures drill { DrillMode words.now world result.world result.said }
     // The mode `recover` writes the setup that the log's lines lead to, and the fresh log, or says why not.
-    ensures recover { RecoverMode words.now result.status result.detail (F.contents files.old) (F.contents files.new) (E.link ends.old) (E.link ends.new) (Rose (F.read_faults files.old) (F.read_faults files.new)) (Rose (F.replace_faults files.old) (F.replace_faults files.new)) (Rose (E.faults ends.old) (E.faults ends.new)) }
+    ensures recover { RecoverMode words.now F.contents world result.world result.said }
     // Where no event is lost, no fault of the log is counted.
-    ensures logged { has_lost result.journal.items ≡ false → K.faults result.log ≡ K.faults log }
+    ensures logged { has_lost result.said.journal ≡ false → result.world.log.faults ≡ world.log.faults }
     // What a mode doesn't use it leaves as it was.
-    ensures leaves { LeavesRest words.now result.status result.detail files.old files.new site.old site.new ends.old ends.new log result.log result.journal.items result.posts.items }
-    // No mode but `serve`, `renew` and `recover` writes a file; `renew` the setup's alone, and `recover` that and the log's.
-    ensures changes { ChangesFiles words.now result.status (F.contents files.old) (F.contents files.new) }
+    ensures leaves { LeavesRest words.now world result.world result.said }
+    // No mode but `serve`, `renew` and `recover` writes a file: `renew` the setup's alone, `recover` it and the log's.
+    ensures changes { ChangesFiles words.now F.contents world result.world result.said }
 {
-    run_command(rt, alloc, words, files, site, log, ends, information)
+    run_command(rt, alloc, words, world, information)
 }

@@ -14,7 +14,8 @@ use info_hooks::{Card, Form, InfoText, Piece, Short};
 #[tactic(auto, unfolding(info_hooks::specs::Said::said))]
 /// A user's name and number.
 pub fn person_form() -> Form
-    ensures { (card : Card) → said result card ≡ codes "name=" ++ name_bytes card.name ++ codes " uid=" ++ decimal card.uid ++ [] }
+    ensures { (card : Card) → said result card
+        ≡ codes "name=" ++ name_bytes card.name ++ codes " uid=" ++ decimal card.uid ++ [] }
 {
     Form::of(&[
         Piece::Fixed(Short::of(b"name=")),
@@ -27,7 +28,8 @@ pub fn person_form() -> Form
 /// Says a user's name and number.
 pub fn say_person(card: &Card) -> InfoText
     requires { IsCard card.now }
-    ensures { info_bytes result ≡ codes "name=" ++ name_bytes card.now.name ++ codes " uid=" ++ decimal card.now.uid ++ [] }
+    ensures { info_bytes result
+        ≡ codes "name=" ++ name_bytes card.now.name ++ codes " uid=" ++ decimal card.now.uid ++ [] }
 {
     person_form().say(card)
 }
@@ -35,7 +37,8 @@ pub fn say_person(card: &Card) -> InfoText
 #[tactic(auto, unfolding(info_hooks::specs::Said::said))]
 /// The algorithm of a user's passwords, and how many are left.
 pub fn chain_form() -> Form
-    ensures { (card : Card) → said result card ≡ codes "algorithm=" ++ (algo_name card.algo ++ (codes " sequence=" ++ (decimal card.sequence ++ []))) }
+    ensures { (card : Card) → said result card
+        ≡ codes "algorithm=" ++ (algo_name card.algo ++ (codes " sequence=" ++ (decimal card.sequence ++ []))) }
 {
     Form::of(&[
         Piece::Fixed(Short::of(b"algorithm=")),
@@ -48,7 +51,8 @@ pub fn chain_form() -> Form
 /// Says the algorithm of a user's passwords, and how many are left.
 pub fn say_chain(card: &Card) -> InfoText
     requires { IsCard card.now }
-    ensures { info_bytes result ≡ codes "algorithm=" ++ (algo_name card.now.algo ++ (codes " sequence=" ++ (decimal card.now.sequence ++ []))) }
+    ensures { info_bytes result ≡ codes "algorithm="
+        ++ (algo_name card.now.algo ++ (codes " sequence=" ++ (decimal card.now.sequence ++ []))) }
 {
     chain_form().say(card)
 }

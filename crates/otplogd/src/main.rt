@@ -13,7 +13,7 @@ use durable::{RunLog, logs_of};
 use info_hooks::{Hook, Hooks};
 use information::{chain_form, person_form, say_chain, say_person};
 use messages::{Complaint, RunCounts, RunFaults, complaint_text, say_lacks};
-use monitor_server::{Answer, Detail, Report, otplogd, run_alone};
+use monitor_server::{Answer, Detail, Ended, Sides, World, otplogd, run_alone};
 use outside::Word;
 use outside_real::{ListenFailure, RealEnds, RealFiles, RealPost, RealSite, fill_standard_streams};
 use saying::{notice_of, say_end};
@@ -25,6 +25,14 @@ use std::process::ExitCode;
 use std::rt::Env;
 use std::{env, io};
 use usage::{answer_help, mistake_text};
+
+/// A run of the program that is over.
+type Over = Ended<
+    RealFiles<HostRuntime>,
+    RealSite<HostRuntime>,
+    RunLog,
+    RealEnds<io::Stdin, io::Stdout>,
+>;
 
 /// The words are no command.
 const NO_COMMAND: u8 = 2;
@@ -114,30 +122,26 @@ fn site_of(rt: HostRuntime, alloc: Global, words: &[Word]) -> RealSite<HostRunti
 }
 
 /// What a run's status is about, as far as that can be told.
-fn complaint_of<'a>(
-    report: &Report<RealPost<HostRuntime>, RunLog>,
-    words: &'a [Word],
-    files: &'a RealFiles<HostRuntime>,
-    site: &'a RealSite<HostRuntime>,
-) -> Complaint<'a> {
+fn complaint_of<'a>(over: &'a Over, words: &'a [Word]) -> Complaint<'a> {
+    let Ended { said, world } = over;
     let plain = Complaint {
-        status: report.status,
-        detail: report.detail,
+        status: said.status,
+        detail: said.detail,
         path: None,
         cause: None,
     };
-    match (report.status, words) {
-        (NO_SOCKET, _) => of_listening(plain, site.failure()),
+    match (said.status, words) {
+        (NO_SOCKET, _) => of_listening(plain, world.site.failure()),
         (NO_LOG, [_, _, log]) => Complaint {
             path: Some(log.as_str()),
             ..plain
         },
         (NO_WAIT, _) => Complaint {
-            cause: accept_error(report.posts.as_slice()),
+            cause: accept_error(said.posts.as_slice()),
             ..plain
         },
         (NO_LOG | NO_MEMORY, _) => plain,
-        _ => of_files(plain, files),
+        _ => of_files(plain, &world.files),
     }
 }
 
@@ -173,27 +177,23 @@ fn of_listening<'a>(plain: Complaint<'a>, failure: Option<&'a ListenFailure>) ->
 }
 
 /// Says what came of a call that is at its end, and gives the exit status.
-fn conclude(
-    rt: HostRuntime,
-    alloc: Global,
-    report: &Report<RealPost<HostRuntime>, RunLog>,
-    words: &[Word],
-    complaint: Complaint<'_>,
-) -> ExitCode {
-    if report.status == NO_COMMAND {
+fn conclude(rt: HostRuntime, alloc: Global, over: &Over, words: &[Word]) -> ExitCode {
+    let Ended { said, world } = over;
+    if said.status == NO_COMMAND {
         return refuse(&rt, alloc, words);
     }
-    if !report.posts.is_empty() {
-        let faults = RunFaults::of(report.posts.as_slice(), report.log.dropped());
-        let run = match report.log.is_durable() {
-            true => Some(RunCounts::of(report.journal.as_slice())),
+    let complaint = complaint_of(over, words);
+    if !said.posts.is_empty() {
+        let faults = RunFaults::of(said.posts.as_slice(), world.log.dropped());
+        let run = match world.log.is_durable() {
+            true => Some(RunCounts::of(said.journal.as_slice())),
             false => None,
         };
         let _ = say_end(rt, alloc, complaint, faults, run);
-    } else if report.status != 0 {
+    } else if said.status != 0 {
         say(&rt, alloc, complaint);
     }
-    ExitCode::from(report.status)
+    ExitCode::from(said.status)
 }
 
 /// Says what is wrong with words that are no command, and gives the exit status.
@@ -250,14 +250,16 @@ fn answer_alone(
     words: &[Word],
     information: &Hooks,
 ) -> Option<ExitCode> {
-    let mut ends = RealEnds::new(rt.stdin(), rt.stdout());
-    let mut files = RealFiles::new(rt, alloc);
-    let answer = run_alone(alloc, words, &mut files, &mut ends, information)?;
+    let mut sides = Sides {
+        files: RealFiles::new(rt, alloc),
+        ends: RealEnds::new(rt.stdin(), rt.stdout()),
+    };
+    let answer = run_alone(alloc, words, &mut sides, information)?;
     if answer.status == NO_COMMAND {
         return Some(refuse(&rt, alloc, words));
     }
-    let status = conclude_alone(&rt, alloc, answer, &files);
-    say_lacks(&rt, alloc, &mut files, words, answer.status);
+    let status = conclude_alone(&rt, alloc, answer, &sides.files);
+    say_lacks(&rt, alloc, &mut sides.files, words, answer.status);
     Some(status)
 }
 
@@ -284,19 +286,12 @@ fn main(rt: HostRuntime) -> ExitCode {
     if let Some(status) = answer_alone(rt, alloc, &words, &information) {
         return status;
     }
-    let mut ends = RealEnds::new(rt.stdin(), rt.stdout());
-    let mut files = RealFiles::new(rt, alloc);
-    let mut site = site_of(rt, alloc, &words);
-    let report = otplogd(
-        &rt,
-        alloc,
-        &words,
-        &mut files,
-        &mut site,
+    let world = World {
+        files: RealFiles::new(rt, alloc),
+        site: site_of(rt, alloc, &words),
         log,
-        &mut ends,
-        &information,
-    );
-    let complaint = complaint_of(&report, &words, &files, &site);
-    conclude(rt, alloc, &report, &words, complaint)
+        ends: RealEnds::new(rt.stdin(), rt.stdout()),
+    };
+    let over = otplogd(&rt, alloc, &words, world, &information);
+    conclude(rt, alloc, &over, &words)
 }

@@ -5,7 +5,7 @@ ghost use Rattle.outside.specs.Scene.{IsFresh};
 use account_file::{SetupFault, SetupKey, SetupRule};
 use audit_check::AuditWhy;
 use info_hooks::Hooks;
-use monitor_server::{Detail, FileKind, Report, otplogd};
+use monitor_server::{Detail, Ended, FileKind, World, otplogd};
 use otp_words::{DictFault, DictRule};
 use outside::{
     Accepted, Act, Bytes, MemFiles, MemPost, MemSink, MemSite, MemStream, Role, Script, Word,
@@ -51,36 +51,49 @@ fn no_hooks(alloc: Global) -> Result<Hooks, Fault> {
     Ok(Hooks::new(Vec::new(alloc)).ok().ok_or("hooks")?)
 }
 
-/// The files and the ends of a command.
-#[derive(Drop)]
-struct Sides {
+/// What a command is run over in memory.
+type MemWorld = World<MemFiles, MemSite<MemPost>, MemSink, MemStream>;
+
+/// What it comes to.
+type MemEnded = Ended<MemFiles, MemSite<MemPost>, MemSink, MemStream>;
+
+/// This site and these files, ends with this input, and an empty log.
+fn world_of(
+    alloc: Global,
+    site: MemSite<MemPost>,
     files: MemFiles,
-    ends: MemStream,
-}
-
-/// These files, and ends with this input.
-fn sides_of(alloc: Global, files: MemFiles, input: &[u8]) -> Result<Sides, AllocError> {
-    let ends = MemStream::new(alloc, input, &[100], &[])?;
-    Ok(Sides { files, ends })
-}
-
-/// No files, and ends with this input.
-fn no_files(alloc: Global, input: &[u8]) -> Result<Sides, AllocError> {
-    sides_of(alloc, MemFiles::new(alloc, &[], &[])?, input)
-}
-
-/// What comes of these words, over a site and these sides.
-fn report_at<R: Threads + Wait + Sync + AllocGlobal>(
-    rt: &R,
-    words: &[Word],
-    site: &mut MemSite<MemPost>,
-    sides: &mut Sides,
-    hooks: &Hooks,
-) -> Result<Report<MemPost, MemSink>, AllocError> {
-    let alloc = rt.alloc();
+    input: &[u8],
+) -> Result<MemWorld, AllocError> {
     let log = MemSink::new(alloc, &[])?;
-    let (files, ends) = (&mut sides.files, &mut sides.ends);
-    Ok(otplogd(rt, alloc, words, files, site, log, ends, hooks))
+    let ends = MemStream::new(alloc, input, &[100], &[])?;
+    Ok(World {
+        files,
+        site,
+        log,
+        ends,
+    })
+}
+
+/// These files, ends with this input, and a site without posts.
+fn offline_world(alloc: Global, files: MemFiles, input: &[u8]) -> Result<MemWorld, AllocError> {
+    let site: MemSite<MemPost> = MemSite::new(alloc, Vec::new(alloc))?;
+    world_of(alloc, site, files, input)
+}
+
+/// The same without a file.
+fn no_files(alloc: Global, input: &[u8]) -> Result<MemWorld, AllocError> {
+    offline_world(alloc, MemFiles::new(alloc, &[], &[])?, input)
+}
+
+/// What comes of a line's words, over this world.
+fn ended_of<R: Threads + Wait + Sync + AllocGlobal>(
+    rt: &R,
+    line: &str,
+    world: MemWorld,
+    hooks: &Hooks,
+) -> Result<MemEnded, AllocError> {
+    let words = words_of(rt.alloc(), line)?;
+    Ok(otplogd(rt, rt.alloc(), &words, world, hooks))
 }
 
 /// A site of one such post.
@@ -98,25 +111,25 @@ fn serve<R: Threads + Wait + Sync + AllocGlobal>(
     pre: &[u8],
     cuts: &[usize],
     hooks: &Hooks,
-) -> Result<Report<MemPost, MemSink>, AllocError>
+) -> Result<MemEnded, AllocError>
     requires some_cut { 0 < length cuts.now }
     requires each_cut { All (λ c. 1 ≤ c) cuts.now }
 {
     let alloc = rt.alloc();
-    let words = words_of(alloc, "serve")?;
-    let mut sides = no_files(alloc, b"")?;
-    let mut site = site_of(alloc, pre, cuts)?;
-    report_at(rt, &words, &mut site, &mut sides, hooks)
+    let site = site_of(alloc, pre, cuts)?;
+    let world = world_of(alloc, site, MemFiles::new(alloc, &[], &[])?, b"")?;
+    ended_of(rt, "serve", world, hooks)
 }
 
 /// The text of the log, as bytes.
-fn log_of(report: &Report<MemPost, MemSink>) -> &[u8] {
-    report.log.held()
+fn log_of(ended: &MemEnded) -> &[u8] {
+    ended.world.log.held()
 }
 
 /// The bytes that the first child was sent, if one was given back.
-fn sent_to_child(report: &Report<MemPost, MemSink>) -> Option<&[u8]> {
-    report
+fn sent_to_child(ended: &MemEnded) -> Option<&[u8]> {
+    ended
+        .said
         .posts
         .first()?
         .talks()
@@ -143,14 +156,21 @@ fn smallest_acts(alloc: Global) -> Result<Vec<Act>, AllocError> {
     ]?)
 }
 
-/// Whether a report is that of the smallest run.
-fn is_smallest(report: &Report<MemPost, MemSink>, acts: &[Act]) -> bool {
-    report.status == 0
-        && report.journal.len() == 4
-        && log_of(report) == SMALLEST_LOG.as_bytes()
-        && sent_to_child(report) == Some(BOTH_DONE)
-        && report.posts.len() == 1
-        && report.posts[0].acts() == acts
+/// Whether the one post did just this.
+fn did(posts: &[MemPost], acts: &[Act]) -> bool {
+    match posts {
+        [post] => post.acts() == acts,
+        _ => false,
+    }
+}
+
+/// Whether a run is the smallest one.
+fn is_smallest(ended: &MemEnded, acts: &[Act]) -> bool {
+    ended.said.status == 0
+        && ended.said.journal.len() == 4
+        && log_of(ended) == SMALLEST_LOG.as_bytes()
+        && sent_to_child(ended) == Some(BOTH_DONE)
+        && did(ended.said.posts.as_slice(), acts)
 }
 
 /// Whether the smallest run succeeds with the child's bytes in pieces of these lengths.
@@ -163,8 +183,8 @@ fn succeeds<R: Threads + Wait + Sync + AllocGlobal>(
     requires each_cut { All (λ c. 1 ≤ c) cuts.now }
 {
     let acts = smallest_acts(rt.alloc())?;
-    let report = serve(rt, SMALLEST, cuts, hooks)?;
-    Ok(is_smallest(&report, &acts))
+    let ended = serve(rt, SMALLEST, cuts, hooks)?;
+    Ok(is_smallest(&ended, &acts))
 }
 
 #[test]
@@ -375,28 +395,6 @@ fn file_of(alloc: Global, row: &Unserved) -> Result<MemFiles, AllocError> {
     MemFiles::new(alloc, pairs.as_slice(), &[])
 }
 
-/// What comes of these words, over these sides, and a site without posts.
-fn report_by<R: Threads + Wait + Sync + AllocGlobal>(
-    rt: &R,
-    words: &[Word],
-    sides: &mut Sides,
-    hooks: &Hooks,
-) -> Result<Report<MemPost, MemSink>, AllocError> {
-    let mut site: MemSite<MemPost> = MemSite::new(rt.alloc(), Vec::new(rt.alloc()))?;
-    report_at(rt, words, &mut site, sides, hooks)
-}
-
-/// What comes of a line's words, over these sides, and a site without posts.
-fn report_of<R: Threads + Wait + Sync + AllocGlobal>(
-    rt: &R,
-    line: &str,
-    sides: &mut Sides,
-    hooks: &Hooks,
-) -> Result<Report<MemPost, MemSink>, AllocError> {
-    let words = words_of(rt.alloc(), line)?;
-    report_by(rt, &words, sides, hooks)
-}
-
 /// Whether a row holds.
 fn serves_nobody<R: Threads + Wait + Sync + AllocGlobal>(
     rt: &R,
@@ -404,13 +402,13 @@ fn serves_nobody<R: Threads + Wait + Sync + AllocGlobal>(
     hooks: &Hooks,
 ) -> Result<bool, AllocError> {
     let files = file_of(rt.alloc(), row)?;
-    let mut sides = sides_of(rt.alloc(), files, row.input)?;
-    let report = report_of(rt, row.line, &mut sides, hooks)?;
+    let world = offline_world(rt.alloc(), files, row.input)?;
+    let Ended { said, world } = ended_of(rt, row.line, world, hooks)?;
     Ok(
-        report.status == row.status
-            && report.detail == row.detail
-            && report.posts.len() == 0
-            && sides.ends.sent() == row.sent,
+        said.status == row.status
+            && said.detail == row.detail
+            && said.posts.len() == 0
+            && world.ends.sent() == row.sent,
     )
 }
 
@@ -454,12 +452,12 @@ renew a Bob
 renew a Bob c
 renew a bob c d";
 
-/// Whether a report says that the words are no command.
-fn is_no_command(report: &Report<MemPost, MemSink>, ends: &MemStream) -> bool {
-    report.status == 2
-        && report.detail == Detail::Nothing
-        && report.posts.len() == 0
-        && ends.sent() == b"".as_slice()
+/// Whether a run says that the words are no command.
+fn is_no_command(ended: &MemEnded) -> bool {
+    ended.said.status == 2
+        && ended.said.detail == Detail::Nothing
+        && ended.said.posts.len() == 0
+        && ended.world.ends.sent() == b"".as_slice()
 }
 
 /// Whether the words of a line are no command.
@@ -468,9 +466,8 @@ fn names_no_command<R: Threads + Wait + Sync + AllocGlobal>(
     line: &str,
     hooks: &Hooks,
 ) -> Result<bool, AllocError> {
-    let mut sides = no_files(rt.alloc(), PHRASE)?;
-    let report = report_of(rt, line, &mut sides, hooks)?;
-    Ok(is_no_command(&report, &sides.ends))
+    let world = no_files(rt.alloc(), PHRASE)?;
+    Ok(is_no_command(&ended_of(rt, line, world, hooks)?))
 }
 
 #[test]
@@ -487,9 +484,9 @@ fn nothing_is_no_command<R: Threads + Wait + Sync + AllocGlobal>(
     rt: &R,
     hooks: &Hooks,
 ) -> Result<bool, AllocError> {
-    let mut sides = no_files(rt.alloc(), PHRASE)?;
-    let report = report_by(rt, &[], &mut sides, hooks)?;
-    Ok(is_no_command(&report, &sides.ends))
+    let world = no_files(rt.alloc(), PHRASE)?;
+    let ended = otplogd(rt, rt.alloc(), &[], world, hooks);
+    Ok(is_no_command(&ended))
 }
 
 #[test]

@@ -1,4 +1,4 @@
-use super::{Detail, no_files, no_hooks, report_of};
+use super::{Detail, Ended, ended_of, no_files, no_hooks};
 use info_hooks::Hooks;
 use std::alloc::AllocError;
 use std::sync::Wait;
@@ -26,11 +26,11 @@ fn drills<R: Threads + Wait + Sync + AllocGlobal>(
     hooks: &Hooks,
     (status, sent, events): (u8, &str, usize),
 ) -> Result<bool, AllocError> {
-    let mut sides = no_files(rt.alloc(), b"")?;
-    let report = report_of(rt, line, &mut sides, hooks)?;
-    let is_told = report.status == status && report.detail == Detail::Nothing;
-    let is_lent = report.log.held().is_empty() && report.posts.is_empty();
-    let is_sent = sides.ends.sent() == sent.as_bytes() && report.journal.len() == events;
+    let world = no_files(rt.alloc(), b"")?;
+    let Ended { said, world } = ended_of(rt, line, world, hooks)?;
+    let is_told = said.status == status && said.detail == Detail::Nothing;
+    let is_lent = world.log.held().is_empty() && said.posts.is_empty();
+    let is_sent = world.ends.sent() == sent.as_bytes() && said.journal.len() == events;
     Ok(is_told && is_lent && is_sent)
 }
 

@@ -1,4 +1,4 @@
-use super::{Detail, Sides, no_hooks, report_of, sides_of};
+use super::{Detail, Ended, MemWorld, ended_of, no_hooks, offline_world};
 use audit_check::AuditWhy;
 use info_hooks::Hooks;
 use otp_extended::RenewFault;
@@ -81,17 +81,18 @@ struct Told {
     sent: &'static str,
 }
 
-/// Whether the words with the input come to this.
+/// Whether the words with the input come to this, and the world after it.
 fn comes<R: Threads + Wait + Sync + AllocGlobal>(
     rt: &R,
-    sides: &mut Sides,
+    mut world: MemWorld,
     hooks: &Hooks,
     told: &Told,
-) -> Result<bool, AllocError> {
-    sides.ends = MemStream::new(rt.alloc(), told.input.as_bytes(), &[100], &[])?;
-    let report = report_of(rt, told.line, sides, hooks)?;
-    let is_sent = sides.ends.sent() == told.sent.as_bytes();
-    Ok(report.status == told.status && report.detail == told.detail && is_sent)
+) -> Result<(bool, MemWorld), AllocError> {
+    world.ends = MemStream::new(rt.alloc(), told.input.as_bytes(), &[100], &[])?;
+    let Ended { said, world } = ended_of(rt, told.line, world, hooks)?;
+    let is_sent = world.ends.sent() == told.sent.as_bytes();
+    let is_told = said.status == told.status && said.detail == told.detail;
+    Ok((is_told && is_sent, world))
 }
 
 /// The words and the input that renew alice's chain.
@@ -162,9 +163,11 @@ const STEPS: [Told; 7] = [
 #[test]
 fn a_log_is_audited_and_an_account_renewed(rt: HostRuntime) -> Result<(), Fault> {
     let hooks = no_hooks(rt.alloc())?;
-    let mut sides = sides_of(rt.alloc(), files_of(rt.alloc())?, b"")?;
+    let mut world = offline_world(rt.alloc(), files_of(rt.alloc())?, b"")?;
     for told in &STEPS {
-        assert!(rt; comes(&rt, &mut sides, &hooks, told)?, "{}", told.sent);
+        let (is_so, after) = comes(&rt, world, &hooks, told)?;
+        assert!(rt; is_so, "{}", told.sent);
+        world = after;
     }
     Ok(())
 }

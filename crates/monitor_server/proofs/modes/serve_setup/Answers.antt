@@ -1,3 +1,4 @@
+use Rattle.monitor_server.proofs.Posts.{seen_ended}
 use Rattle.monitor_server.proofs.modes.serve_setup.Goals as goal
 
 pub returns-clause-serve : goal.returns-clause-serve
@@ -5,5 +6,5 @@ returns-clause-serve g c = record {
   end = c.run_serve-end.result.end;
   status_is = c.status.ensures;
   detail_is = c.serve_detail.ensures;
-  ended = c.run_serve-end.ensures.ended;
+  ended = seen_ended _ _ c.run_serve-end.result.end _ c.run_serve-end.result.posts.items _ _ _ _ _ _ _ _ _ _ _ _ c.run_serve-end.ensures.ended;
 }

@@ -1,20 +1,18 @@
-use Rattle.std.proofs.Common.{Ok, ap, refl, subst, ◌∙◌}
-use Rattle.outside.specs.Files.{SameFiles}
-use Rattle.outside.proofs.Told.{Goes-same}
+use Rattle.std.proofs.Common.{Ok, ap, subst, ◌∙◌}
 use Rattle.serve_mode.specs.Commands.{source_of}
+use Rattle.monitor_server.specs.Around.{only_answer}
 use Rattle.monitor_server.specs.Commands.{IsReading}
 use Rattle.monitor_server.proofs.Apart.{drill_within}
-use Rattle.monitor_server.proofs.Whole.{whole-answered, whole-drilled, whole-served, whole-unread}
+use Rattle.monitor_server.proofs.Whole.{whole-alone, whole-drilled, whole-served, whole-unread}
 use Rattle.monitor_server.proofs.top.run_command.Goals as goal
 
 pub returns-in-Ok-Serve-clause-whole : goal.returns-in-Ok-Serve-clause-whole
 returns-in-Ok-Serve-clause-whole g c =
-    whole-served (source_of c.in-Ok-Serve.command) (subst (λ command. IsReading c.args.words.now (Ok command)) c.in-Ok-Serve.field-0-is c.in-Ok-Serve.ensures) c.serve_setup.ensures.serve c.serve_setup.ensures.plain refl
+    whole-served (source_of c.in-Ok-Serve.command) (subst (λ command. IsReading c.args.words.now (Ok command)) c.in-Ok-Serve.field-0-is c.in-Ok-Serve.ensures) c.serve_setup.ensures.serve c.serve_setup.ensures.plain c.serve_setup.ensures.ends
 
 pub returns-in-Ok-Alone-clause-whole : goal.returns-in-Ok-Alone-clause-whole
 returns-in-Ok-Alone-clause-whole g c =
-    let asked = subst (λ command. IsReading c.args.words.now (Ok command)) c.in-Ok-Alone.field-0-is c.in-Ok-Alone.ensures in
-    whole-answered c.in-Ok-Alone.command c.answer-answer.result c.unused.ensures.status c.unused.ensures.detail asked c.answer-answer.ensures.ran c.answer-answer.ensures.spares c.unused.ensures.unused refl
+    whole-alone c.in-Ok-Alone.command (subst (λ command. IsReading c.args.words.now (Ok command)) c.in-Ok-Alone.field-0-is c.in-Ok-Alone.ensures) c.answer_within.ensures.ran c.answer_within.ensures.spares c.answer_within.ensures.unused
 
 -- the number is that of the words, so it is in its range
 pub play_drill-requires-clause-low : goal.play_drill-requires-clause-low
@@ -25,10 +23,8 @@ play_drill-requires-clause-high g c κs within = (drill_within c.args.words.now 
 
 pub returns-in-Ok-Drill-clause-whole : goal.returns-in-Ok-Drill-clause-whole
 returns-in-Ok-Drill-clause-whole g c =
-    whole-drilled c.in-Ok-Drill.number (subst (λ command. IsReading c.args.words.now (Ok command)) c.in-Ok-Drill.field-0-is c.in-Ok-Drill.ensures) c.play_drill.ensures.drill c.play_drill.ensures.detail c.play_drill.ensures.log c.play_drill.ensures.posts c.play_drill.ensures.silent c.play_drill.ensures.no_file refl refl (Goes-same SameFiles (λ files. record { same = λ name. refl }) (g.F.Files.contents c.args.files.now))
+    whole-drilled c.in-Ok-Drill.number (subst (λ command. IsReading c.args.words.now (Ok command)) c.in-Ok-Drill.field-0-is c.in-Ok-Drill.ensures) c.play_drill.ensures.drill c.play_drill.ensures.alone c.play_drill.ensures.silent c.play_drill.ensures.no_file
 
 pub returns-in-Err-clause-whole : goal.returns-in-Err-clause-whole
 returns-in-Err-clause-whole g c =
-    let same = Goes-same SameFiles (λ files. record { same = λ name. refl }) (g.F.Files.contents c.args.files.now) in
-    let told = c.answer.ensures in
-    whole-unread c.in-Err.unread c.in-Err.ensures (c.unused-in-Err.ensures.status ∙ ap (λ a. a.status) told) (c.unused-in-Err.ensures.detail ∙ ap (λ a. a.detail) told) c.unused-in-Err.ensures.unused (ap g.K.Sink.held c.unused-in-Err.ensures.unused.log) refl refl refl same refl refl
+    whole-unread c.in-Err.unread c.in-Err.ensures (c.end_unserved.ensures.said ∙ ap only_answer c.answer.ensures) c.end_unserved.ensures.world

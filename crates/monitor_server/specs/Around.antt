@@ -1,0 +1,114 @@
+-- Believed: what is around a call at one moment, what the call says, and the counts that rose meanwhile.
+use Rattle.std.specs.Prelude.{ℕ, List, [], Option, None}
+use Rattle.outside.specs.declared.faults.Faults.{Faults}
+use Rattle.outside.specs.declared.place.Place.{Place as SitePlace}
+use Rattle.outside.specs.Files.{Contents}
+use Rattle.outside.specs.Link.{Link}
+use Rattle.outside.specs.Scene.{Scene}
+use Rattle.outside.specs.Told.{Goes, Rose}
+use Rattle.policy_model.specs.declared.event.Event.{Event}
+use Rattle.monitor_server.specs.declared.report.Answer.{Answer}
+use Rattle.monitor_server.specs.declared.report.Detail.{Detail}
+
+-- ---- what is around a call
+
+-- the files: themselves, and how many readings and replacings failed. What stands in them, where they tell it, a clause
+-- asks of themselves (`contents files.it`): a function, as from names to bytes, is no part of a value
+pub record FilesNow (F : Type 0) : Type 0 where
+  pub it : F
+  pub read_faults : ℕ
+  pub replace_faults : ℕ
+
+-- the site: itself, where it tells that it listened, and how often it could not
+pub record SiteNow (S : Type 0) : Type 0 where
+  pub it : S
+  pub listens : Option (List SitePlace)
+  pub faults : ℕ
+
+-- the log: itself, the bytes that it tells that it holds, and how many appends failed
+pub record LogNow (K : Type 0) : Type 0 where
+  pub it : K
+  pub held : Option (List ℕ)
+  pub faults : ℕ
+
+-- the ends: themselves, what they tell of the bytes that pass, and how many calls failed
+pub record EndsNow (E : Type 0) : Type 0 where
+  pub it : E
+  pub link : Option Link
+  pub faults : ℕ
+
+-- what is around a call at one moment
+pub record Around (F S K E : Type 0) : Type 0 where
+  pub files : FilesNow F
+  pub site : SiteNow S
+  pub log : LogNow K
+  pub ends : EndsNow E
+
+-- what of it a mode without threads is run over
+pub record SidesNow (F E : Type 0) : Type 0 where
+  pub files : FilesNow F
+  pub ends : EndsNow E
+
+abbrev pub sides_of : {F S K E : Type 0} → Around F S K E → SidesNow F E
+sides_of around = record { files = around.files; ends = around.ends }
+
+-- what is around a call that is given no site and no log
+abbrev pub only_sides : {F E : Type 0} → SidesNow F E → Around F (Unit {0}) (Unit {0}) E
+only_sides sides = record {
+  files = sides.files;
+  site = record { it = tt; listens = None; faults = 0 };
+  log = record { it = tt; held = None; faults = 0 };
+  ends = sides.ends;
+}
+
+-- ---- what a call says
+
+-- a worker's post: what it tells, and its counts of faults
+pub record PostNow : Type 0 where
+  pub scene : Option Scene
+  pub faults : Faults
+
+-- a post, of which this tells what it tells and counts
+abbrev pub seen : {P : Type 0} → (P → Option Scene) → (P → Faults) → P → PostNow
+seen scene faults post = record { scene = scene post; faults = faults post }
+
+-- its exit status and what that alone doesn't tell, all events, and the workers' posts
+pub record Said : Type 0 where
+  pub status : ℕ
+  pub detail : Detail
+  pub journal : List Event
+  pub posts : List PostNow
+
+-- of what is said, what comes of words that serve nobody
+abbrev pub answer_in : Said → Answer
+answer_in said = record { status = said.status; detail = said.detail }
+
+-- no more than this is said: no event, and no post
+abbrev pub only_answer : Answer → Said
+only_answer answer = record { status = answer.status; detail = answer.detail; journal = []; posts = [] }
+
+-- ---- between two moments
+
+-- of the files a reading failed, or a replacing
+abbrev pub ReadRose : {F : Type 0} → FilesNow F → FilesNow F → Type 0
+ReadRose before after = Rose before.read_faults after.read_faults
+
+abbrev pub ReplaceRose : {F : Type 0} → FilesNow F → FilesNow F → Type 0
+ReplaceRose before after = Rose before.replace_faults after.replace_faults
+
+-- the site could not listen
+abbrev pub ListenRose : {S : Type 0} → SiteNow S → SiteNow S → Type 0
+ListenRose before after = Rose before.faults after.faults
+
+-- an append to the log failed
+abbrev pub LogRose : {K : Type 0} → LogNow K → LogNow K → Type 0
+LogRose before after = Rose before.faults after.faults
+
+-- a call on the ends failed
+abbrev pub EndsRose : {E : Type 0} → EndsNow E → EndsNow E → Type 0
+EndsRose before after = Rose before.faults after.faults
+
+-- what stands in the files went by this step, where they tell it
+abbrev pub FilesGo : {F : Type 0} → (Contents → Contents → Type 0) → (F → Option Contents) → FilesNow F → FilesNow F
+    → Type 0
+FilesGo Step contents before after = Goes Step (contents before.it) (contents after.it)
