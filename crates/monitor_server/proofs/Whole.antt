@@ -155,7 +155,7 @@ module _ {F S K E : Type 0} {words : List (List ℕ)} {forms : List Key} {conten
       → Whole words forms contents before after said
   whole-password parts asked ran unused unread silent at_list goes =
       let status_is = sym ran.status_is in
-      let of : IsModeStatus said.status = subst IsModeStatus said.status_is (password_status ran.outcome) in
+      let of : IsModeStatus said.status = subst IsModeStatus status_is (password_status ran.outcome) in
       let only = only_otp words parts asked in
       record {
         causes = moded words said.status (inr (inl (parts, asked))) (spoken otp_command words parts asked) of;
@@ -180,7 +180,7 @@ module _ {F S K E : Type 0} {words : List (List ℕ)} {forms : List Key} {conten
       → Whole words forms contents before after said
   whole-checked setup asked ran unused silent goes =
       let status_is = sym ran.status_is in
-      let of : IsModeStatus said.status = subst IsModeStatus said.status_is (check_status ran.outcome) in
+      let of : IsModeStatus said.status = subst IsModeStatus status_is (check_status ran.outcome) in
       let only = only_check words setup asked in
       record {
         causes = moded words said.status (inr (inr (inl (setup, asked)))) (spoken check_command words setup asked) of;
@@ -205,7 +205,7 @@ module _ {F S K E : Type 0} {words : List (List ℕ)} {forms : List Key} {conten
       → Whole words forms contents before after said
   whole-child parts asked ran plain unused silent no_file files goes =
       let status_is = sym ran.status_is in
-      let of : IsModeStatus said.status = subst IsModeStatus said.status_is (child_status ran.outcome) in
+      let of : IsModeStatus said.status = subst IsModeStatus status_is (child_status ran.outcome) in
       let only = only_child words parts asked in
       record {
         causes = moded words said.status (inr (inr (inr (inl (parts, asked))))) (spoken child_command words parts asked) of;
@@ -230,7 +230,7 @@ module _ {F S K E : Type 0} {words : List (List ℕ)} {forms : List Key} {conten
       → Whole words forms contents before after said
   whole-audited parts asked ran unused silent at_file goes =
       let status_is = sym ran.status_is in
-      let of : IsModeStatus said.status = subst IsModeStatus said.status_is (audit_status ran.outcome) in
+      let of : IsModeStatus said.status = subst IsModeStatus status_is (audit_status ran.outcome) in
       let only = only_audit words parts asked in
       record {
         causes = moded words said.status (inr (inr (inr (inr (inl (parts, asked)))))) (spoken audit_command words parts asked) of;
@@ -255,7 +255,7 @@ module _ {F S K E : Type 0} {words : List (List ℕ)} {forms : List Key} {conten
       → Whole words forms contents before after said
   whole-renewed parts asked ran unused at_files =
       let status_is = sym ran.status_is in
-      let of : IsModeStatus said.status = subst IsModeStatus said.status_is (renew_status ran.outcome) in
+      let of : IsModeStatus said.status = subst IsModeStatus status_is (renew_status ran.outcome) in
       let only = only_renew words parts asked in
       record {
         causes = moded words said.status (inr (inr (inr (inr (inr (inl (parts, asked))))))) (spoken renew_command words parts asked) of;
@@ -318,7 +318,7 @@ module _ {F S K E : Type 0} {words : List (List ℕ)} {forms : List Key} {conten
       → Whole words forms contents before after said
   whole-recovered parts asked ran unused silent at_files =
       let status_is = sym ran.status_is in
-      let of : IsModeStatus said.status = subst IsModeStatus said.status_is (recover_status ran.outcome) in
+      let of : IsModeStatus said.status = subst IsModeStatus status_is (recover_status ran.outcome) in
       let only = only_recover words parts asked in
       record {
         causes = moded words said.status (inr (inr (inr (inr (inr (inr (inr (inl (parts, asked))))))))) (spoken recover_command words parts asked) of;

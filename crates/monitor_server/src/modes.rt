@@ -3,6 +3,7 @@
 ghost use Rattle.std.specs.Prelude.{◌≡◌, ◌⊎◌, ◌≤◌, false};
 ghost use Rattle.policy_model.specs.Journal.{has_lost};
 ghost use Rattle.otp_mode.specs.Command.{command_parts};
+ghost use Rattle.otp_mode.specs.Faults.{status_of};
 ghost use Rattle.child_mode.specs.Commands.{parts_of};
 ghost use Rattle.enrol_mode.specs.Command as enrolments;
 ghost use Rattle.audit_mode.specs.Commands as audits;
@@ -15,7 +16,7 @@ ghost use Rattle.serve_mode.specs.Words.{Plain};
 ghost use Rattle.monitor_server.specs.Alone.{SparesRest};
 ghost use Rattle.monitor_server.specs.Headline.{UsesEndsAlone};
 ghost use Rattle.monitor_server.specs.Modes.{AuditRan, CheckRan, ChildRan, DrillRan, EnrolRan, PasswordRan, RecoverRan};
-ghost use Rattle.monitor_server.specs.Modes.{RenewRan, ServeRan, audit_detail, fault_detail, finding_detail};
+ghost use Rattle.monitor_server.specs.Modes.{RenewRan, ServeRan, audit_detail, detail_of, finding_detail};
 ghost use Rattle.monitor_server.specs.Modes.{recover_detail, renew_detail, serve_detail};
 
 use crate::report::{Answer, Detail, Ended, FEW_REQUESTS, FileKind, Report};
@@ -112,28 +113,33 @@ pub(crate) fn print_password<F: Files, E: Stream>(
     ensures password { PasswordRan (command_parts command.now) F.contents sides.old sides.new result }
     ensures spares { SparesRest (alone.Password command.now) F.contents sides.old sides.new result.status }
 {
-    match run_otp(alloc, command, &mut sides.files, &mut sides.ends) {
-        Ok(()) => Answer::plain(0),
-        Err(fault) => Answer {
-            status: fault.status(),
-            detail: detail_of(fault),
-        },
+    let outcome = run_otp(alloc, command, &mut sides.files, &mut sides.ends);
+    Answer {
+        status: otp_status(outcome),
+        detail: otp_detail(outcome),
+    }
+}
+
+/// The exit status of what the mode `otp` came to.
+fn otp_status(outcome: Result<(), OtpFault>) -> u8
+    ensures { result ≡ status_of outcome }
+{
+    match outcome {
+        Ok(()) => 0,
+        Err(fault) => fault.status(),
     }
 }
 
 /// Where a fault of the mode `otp` lies.
-fn detail_of(fault: OtpFault) -> Detail
-    ensures { result ≡ fault_detail fault }
+fn otp_detail(outcome: Result<(), OtpFault>) -> Detail
+    ensures { result ≡ detail_of outcome }
 {
-    match fault {
-        OtpFault::ListMissing => Detail::Missing {
+    match outcome {
+        Err(OtpFault::ListMissing) => Detail::Missing {
             file: FileKind::Words,
         },
-        OtpFault::ListRefused(fault) => Detail::WordsBad(fault),
-        OtpFault::ReadFailed
-        | OtpFault::OutOfMemory
-        | OtpFault::EndsFailed
-        | OtpFault::PhraseRefused => Detail::Nothing,
+        Err(OtpFault::ListRefused(fault)) => Detail::WordsBad(fault),
+        _ => Detail::Nothing,
     }
 }
 
@@ -145,7 +151,7 @@ pub(crate) fn check_setup<F: Files, I: Information, E: Stream>(
     sides: &mut Sides<F, E>,
 ) -> Answer
     ensures check { CheckRan (I.forms information.now) setup.now F.contents sides.old sides.new result }
-    ensures spares { SparesRest (alone.Check setup) F.contents sides.old sides.new result.status }
+    ensures spares { SparesRest (alone.Check setup.entry) F.contents sides.old sides.new result.status }
 {
     match run_check(alloc, setup, information, &mut sides.files, &mut sides.ends) {
         Ok(finding) => Answer {

@@ -1,10 +1,11 @@
+use Rattle.monitor_server.proofs.Before.{served_from}
 use Rattle.monitor_server.proofs.Posts.{seen_ended}
 use Rattle.monitor_server.proofs.modes.serve_setup.Goals as goal
 
 pub returns-clause-serve : goal.returns-clause-serve
-returns-clause-serve g c = record {
+returns-clause-serve g c = served_from c.world.view_is (record {
   end = c.run_serve-end.result.end;
   status_is = c.status.ensures;
   detail_is = c.serve_detail.ensures;
   ended = seen_ended _ _ c.run_serve-end.result.end _ c.run_serve-end.result.posts.items _ _ _ _ _ _ _ _ _ _ _ _ c.run_serve-end.ensures.ended;
-}
+})

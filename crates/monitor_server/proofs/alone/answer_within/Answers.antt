@@ -1,0 +1,5 @@
+use Rattle.monitor_server.proofs.Before.{answered_from}
+use Rattle.monitor_server.proofs.alone.answer_within.Goals as goal
+
+pub returns-clause-ran : goal.returns-clause-ran
+returns-clause-ran g c = answered_from g.F.Files.contents (g.I.Information.forms c.args.information.now) c.args.command c.world.view_is c.sides.view_is c.end_unserved.ensures.world c.end_unserved.ensures.said c.answer-answer.ensures.ran
