@@ -79,13 +79,13 @@ pub record SparesRest {F E : Type 0} (command : AloneCommand) (contents : F → 
 
 -- ---- all words
 
--- all that the top call says of these words, where there is no site, no log and no post
+-- all that the top call promises (`Whole`), of a call that has no site, no log and no posts
 abbrev pub IsDoneAlone : {F E : Type 0} → List (List ℕ) → List Key → (F → Option Contents) → SidesNow F E
     → SidesNow F E → Answer → Type 0
 IsDoneAlone words forms contents before after answer =
     Whole words forms contents (only_sides before) (only_sides after) (only_answer answer)
 
--- the words ask for what needs threads, and nothing was done
+-- the command line asks for `serve` or `drill`, which need threads, and nothing was done
 pub record NeedsThreads {F E : Type 0} (words : List (List ℕ)) (before after : SidesNow F E) : Type 0 where
   pub asks : (asks_serve words ≢ None) ⊎ (asks_drill words ≢ None)
   pub same : after ≡ before

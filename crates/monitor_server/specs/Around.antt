@@ -12,8 +12,8 @@ use Rattle.monitor_server.specs.declared.report.Detail.{Detail}
 
 -- ---- what is around a call
 
--- the files: themselves, and how many readings and replacings failed. What stands in them, where they tell it, a clause
--- asks of themselves (`contents files.it`): a function, as from names to bytes, is no part of a value
+-- the files: themselves, and how many readings and replacings failed. A clause asks them what stands in them
+-- (`contents files.it`), since a function is no part of a value
 pub record FilesNow (F : Type 0) : Type 0 where
   pub it : F
   pub read_faults : ℕ
@@ -49,6 +49,7 @@ pub record SidesNow (F E : Type 0) : Type 0 where
   pub files : FilesNow F
   pub ends : EndsNow E
 
+-- the files and the ends of what is around a call
 abbrev pub sides_of : {F S K E : Type 0} → Around F S K E → SidesNow F E
 sides_of around = record { files = around.files; ends = around.ends }
 
@@ -89,10 +90,11 @@ only_answer answer = record { status = answer.status; detail = answer.detail; jo
 
 -- ---- between two moments
 
--- of the files a reading failed, or a replacing
+-- a reading of a file failed
 abbrev pub ReadRose : {F : Type 0} → FilesNow F → FilesNow F → Type 0
 ReadRose before after = Rose before.read_faults after.read_faults
 
+-- a replacing of a file failed
 abbrev pub ReplaceRose : {F : Type 0} → FilesNow F → FilesNow F → Type 0
 ReplaceRose before after = Rose before.replace_faults after.replace_faults
 

@@ -24,44 +24,44 @@ use Rattle.monitor_server.specs.declared.command.Command.TheVariants as commands
 use Rattle.monitor_server.specs.declared.command.Unread.{Unread}
 use Rattle.monitor_server.specs.declared.command.Unread.TheVariants as unread
 
--- what the words ask the mode `serve` for, where none begins with a hyphen
+-- what the command line asks of `serve`, if no word begins with a hyphen
 abbrev pub asks_serve : List (List ℕ) → Option Source
 asks_serve words = option_and_then serve_command (words_without_hyphen words)
 
--- what the words ask the mode `otp` for, where none begins with a hyphen
+-- what the command line asks of `otp`, if no word begins with a hyphen
 abbrev pub asks_otp : List (List ℕ) → Option OtpParts
 asks_otp words = option_and_then otp_command (words_without_hyphen words)
 
--- the name of the setup's file that the words ask the mode `check` for, where none begins with a hyphen
+-- the setup's file that the command line gives to `check`, if no word begins with a hyphen
 abbrev pub asks_check : List (List ℕ) → Option (List ℕ)
 asks_check words = option_and_then check_command (words_without_hyphen words)
 
--- the child that the words ask to run, and its session, where none begins with a hyphen
+-- which child the command line asks for, and its session, if no word begins with a hyphen
 abbrev pub asks_child : List (List ℕ) → Option ChildParts
 asks_child words = option_and_then child_command (words_without_hyphen words)
 
--- the setup and the log that the words ask the mode `audit` for, where none begins with a hyphen
+-- the setup and the log that the command line gives to `audit`, if no word begins with a hyphen
 abbrev pub asks_audit : List (List ℕ) → Option AuditParts
 asks_audit words = option_and_then audit_command (words_without_hyphen words)
 
--- the setup, the user and the log that the words ask the mode `renew` for, where none begins with a hyphen
+-- the setup, the user and perhaps the log that the command line gives to `renew`, if no word begins with a hyphen
 abbrev pub asks_renew : List (List ℕ) → Option RenewParts
 asks_renew words = option_and_then renew_command (words_without_hyphen words)
 
--- the number whose drill the words ask for, where none begins with a hyphen
+-- the number of the drill that the command line asks for, if no word begins with a hyphen
 abbrev pub asks_drill : List (List ℕ) → Option ℕ
 asks_drill words = option_and_then drill_command (words_without_hyphen words)
 
--- the setup and the durable log that the words ask the mode `recover` for, where none begins with a hyphen
+-- the setup and the durable log that the command line gives to `recover`, if no word begins with a hyphen
 abbrev pub asks_recover : List (List ℕ) → Option RecoverParts
 asks_recover words = option_and_then recover_command (words_without_hyphen words)
 
--- the account that the words ask the mode `enrol` for, where none begins with a hyphen
+-- the account that the command line asks `enrol` for, if no word begins with a hyphen
 abbrev pub asks_enrol : List (List ℕ) → Option EnrolParts
 asks_enrol words = option_and_then enrol_command (words_without_hyphen words)
 
--- the words of a command: those of the modes `serve`, `otp` and `check`, of the children's, and of `audit`, `renew`,
--- `drill`, `recover` and `enrol`
+-- a command line is a command: one of the modes `serve`, `otp`, `check`, `audit`, `renew`, `drill`, `recover`, `enrol`
+-- or a child's
 abbrev pub IsCommand : List (List ℕ) → Type 0
 IsCommand words =
     ((source : Source) × (asks_serve words ≡ Some source))

@@ -26,19 +26,19 @@ pub record UsesEndsAlone {F S K E : Type 0} (before after : Around F S K E) (sai
   pub workers : said.posts ≡ []
   pub plain : said.detail ≡ Nothing
 
--- the statuses of the program
+-- the exit statuses of the program
 abbrev pub statuses : List ℕ
 statuses = 0 ∷ 2 ∷ 3 ∷ 4 ∷ 5 ∷ 6 ∷ 7 ∷ 8 ∷ 9 ∷ 10 ∷ 11 ∷ 12 ∷ 13 ∷ 14 ∷ 15 ∷ []
 
+-- the status is one of the program's
 abbrev pub IsStatus : ℕ → Type 0
 IsStatus status = list_any (λ s. s == status) statuses ≡ true
 
--- of these statuses, those are of `serve` alone: the site could not listen, the log could not be written, an accept
--- failed
+-- the statuses that only `serve` ends with: 6 it couldn't listen, 7 a decision was lost, 10 an accept failed
 abbrev pub is_serve_status : ℕ → Bool
 is_serve_status status = list_any (λ s. s == status) (6 ∷ 7 ∷ 10 ∷ [])
 
--- what a status tells of the words
+-- what the exit status says of the command line: 2 only for no command; 6, 7 and 10 only for `serve`
 pub record StatusHasCause (words : List (List ℕ)) (status : ℕ) : Type 0 where
   pub listed : IsStatus status
   pub no_words : words_without_hyphen words ≡ None → status ≡ 2

@@ -64,7 +64,7 @@ use Rattle.monitor_server.specs.Commands.{asks_audit, asks_check, asks_child, as
 use Rattle.monitor_server.specs.Commands.{asks_recover, asks_renew, asks_serve}
 use Rattle.monitor_server.specs.Headline.{IsUnserved}
 
--- what is missing or refused of what a run serves by and logs to
+-- the detail of an end of `serve`: what is missing or refused, or that the log isn't fresh
 abbrev pub serve_detail : Result (Unit {0}) ServeError → Detail
 serve_detail (Err (serve_errors.Unread service_errors.SetupMissing)) = Missing Setup
 serve_detail (Err (serve_errors.Unread (service_errors.SetupRefused fault))) = SetupBad fault
@@ -73,7 +73,7 @@ serve_detail (Err (serve_errors.Unread (service_errors.WordsRefused fault))) = W
 serve_detail (Err serve_errors.LogNotFresh) = LogNotFresh
 serve_detail _ = Nothing
 
--- the mode `serve` came to an end that is told by status and detail
+-- the mode `serve` ended as it promises (`ServeEnded`), and the status and the detail say how
 pub record ServeRan {F S K E : Type 0} (source : Source) (forms : List Key) (contents : F → Option Contents)
     (before after : Around F S K E) (said : Said) : Type 0 where
   pub end : Result (Unit {0}) ServeError
@@ -85,22 +85,23 @@ pub record ServeRan {F S K E : Type 0} (source : Source) (forms : List Key) (con
       (ReadRose before.files after.files) (ReplaceRose before.files after.files)
       (ListenRose before.site after.site) (LogRose before.log after.log)
 
--- where the words are those of the mode `serve`, it ran
+-- `serve` ran as it promises (`ServeRan`), if the command line asks for it
 pub record ServeMode {F S K E : Type 0} (words : List (List ℕ)) (forms : List Key) (contents : F → Option Contents)
     (before after : Around F S K E) (said : Said) : Type 0 where
   pub ran : (source : Source) → asks_serve words ≡ Some source → ServeRan source forms contents before after said
 
--- where a fault of the mode `otp` lies
+-- the detail of a fault of `otp`: a word list that is missing or refused
 abbrev pub fault_detail : OtpFault → Detail
 fault_detail faults.ListMissing = Missing Words
 fault_detail (faults.ListRefused fault) = WordsBad fault
 fault_detail _ = Nothing
 
+-- the detail of an end of `otp`: that of its fault, if it had one
 abbrev pub detail_of : Result (Unit {0}) OtpFault → Detail
 detail_of (Ok _) = Nothing
 detail_of (Err fault) = fault_detail fault
 
--- the mode `otp` came to an outcome that the files and the ends account for, and that is told by status and detail
+-- the mode `otp` came to an outcome that fits what the files and the ends report, and status and detail say which
 pub record PasswordRan {F E : Type 0} (parts : OtpParts) (contents : F → Option Contents)
     (before after : SidesNow F E) (answer : Answer) : Type 0 where
   pub outcome : Result (Unit {0}) OtpFault
@@ -111,13 +112,13 @@ pub record PasswordRan {F E : Type 0} (parts : OtpParts) (contents : F → Optio
   pub exact : IsExact parts (contents after.files.it) before.ends.link after.ends.link
       (ReadRose before.files after.files) (EndsRose before.ends after.ends) outcome
 
--- where the words are those of the mode `otp`, it ran, unless memory was wanted
+-- `otp` ran as it promises, or ended with 9 (out of memory), if the command line asks for it
 pub record PasswordMode {F S K E : Type 0} (words : List (List ℕ)) (contents : F → Option Contents)
     (before after : Around F S K E) (said : Said) : Type 0 where
   pub ran : (parts : OtpParts) → asks_otp words ≡ Some parts
       → (said.status ≡ 9) ⊎ PasswordRan parts contents (sides_of before) (sides_of after) (answer_in said)
 
--- what is missing or refused of a setup, and where it is right, that its requests are few
+-- the detail of what `check` found: what is missing or refused, or that a right setup allows few requests
 abbrev pub finding_detail : Finding → Detail
 finding_detail (findings.Right accounts workers requests) =
     cond (nat_lt requests FEW_REQUESTS) (FewRequests requests) Nothing
@@ -126,11 +127,12 @@ finding_detail (findings.SetupRefused fault) = SetupBad fault
 finding_detail findings.WordsMissing = Missing Words
 finding_detail (findings.WordsRefused fault) = WordsBad fault
 
+-- the detail of an end of `check`: that of what it found; none if it failed
 abbrev pub checked_detail : Result Finding CheckFault → Detail
 checked_detail (Ok finding) = finding_detail finding
 checked_detail (Err _) = Nothing
 
--- the mode `check` came to an outcome that the files and the ends account for, and that is told by status and detail
+-- the mode `check` came to an outcome that fits what the files and the ends report, and status and detail say which
 pub record CheckRan {F E : Type 0} (forms : List Key) (setup : List ℕ) (contents : F → Option Contents)
     (before after : SidesNow F E) (answer : Answer) : Type 0 where
   pub outcome : Result Finding CheckFault
@@ -139,25 +141,25 @@ pub record CheckRan {F E : Type 0} (forms : List Key) (setup : List ℕ) (conten
   pub cause : checks.IsOutcome forms setup (contents after.files.it) before.ends.link after.ends.link
       (ReadRose before.files after.files) (EndsRose before.ends after.ends) outcome
 
--- where the words are those of the mode `check`, it ran, unless memory was wanted
+-- `check` ran as it promises, or ended with 9 (out of memory), if the command line asks for it
 pub record CheckMode {F S K E : Type 0} (words : List (List ℕ)) (forms : List Key) (contents : F → Option Contents)
     (before after : Around F S K E) (said : Said) : Type 0 where
   pub ran : (setup : List ℕ) → asks_check words ≡ Some setup
       → (said.status ≡ 9) ⊎ CheckRan forms setup contents (sides_of before) (sides_of after) (answer_in said)
 
--- the mode of a child came to an outcome that the ends account for, and that is told by the status
+-- a child's mode came to an outcome that fits what the ends report, and the status says which
 pub record ChildRan {E : Type 0} (parts : ChildParts) (before after : EndsNow E) (status : ℕ) : Type 0 where
   pub outcome : ChildRun
   pub status_is : status ≡ children.run_status outcome
   pub cause : children.IsOutcome parts before.link after.link (EndsRose before after) outcome
 
--- where the words are those of a child's mode, it ran, unless memory was wanted
+-- a child's mode ran as it promises, or ended with 9 (out of memory), if the command line asks for it
 pub record ChildMode {F S K E : Type 0} (words : List (List ℕ)) (before after : Around F S K E) (said : Said)
     : Type 0 where
   pub ran : (parts : ChildParts) → asks_child words ≡ Some parts
       → (said.status ≡ 9) ⊎ ChildRan parts before.ends after.ends said.status
 
--- what is missing or refused of a setup and a log
+-- the detail of an end of `audit`: the first fault of the log, or what is missing or refused
 abbrev pub audit_detail : Result Audit AuditError → Detail
 audit_detail (Ok (answers.No place why)) = AuditNo place why
 audit_detail (Err audit_errors.SetupMissing) = Missing Setup
@@ -165,7 +167,7 @@ audit_detail (Err (audit_errors.SetupRefused fault)) = SetupBad fault
 audit_detail (Err audit_errors.LogMissing) = Missing Log
 audit_detail _ = Nothing
 
--- the mode `audit` came to an outcome that the files and the ends account for, and that is told by status and detail
+-- the mode `audit` came to an outcome that fits what the files and the ends report, and status and detail say which
 pub record AuditRan {F E : Type 0} (parts : AuditParts) (contents : F → Option Contents)
     (before after : SidesNow F E) (answer : Answer) : Type 0 where
   pub outcome : Result Audit AuditError
@@ -174,13 +176,14 @@ pub record AuditRan {F E : Type 0} (parts : AuditParts) (contents : F → Option
   pub cause : audits.IsOutcome parts (contents after.files.it) before.ends.link after.ends.link
       (ReadRose before.files after.files) (EndsRose before.ends after.ends) outcome
 
--- where the words are those of the mode `audit`, it ran, unless memory was wanted
+-- `audit` ran as it promises, or ended with 9 (out of memory), if the command line asks for it
 pub record AuditMode {F S K E : Type 0} (words : List (List ℕ)) (contents : F → Option Contents)
     (before after : Around F S K E) (said : Said) : Type 0 where
   pub ran : (parts : AuditParts) → asks_audit words ≡ Some parts
       → (said.status ≡ 9) ⊎ AuditRan parts contents (sides_of before) (sides_of after) (answer_in said)
 
--- what is missing or refused of a setup, a word list, a log and a response
+-- the detail of an end of `renew`: what is missing or refused, that the log isn't fresh, or why the response was
+-- refused
 abbrev pub renew_detail : Result Renewed RenewError → Detail
 renew_detail (Err renew_errors.SetupMissing) = Missing Setup
 renew_detail (Err (renew_errors.SetupRefused fault)) = SetupBad fault
@@ -190,8 +193,7 @@ renew_detail (Err renew_errors.LogNotFresh) = LogNotFresh
 renew_detail (Err (renew_errors.NoRenewal (renewal_faults.Refused fault))) = RenewBad fault
 renew_detail _ = Nothing
 
--- the mode `renew` came to an outcome that the files, before and after, and the ends account for, and that is told by
--- status and detail
+-- the mode `renew` came to an outcome that fits what the files and the ends report, and status and detail say which
 pub record RenewRan {F E : Type 0} (parts : RenewParts) (contents : F → Option Contents)
     (before after : SidesNow F E) (answer : Answer) : Type 0 where
   pub outcome : Result Renewed RenewError
@@ -205,22 +207,21 @@ pub record RenewRan {F E : Type 0} (parts : RenewParts) (contents : F → Option
   pub unwritten : answer.status ≢ 0 → answer.status ≢ 8 → answer.status ≢ 11
       → FilesGo SameFiles contents before.files after.files
 
--- where the words are those of the mode `renew`, it ran, unless memory was wanted for them
+-- `renew` ran as it promises, or ended with 9 (out of memory) and sent nothing, if the command line asks for it
 pub record RenewMode {F S K E : Type 0} (words : List (List ℕ)) (contents : F → Option Contents)
     (before after : Around F S K E) (said : Said) : Type 0 where
   pub ran : (parts : RenewParts) → asks_renew words ≡ Some parts
       → (said.status ≡ 9) × Goes OnlyReceived before.ends.link after.ends.link
       ⊎ RenewRan parts contents (sides_of before) (sides_of after) (answer_in said)
 
--- what is missing, refused or bad of a setup and a durable log
+-- the detail of an end of `recover`: what is missing or refused, or which record of the log is bad
 abbrev pub recover_detail : Result Recovery RecoveryError → Detail
 recover_detail (Err recovery_errors.SetupMissing) = Missing Setup
 recover_detail (Err (recovery_errors.SetupRefused fault)) = SetupBad fault
 recover_detail (Err (recovery_errors.LogRefused number)) = LogBad number
 recover_detail _ = Nothing
 
--- the mode `recover` came to an outcome that the files, before and after, and the ends account for, and that is told by
--- status and detail
+-- the mode `recover` came to an outcome that fits what the files and the ends report, and status and detail say which
 pub record RecoverRan {F E : Type 0} (parts : RecoverParts) (contents : F → Option Contents)
     (before after : SidesNow F E) (answer : Answer) : Type 0 where
   pub outcome : Result Recovery RecoveryError
@@ -235,45 +236,45 @@ pub record RecoverRan {F E : Type 0} (parts : RecoverParts) (contents : F → Op
   pub unwritten : answer.status ≢ 0 → answer.status ≢ 8 → answer.status ≢ 11
       → FilesGo SameFiles contents before.files after.files
 
--- where the words are those of the mode `recover`, it ran, unless memory was wanted for them
+-- `recover` ran as it promises, or ended with 9 (out of memory), if the command line asks for it
 pub record RecoverMode {F S K E : Type 0} (words : List (List ℕ)) (contents : F → Option Contents)
     (before after : Around F S K E) (said : Said) : Type 0 where
   pub ran : (parts : RecoverParts) → asks_recover words ≡ Some parts
       → (said.status ≡ 9) ⊎ RecoverRan parts contents (sides_of before) (sides_of after) (answer_in said)
 
--- the mode `enrol` came to an outcome that the ends account for, and that is told by the status
+-- the mode `enrol` came to an outcome that fits what the ends report, and the status says which
 pub record EnrolRan {E : Type 0} (parts : EnrolParts) (before after : EndsNow E) (status : ℕ) : Type 0 where
   pub outcome : Result (Unit {0}) EnrolFault
   pub status_is : status ≡ enrol_faults.status_of outcome
   pub cause : enrols.IsOutcome parts before.link after.link (EndsRose before after) outcome
   pub exact : enrols_exact.IsExact before.link after.link (EndsRose before after) outcome
 
--- where the words are those of the mode `enrol`, it ran, unless memory was wanted for them
+-- `enrol` ran as it promises, or ended with 9 (out of memory) and sent and received nothing, if the command line asks
+-- for it
 pub record EnrolMode {F S K E : Type 0} (words : List (List ℕ)) (before after : Around F S K E) (said : Said)
     : Type 0 where
   pub ran : (parts : EnrolParts) → asks_enrol words ≡ Some parts
       → (said.status ≡ 9) × (after.ends.link ≡ before.ends.link) ⊎ EnrolRan parts before.ends after.ends said.status
 
--- the journal that is given of a drill
+-- the journal that a drill gives; empty if it failed
 abbrev pub drilled_journal : Result (Vec Event Global) DrillError → List Event
 drilled_journal (Ok journal) = journal.items
 drilled_journal (Err _) = []
 
--- the mode `drill` came to an outcome that the ends account for, and that is told by the status; its journal is given
+-- the mode `drill` came to an outcome that fits what the ends report; the status says which, and its journal is given
 pub record DrillRan {E : Type 0} (number : ℕ) (before after : EndsNow E) (said : Said) : Type 0 where
   pub outcome : Result (Vec Event Global) DrillError
   pub status_is : said.status ≡ drill_errors.status_of outcome
   pub journal_is : said.journal ≡ drilled_journal outcome
   pub cause : drills.IsOutcome number before.link after.link (EndsRose before after) outcome
 
--- where the words are those of the mode `drill`, it ran
+-- `drill` ran as it promises, if the command line asks for it
 pub record DrillMode {F S K E : Type 0} (words : List (List ℕ)) (before after : Around F S K E) (said : Said)
     : Type 0 where
   pub ran : (number : ℕ) → asks_drill words ≡ Some number → DrillRan number before.ends after.ends said
 
--- no mode but `renew`, `recover` and `serve` changes a file; `renew` at most the setup's that its words name,
--- `recover` at most the two that its words name, and both with other statuses than 0, 8 and 11 none; what `serve`
--- changes its own promises tell
+-- only `serve`, `renew` and `recover` change files: `renew` only the setup's, `recover` the setup's and the log's,
+-- these two only with status 0, 8 or 11
 pub record ChangesFiles {F S K E : Type 0} (words : List (List ℕ)) (contents : F → Option Contents)
     (before after : Around F S K E) (said : Said) : Type 0 where
   pub same : asks_serve words ≡ None → asks_renew words ≡ None → asks_recover words ≡ None
@@ -285,12 +286,8 @@ pub record ChangesFiles {F S K E : Type 0} (words : List (List ℕ)) (contents :
   pub unwritten : asks_serve words ≡ None → said.status ≢ 0 → said.status ≢ 8 → said.status ≢ 11
       → FilesGo SameFiles contents before.files after.files
 
--- what a mode doesn't use it leaves as it was: all but `serve`, `otp`, `check`, `audit`, `renew` and `recover` the
--- files; all but `otp`, `check`, `audit`, `renew`, `recover`, `drill`, `enrol` and the children's the ends; all but
--- `serve` the site, the log and the posts; and all but `serve` and `drill` the journal. `serve` leaves the files where
--- it serves by the plain setup, and `otp` where the words name no list. With 3 nothing was received or sent, with 9
--- only by `renew` and `enrol`, and with 4, 5 and 13 at most by `check`. The detail tells of 4, 5, 13, 14 and 15 alone,
--- and of 0 by `check`
+-- what a mode doesn't use it leaves as it was: files, site, ends, log, posts and journal; only some statuses come with
+-- a detail
 pub record LeavesRest {F S K E : Type 0} (words : List (List ℕ)) (before after : Around F S K E) (said : Said)
     : Type 0 where
   pub files : asks_serve words ≡ None → asks_otp words ≡ None → asks_check words ≡ None → asks_audit words ≡ None

@@ -7,6 +7,7 @@ use Rattle.monitor_server.specs.Headline.{StatusHasCause}
 use Rattle.monitor_server.specs.Modes.{AuditMode, ChangesFiles, CheckMode, ChildMode, DrillMode, EnrolMode, LeavesRest}
 use Rattle.monitor_server.specs.Modes.{PasswordMode, RecoverMode, RenewMode, ServeMode}
 
+-- all that the top call promises of a command line, a part a mode
 pub record Whole {F S K E : Type 0} (words : List (List ℕ)) (forms : List Key) (contents : F → Option Contents)
     (before after : Around F S K E) (said : Said) : Type 0 where
   pub causes : StatusHasCause words said.status
