@@ -275,7 +275,7 @@ uncommanded words status no_command is = record {
   unserved = λ _. ap is_serve_status is;
 }
 
--- memory was wanted for the words, of which none begins with a hyphen
+-- out of memory for words of which none begins with a hyphen
 pub unremembered : (words : List (List ℕ)) (status : ℕ) → words_without_hyphen words ≢ None → status ≡ 9 → StatusHasCause words status
 unremembered words status spoken is = record {
   listed = subst IsStatus (sym is) refl;

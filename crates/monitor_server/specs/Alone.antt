@@ -62,7 +62,7 @@ abbrev pub says_findings : AloneCommand → Bool
 says_findings (alone.Check setup) = true
 says_findings _ = false
 
--- a command whose memory may be wanted after its input
+-- a command that may be out of memory after its input
 abbrev pub takes_input_first : AloneCommand → Bool
 takes_input_first (alone.Renew command) = true
 takes_input_first (alone.Enrol command) = true

@@ -104,7 +104,7 @@ AsksAlone words (alone.Renew command) = asks_renew words ≡ Some (renewals.comm
 AsksAlone words (alone.Recover command) = asks_recover words ≡ Some (recoveries.command_parts command)
 AsksAlone words (alone.Enrol command) = asks_enrol words ≡ Some (enrolments.command_parts command)
 
--- what the words of a command line are read as; want of memory comes only where none begins with a hyphen
+-- what the words of a command line are read as; out of memory only where none begins with a hyphen
 abbrev pub IsReading : List (List ℕ) → Result Command Unread → Type 0
 IsReading words (Ok (commands.Serve command)) = asks_serve words ≡ Some (source_of command)
 IsReading words (Ok (commands.Drill number)) = asks_drill words ≡ Some number

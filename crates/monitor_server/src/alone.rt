@@ -19,7 +19,7 @@ use std::alloc::Global;
 /// The words are no command.
 const NO_COMMAND: u8 = 2;
 
-/// Memory was wanted.
+/// Out of memory.
 const NO_MEMORY: u8 = 9;
 
 impl Unread {

@@ -81,7 +81,7 @@ pub struct Report<P: Post> {
     /// The program's exit status: 0 where nothing below applies, 2 where the words are no command,
     /// 3 where a file could not be read, 4 where one isn't there, 5 where a setup or a word list is
     /// refused, 6 where the site could not listen, 7 where the log could not be written, 8 where the
-    /// setup could not be replaced, 9 where memory was wanted, 10 where a worker could not wait for a
+    /// setup could not be replaced, 9 if out of memory, 10 where a worker could not wait for a
     /// connection, 11 where the ends failed, 12 where the pass phrase is refused, a response isn't one
     /// or what a child was sent can't be read, 13 where a durable log isn't fresh or has a fault, 14 where
     /// a log is not legal, 15 where a response renews nothing.

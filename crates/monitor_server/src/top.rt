@@ -65,7 +65,7 @@ fn run_command<
 ///   so; `renew SETUP NAME LOG` does so where the file LOG is a durable log without a record. No monitor
 ///   may run with that file meanwhile;
 /// - `enrol NAME UID ALGO N SEED` takes the pass phrase from the first line that `ends` gives, and sends to
-///   `ends` the table of an account with its password, to stand behind a setup;
+///   `ends` the table of an account with its password, to be put after a setup;
 /// - `drill N` runs four workers in memory through sessions that are made of that number, from 1 to 64,
 ///   by the same run as `serve`, gives their journal and sends its counts to `ends`.
 ///

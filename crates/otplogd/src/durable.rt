@@ -17,7 +17,7 @@ pub(crate) type RunLog = RealLog<LogStderr, HostRuntime>;
 /// Why a run has no log.
 #[derive(Clone, Copy)]
 pub(crate) enum LogError {
-    /// Memory was wanted.
+    /// Out of memory.
     OutOfMemory,
     /// The durable log is in use: by a run, a recovery or a renewal.
     Taken,

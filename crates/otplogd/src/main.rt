@@ -43,7 +43,7 @@ const NO_SOCKET: u8 = 6;
 /// A line could not be written to the log.
 const NO_LOG: u8 = 7;
 
-/// Memory was wanted before the run began.
+/// Out of memory before the run began.
 const NO_MEMORY: u8 = 9;
 
 /// A worker could not wait for a connection.
@@ -70,7 +70,7 @@ fn words_given(rt: &HostRuntime) -> Result<Vec<Word>, u8> {
     }
 }
 
-/// The words that are done: those of the command line, with a seed where they want one, or the status
+/// The words that are done: those of the command line, with a seed where they need one, or the status
 /// where they can't be had.
 fn words_done(rt: &HostRuntime) -> Result<Vec<Word>, u8> {
     let mut words = words_given(rt)?;

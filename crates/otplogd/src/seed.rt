@@ -14,7 +14,7 @@ const SEED_BYTES: usize = 4;
 /// Why there is no seed.
 #[derive(Clone, Copy)]
 pub(crate) enum SeedError {
-    /// Memory was wanted.
+    /// Out of memory.
     OutOfMemory,
     /// The random bytes could not be read.
     ReadFailed,
@@ -60,7 +60,7 @@ fn new_seed(rt: &HostRuntime, alloc: Global) -> Result<Word, SeedError> {
     Ok(Word::of(alloc, digits.as_str().as_bytes())?)
 }
 
-/// Puts a new seed behind the words `enrol NAME UID ALGO N`; all other words stay as they are.
+/// Puts a new seed after the words `enrol NAME UID ALGO N`; all other words stay as they are.
 ///
 /// # Errors
 ///
