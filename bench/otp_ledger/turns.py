@@ -6,14 +6,15 @@ import sys
 sys.path.insert(0, os.path.join(os.path.dirname(os.path.abspath(__file__)), "..", "common"))
 from turns import instructions, lines_of, spread
 
-# What is called, the passwords that were accepted before, the rounds and the calls of each.
+# What is called, the passwords that were accepted before, the rounds and the calls of each. Of 1,024 calls of `spend`
+# one merges the two arrays of accepted passwords.
 CASES = [
     ("reply", 1, 21, 512),
     ("reply", 1_000, 21, 512),
     ("reply", 90_000, 7, 512),
-    ("spend", 1, 21, 64),
-    ("spend", 1_000, 21, 64),
-    ("spend", 90_000, 7, 32),
+    ("spend", 1, 21, 1_024),
+    ("spend", 1_000, 21, 1_024),
+    ("spend", 90_000, 7, 1_024),
     ("hash", 1, 21, 512),
 ]
 
@@ -26,8 +27,9 @@ def run_once(program, case):
 
 def call_cost(program, what, accepted):
     """The instructions of a call; the fewer are subtracted, so that what comes before the calls doesn't count."""
-    few, more = (instructions(program, what, accepted, 1, calls) for calls in (64, 192))
-    return None if few is None else (more - few) // 128
+    counts = (1_024, 3_072) if what == "spend" else (64, 192)
+    few, more = (instructions(program, what, accepted, 1, calls) for calls in counts)
+    return None if few is None else (more - few) // (counts[1] - counts[0])
 
 
 def measure(programs, runs, case):
