@@ -26,14 +26,6 @@ use std::rt::Env;
 use std::{env, io};
 use usage::{answer_help, mistake_text};
 
-/// A run of the program that is over.
-type Over = Ended<
-    RealFiles<HostRuntime>,
-    RealSite<HostRuntime>,
-    RunLog,
-    RealEnds<io::Stdin, io::Stdout>,
->;
-
 /// The words are no command.
 const NO_COMMAND: u8 = 2;
 
@@ -122,26 +114,32 @@ fn site_of(rt: HostRuntime, alloc: Global, words: &[Word]) -> RealSite<HostRunti
 }
 
 /// What a run's status is about, as far as that can be told.
-fn complaint_of<'a>(over: &'a Over, words: &'a [Word]) -> Complaint<'a> {
-    let Ended { said, world } = over;
+fn complaint_of<'a>(
+    answer: Answer,
+    posts: &[RealPost<HostRuntime>],
+    words: &'a [Word],
+    files: &'a RealFiles<HostRuntime>,
+    site: &'a RealSite<HostRuntime>,
+) -> Complaint<'a> {
+    let Answer { status, detail } = answer;
     let plain = Complaint {
-        status: said.status,
-        detail: said.detail,
+        status,
+        detail,
         path: None,
         cause: None,
     };
-    match (said.status, words) {
-        (NO_SOCKET, _) => of_listening(plain, world.site.failure()),
+    match (status, words) {
+        (NO_SOCKET, _) => of_listening(plain, site.failure()),
         (NO_LOG, [_, _, log]) => Complaint {
             path: Some(log.as_str()),
             ..plain
         },
         (NO_WAIT, _) => Complaint {
-            cause: accept_error(said.posts.as_slice()),
+            cause: accept_error(posts),
             ..plain
         },
         (NO_LOG | NO_MEMORY, _) => plain,
-        _ => of_files(plain, &world.files),
+        _ => of_files(plain, files),
     }
 }
 
@@ -176,24 +174,32 @@ fn of_listening<'a>(plain: Complaint<'a>, failure: Option<&'a ListenFailure>) ->
     }
 }
 
+/// How often the outside of a run failed, if somebody was served.
+fn faults_of(posts: &[RealPost<HostRuntime>], log: &RunLog) -> Option<RunFaults> {
+    if posts.is_empty() {
+        return None;
+    }
+    Some(RunFaults::of(posts, log.dropped()))
+}
+
 /// Says what came of a call that is at its end, and gives the exit status.
-fn conclude(rt: HostRuntime, alloc: Global, over: &Over, words: &[Word]) -> ExitCode {
-    let Ended { said, world } = over;
-    if said.status == NO_COMMAND {
-        return refuse(&rt, alloc, words);
+fn conclude(
+    rt: HostRuntime,
+    words: &[Word],
+    complaint: Complaint<'_>,
+    faults: Option<RunFaults>,
+    run: Option<RunCounts>,
+) -> ExitCode {
+    let (alloc, status) = (rt.alloc(), complaint.status);
+    match faults {
+        _ if status == NO_COMMAND => return refuse(&rt, alloc, words),
+        Some(faults) => {
+            let _ = say_end(rt, alloc, complaint, faults, run);
+        }
+        None if status != 0 => say(&rt, alloc, complaint),
+        None => {}
     }
-    let complaint = complaint_of(over, words);
-    if !said.posts.is_empty() {
-        let faults = RunFaults::of(said.posts.as_slice(), world.log.dropped());
-        let run = match world.log.is_durable() {
-            true => Some(RunCounts::of(said.journal.as_slice())),
-            false => None,
-        };
-        let _ = say_end(rt, alloc, complaint, faults, run);
-    } else if said.status != 0 {
-        say(&rt, alloc, complaint);
-    }
-    ExitCode::from(said.status)
+    ExitCode::from(status)
 }
 
 /// Says what is wrong with words that are no command, and gives the exit status.
@@ -292,6 +298,16 @@ fn main(rt: HostRuntime) -> ExitCode {
         log,
         ends: RealEnds::new(rt.stdin(), rt.stdout()),
     };
-    let over = otplogd(&rt, alloc, &words, world, &information);
-    conclude(rt, alloc, &over, &words)
+    let Ended { said, world } = otplogd(&rt, alloc, &words, world, &information);
+    let answer = Answer {
+        status: said.status,
+        detail: said.detail,
+    };
+    let posts = said.posts.as_slice();
+    let complaint = complaint_of(answer, posts, &words, &world.files, &world.site);
+    let run = match world.log.is_durable() {
+        true => Some(RunCounts::of(said.journal.as_slice())),
+        false => None,
+    };
+    conclude(rt, &words, complaint, faults_of(posts, &world.log), run)
 }
