@@ -129,9 +129,9 @@ static const struct { int kind; struct rlimit most; } limits[] = {
 /* The system calls that load and end a program, that read and write what is open, and that get memory. Below: their
  * bits among those of the numbers from 32 w on, and lines that allow these. X has a number's low bits, A the others. */
 #define EVERYWHERE(DO, w) \
-	DO(write, w) DO(close, w) DO(exit_group, w) DO(exit, w) DO(execve, w) DO(mmap, w) DO(munmap, w) DO(mprotect, w) \
-	DO(mremap, w) DO(madvise, w) DO(brk, w) DO(pread64, w) DO(readv, w) DO(writev, w) DO(lseek, w) DO(fstat, w) \
-	DO(newfstatat, w) DO(statx, w) DO(faccessat, w) DO(readlinkat, w) DO(futex, w) DO(rseq, w) \
+	DO(read, w) DO(write, w) DO(close, w) DO(exit_group, w) DO(exit, w) DO(execve, w) DO(mmap, w) DO(munmap, w) \
+	DO(mprotect, w) DO(mremap, w) DO(madvise, w) DO(brk, w) DO(pread64, w) DO(readv, w) DO(writev, w) DO(lseek, w) \
+	DO(fstat, w) DO(newfstatat, w) DO(statx, w) DO(faccessat, w) DO(readlinkat, w) DO(futex, w) DO(rseq, w) \
 	DO(set_tid_address, w) DO(set_robust_list, w) DO(getrandom, w) DO(rt_sigaction, w) DO(rt_sigprocmask, w) \
 	DO(rt_sigreturn, w) DO(sigaltstack, w) DO(restart_syscall, w) DO(getpid, w) DO(gettid, w) DO(getuid, w) \
 	DO(geteuid, w) DO(getgid, w) DO(getegid, w) DO(clock_gettime, w) DO(nanosleep, w) DO(clock_nanosleep, w) \
@@ -148,9 +148,9 @@ __asm__(".globl _start\n_start: mov x0, sp\n\tbl launch");
 #define LOAD(what) BPF_STMT(BPF_LD | BPF_W | BPF_ABS, offsetof(struct seccomp_data, what))
 #define BIT(name, w) | (SYS_##name / 32 == (w) ? 1U << SYS_##name % 32 : 0)
 #define WORD(w) \
-	BPF_JUMP(BPF_JMP | BPF_JEQ | BPF_K, w, 0, 4), BPF_STMT(BPF_LD | BPF_IMM, 0 ALLOWED(BIT, w)), \
+	BPF_JUMP(BPF_JMP | BPF_JEQ | BPF_K, w, 0, 5), BPF_STMT(BPF_LD | BPF_IMM, 0 ALLOWED(BIT, w)), \
 	BPF_STMT(BPF_ALU | BPF_RSH | BPF_X, 0), BPF_JUMP(BPF_JMP | BPF_JSET | BPF_K, 1, 0, 1), \
-	BPF_STMT(BPF_RET | BPF_K, SECCOMP_RET_ALLOW)
+	BPF_STMT(BPF_RET | BPF_K, SECCOMP_RET_ALLOW), BPF_STMT(BPF_RET | BPF_K, SECCOMP_RET_KILL_PROCESS)
 /* Allows a call where an argument has none of these bits, and makes it fail with EACCES else. */
 #define UNLESS(name, argument, bits) \
 	BPF_JUMP(BPF_JMP | BPF_JEQ | BPF_K, SYS_##name, 0, 4), \
