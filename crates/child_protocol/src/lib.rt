@@ -1,7 +1,7 @@
 //! The two child programs that parse the client's lines without any privilege: the child before the
 //! login and the user's child. What each asks of the monitor is read off the whole list of replies
 //! that it had (`says`), and each request has a cell in the policy's phase table. Believe `specs/Says`
-//! with what it names, `specs/Cores`, `specs/Runs` and `specs/Phases`; the program's modes stand above.
+//! with what it names and `specs/Runs`; the program's modes stand above.
 #![tactic(auto)]
 
 mod child;

@@ -1,5 +1,5 @@
-//! A log whose records are on the disk before their append is answered. Believe `specs/Disk.antt`,
-//! `specs/Records.antt` and `specs/Journal.antt`; recovery stands above.
+//! A log whose records are on the disk before their append is answered. Believe
+//! `specs/Records.antt` and `specs/Journal.antt`; what a crash may leave is read by `specs/Disk.antt`.
 #![tactic(auto)]
 
 mod disk;

@@ -1,6 +1,6 @@
 //! Stored functions: the information that a user may ask for by a number. Each function is kept
 //! beside the fact that it says its form's text of every card, so it is called without a check.
-//! Believe `specs/`; the session loop stands above.
+//! Believe `specs/Said` and `specs/Texts`; the session loop stands above.
 #![tactic(auto)]
 
 mod card;

@@ -1,5 +1,5 @@
-//! Recovery: the ledger that a stopped run had come to, from the records of its log. Believe `specs/`;
-//! the mode `recover` stands above.
+//! Recovery: the ledger that a stopped run had come to, from the records of its log. Believe
+//! `specs/` but for `Spending.antt`, `Images.antt` and `Reads.antt`; the mode `recover` stands above.
 #![tactic(auto)]
 
 mod answer;

@@ -1,5 +1,5 @@
-//! A durable log of lines, each of which is one record. Believe `specs/Kept.antt`; `recovery_law` says
-//! what it means for a run, and the program stands above.
+//! A durable log of lines, each of which is one record. Read its calls by `specs/Kept.antt`;
+//! `recovery_law` says what it means for a run, and the program stands above.
 #![tactic(auto)]
 
 mod line;

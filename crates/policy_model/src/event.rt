@@ -15,7 +15,8 @@ pub enum Why {
     ChildEnded,
     /// The child's bytes ended within a frame.
     Truncated,
-    /// A header's length is below 16 or above 16,384.
+    /// A header's length is below 16 or above that of the longest frame: the length, or 65,535 where it
+    /// is greater.
     BadFrame { len: u16 },
     /// An ask was denied by this rule of 1 to 7.
     Violation { rule: u8 },
@@ -54,7 +55,7 @@ pub enum Ask {
         offset: u64,
         max: u16,
     },
-    /// `len` is the number of bytes to write, 1 to 16,000.
+    /// `len` is the number of bytes to write, 1 to 16,000 or in wide frames 60,000.
     WriteAt {
         handle: u32,
         offset: u64,

@@ -1,6 +1,6 @@
 //! That a user can get in, by example: a login in memory, and for each premise of the law
-//! `users_are_welcomed` a function that decides it by the journal and by what the posts tell. Believe
-//! `specs/Shown.antt`. The logins themselves are tests, which stand apart so that no crate waits for them.
+//! `users_are_welcomed` a function that decides it by the journal and by what the posts tell. They
+//! are read by `specs/Shown.antt`. The logins themselves are tests, which stand apart so that no crate waits for them.
 #![tactic(auto)]
 
 mod client;
