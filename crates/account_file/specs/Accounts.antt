@@ -28,7 +28,9 @@ grant_keys = codes "name" ∷ codes "mode" ∷ []
 
 -- the keys that an account may have
 abbrev pub account_keys : List (List ℕ)
-account_keys = codes "name" ∷ codes "uid" ∷ codes "algorithm" ∷ codes "seed" ∷ codes "sequence" ∷ codes "password" ∷ codes "enabled" ∷ codes "grants" ∷ []
+account_keys =
+    codes "name" ∷ codes "uid" ∷ codes "algorithm" ∷ codes "seed" ∷ codes "sequence" ∷ codes "password"
+    ∷ codes "enabled" ∷ codes "grants" ∷ []
 
 -- a value that was read, if no earlier one is the same
 abbrev pub untaken : {A : Type 0} → Spot → (A → Bool) → Result A SetupFault → Result A SetupFault
@@ -41,7 +43,8 @@ abbrev pub read_grant : ℕ → List GrantEntry → Data → Result GrantEntry S
 read_grant account others value = do
   entries ← demand_at (spot_in account keys.Grants) rules.Kind (as_table value)
   known ← demand_at (spot_in account keys.Other) rules.Unknown (passed (are_known grant_keys) entries)
-  name ← untaken (spot_in account keys.GrantName) (λ name. list_any (λ other. bytes_eq other.name name) others) (read_spelled (spot_in account keys.GrantName) (passed is_label) (get_member (codes "name") known))
+  name ← untaken (spot_in account keys.GrantName) (λ name. list_any (λ other. bytes_eq other.name name) others)
+      (read_spelled (spot_in account keys.GrantName) (passed is_label) (get_member (codes "name") known))
   mode ← read_number (spot_in account keys.GrantMode) 1 3 (get_member (codes "mode") known)
   Ok (record { name = name; mode = mode })
 
@@ -49,15 +52,19 @@ read_grant account others value = do
 -- otherwise
 abbrev pub read_account_keys : ℕ → List (List ℕ) → List ℕ → Members → Result AccountEntry SetupFault
 read_account_keys account names uids entries = do
-  name ← untaken (spot_in account keys.Name) (λ name. list_any (λ other. bytes_eq other name) names) (read_spelled (spot_in account keys.Name) (passed is_name) (get_member (codes "name") entries))
-  uid ← untaken (spot_in account keys.Uid) (λ uid. list_any (λ other. other == uid) uids) (read_number (spot_in account keys.Uid) 1 4294967294 (get_member (codes "uid") entries))
+  name ← untaken (spot_in account keys.Name) (λ name. list_any (λ other. bytes_eq other name) names)
+      (read_spelled (spot_in account keys.Name) (passed is_name) (get_member (codes "name") entries))
+  uid ← untaken (spot_in account keys.Uid) (λ uid. list_any (λ other. other == uid) uids)
+      (read_number (spot_in account keys.Uid) 1 4294967294 (get_member (codes "uid") entries))
   algo ← read_spelled (spot_in account keys.Algorithm) algo_named (get_member (codes "algorithm") entries)
   seed ← read_spelled (spot_in account keys.Seed) seed_spelled (get_member (codes "seed") entries)
   sequence ← read_number (spot_in account keys.Sequence) 0 9999 (get_member (codes "sequence") entries)
   password ← read_spelled (spot_in account keys.Password) password_spelled (get_member (codes "password") entries)
-  enabled ← option_map_or (λ value. demand_at (spot_in account keys.Enabled) rules.Kind (as_bool value)) (get_member (codes "enabled") entries) (Ok true)
+  enabled ← option_map_or (λ value. demand_at (spot_in account keys.Enabled) rules.Kind (as_bool value))
+      (get_member (codes "enabled") entries) (Ok true)
   grants ← read_each (spot_in account keys.Grants) 64 (read_grant account) (get_member (codes "grants") entries)
-  Ok (record { name = name; uid = uid; algo = algo; seed = seed; sequence = sequence; password = password; enabled = enabled; grants = grants })
+  Ok (record { name = name; uid = uid; algo = algo; seed = seed; sequence = sequence; password = password;
+      enabled = enabled; grants = grants })
 
 -- the account at a place, counted from 1, after accounts of these names and user numbers
 abbrev pub read_account : ℕ → List (List ℕ) → List ℕ → Data → Result AccountEntry SetupFault
@@ -68,4 +75,5 @@ read_account account names uids value = do
 
 -- the next account, after these others
 abbrev pub next_account : List AccountEntry → Data → Result AccountEntry SetupFault
-next_account others = read_account (length others + 1) (map (λ other. other.name) others) (map (λ other. other.uid) others)
+next_account others =
+    read_account (length others + 1) (map (λ other. other.name) others) (map (λ other. other.uid) others)

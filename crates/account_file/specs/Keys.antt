@@ -48,7 +48,8 @@ read_number spot low high value = do
 
 -- the width of frames that a word names
 abbrev pub width_named : List ℕ → Option Width
-width_named bytes = option_or (then_some (bytes_eq bytes (codes "narrow")) Narrow) (then_some (bytes_eq bytes (codes "wide")) Wide)
+width_named bytes =
+    option_or (then_some (bytes_eq bytes (codes "narrow")) Narrow) (then_some (bytes_eq bytes (codes "wide")) Wide)
 
 -- the seed that a text spells, in lower case
 abbrev pub seed_spelled : List ℕ → Option (List ℕ)

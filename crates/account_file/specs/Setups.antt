@@ -1,5 +1,6 @@
 -- Believed: the setup that the bytes of a file spell.
-use Rattle.std.specs.Prelude.{ℕ, ◌+◌, ◌*◌, List, [], ◌∷◌, Option, Some, None, Result, Ok, length, codes, ◌==◌, nat_le, if◌then◌else◌}
+use Rattle.std.specs.Prelude.{ℕ, ◌+◌, ◌*◌, List, [], ◌∷◌, Option, Some, None, Result, Ok, length, codes, ◌==◌, nat_le}
+use Rattle.std.specs.Prelude.{if◌then◌else◌}
 use Rattle.std.specs.Bool.{then_some}
 use Rattle.std.specs.List.{list_all}
 use Rattle.std.specs.Option.{is_some, option_map, option_and_then, option_map_or}
@@ -29,7 +30,9 @@ top key = record { key = key; account = 0 }
 
 -- the keys that a setup file may have
 abbrev pub setup_keys : List (List ℕ)
-setup_keys = codes "socket" ∷ codes "launcher" ∷ codes "vault" ∷ codes "words" ∷ codes "banner" ∷ codes "salt" ∷ codes "frames" ∷ codes "workers" ∷ codes "connections" ∷ codes "requests" ∷ codes "tries" ∷ codes "hold" ∷ codes "info" ∷ codes "account" ∷ []
+setup_keys = codes "socket" ∷ codes "launcher" ∷ codes "vault" ∷ codes "words" ∷ codes "banner" ∷ codes "salt"
+    ∷ codes "frames" ∷ codes "workers" ∷ codes "connections" ∷ codes "requests" ∷ codes "tries" ∷ codes "hold"
+    ∷ codes "info" ∷ codes "account" ∷ []
 
 -- the keys of a TOML document, if the bytes are UTF-8 and TOML
 abbrev pub document_of : List ℕ → Option Members
@@ -42,7 +45,8 @@ read_texts entries = do
   launcher ← read_spelled (top keys.Launcher) (passed (is_text 1 255)) (get_member (codes "launcher") entries)
   vault ← read_spelled (top keys.Vault) (passed (is_text 1 255)) (get_member (codes "vault") entries)
   words ← read_spelled (top keys.Words) (passed (is_text 1 255)) (get_member (codes "words") entries)
-  banner ← option_map_or (λ value. read_spelled (top keys.Banner) (passed (is_text 0 200)) (Some value)) (get_member (codes "banner") entries) (Ok [])
+  banner ← option_map_or (λ value. read_spelled (top keys.Banner) (passed (is_text 0 200)) (Some value))
+      (get_member (codes "banner") entries) (Ok [])
   Ok (record { socket = socket; launcher = launcher; vault = vault; words = words; banner = banner })
 
 -- the five numbers of a setup, each in its range
@@ -73,11 +77,15 @@ info_items items = do
 abbrev pub read_settings : Members → Result SetupEntries SetupFault
 read_settings entries = do
   texts ← read_texts entries
-  salt ← option_map_or (λ value. read_spelled (top keys.Salt) seed_spelled (Some value)) (get_member (codes "salt") entries) (Ok (codes "decoy"))
-  frames ← option_map_or (λ value. read_spelled (top keys.Frames) width_named (Some value)) (get_member (codes "frames") entries) (Ok Narrow)
+  salt ← option_map_or (λ value. read_spelled (top keys.Salt) seed_spelled (Some value))
+      (get_member (codes "salt") entries) (Ok (codes "decoy"))
+  frames ← option_map_or (λ value. read_spelled (top keys.Frames) width_named (Some value))
+      (get_member (codes "frames") entries) (Ok Narrow)
   counts ← read_counts entries
-  info ← option_map_or (λ value. demand_at (top keys.Info) rules.Kind (as_array value) >>= (λ items. info_items (data_of items))) (get_member (codes "info") entries) (Ok [])
-  bounded ← demand_at (top keys.Requests) rules.Product (then_some (nat_le (counts.workers * (counts.connections * (counts.requests + 3))) EVENTS_LIMIT) counts)
+  info ← option_map_or (λ value. demand_at (top keys.Info) rules.Kind (as_array value) >>=
+      (λ items. info_items (data_of items))) (get_member (codes "info") entries) (Ok [])
+  bounded ← demand_at (top keys.Requests) rules.Product
+      (then_some (nat_le (counts.workers * (counts.connections * (counts.requests + 3))) EVENTS_LIMIT) counts)
   accounts ← read_each (top keys.Account) 1024 next_account (get_member (codes "account") entries)
   Ok (record { texts = texts; salt = salt; frames = frames; counts = bounded; info = info; accounts = accounts })
 

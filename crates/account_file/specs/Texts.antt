@@ -6,8 +6,12 @@ use Rattle.account_file.specs.Entries.{TextEntries}
 
 -- what a file says of these texts
 abbrev pub text_entries : Texts → TextEntries
-text_entries t = record { socket = t.socket.now; launcher = t.launcher.now; vault = t.vault.now; words = t.words.now; banner = t.banner.now }
+text_entries t =
+    record { socket = t.socket.now; launcher = t.launcher.now; vault = t.vault.now; words = t.words.now;
+        banner = t.banner.now }
 
 -- texts of a setup
 abbrev pub are_legal : Texts → Bool
-are_legal t = is_text 1 100 t.socket.now && is_text 1 255 t.launcher.now && is_text 1 255 t.vault.now && is_text 1 255 t.words.now && is_text 0 200 t.banner.now
+are_legal t =
+    is_text 1 100 t.socket.now && is_text 1 255 t.launcher.now && is_text 1 255 t.vault.now && is_text 1 255 t.words.now
+    && is_text 0 200 t.banner.now

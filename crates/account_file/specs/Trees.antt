@@ -32,12 +32,15 @@ abbrev pub are_known : List (List ℕ) → Members → Bool
 are_known known ms = list_all (λ k. list_any (bytes_eq k) known) (keys_of ms)
 
 -- items read one after the other, each with those before it at hand, or the first fault
-abbrev pub read_behind : {A : Type 0} → (List A → Data → Result A SetupFault) → List A → List Data → Result (List A) SetupFault
+abbrev pub read_behind : {A : Type 0} → (List A → Data → Result A SetupFault) → List A → List Data
+    → Result (List A) SetupFault
 read_behind read earlier [] = Ok earlier
 read_behind read earlier (d ∷ ds) = do
   a ← read earlier d
   read_behind read (earlier ++ a ∷ []) ds
 
 -- the items of an array of at most so many, each read after those before it; none if the key is missing
-abbrev pub read_each : {A : Type 0} → Spot → ℕ → (List A → Data → Result A SetupFault) → Option Data → Result (List A) SetupFault
-read_each spot most read value = option_map_or (λ there. read_items spot most there >>= read_behind read []) value (Ok [])
+abbrev pub read_each : {A : Type 0} → Spot → ℕ → (List A → Data → Result A SetupFault) → Option Data
+    → Result (List A) SetupFault
+read_each spot most read value =
+    option_map_or (λ there. read_items spot most there >>= read_behind read []) value (Ok [])

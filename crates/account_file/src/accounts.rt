@@ -32,7 +32,8 @@ const ACCOUNTS_MAX: usize = 1_024;
 
 /// The accounts of a setup, none where the key isn't there.
 pub fn read_accounts(alloc: Global, table: &Table) -> Result<Accounts, SetupError>
-    ensures read { Answers (map account_entry) result (read_each (top setup_keys.Account) 1024 next_account (get_member (codes "account") (table_view table.now))) }
+    ensures read { Answers (map account_entry) result (read_each (top setup_keys.Account) 1024 next_account
+        (get_member (codes "account") (table_view table.now))) }
     ensures in_range { IfOk result (λ a. are_accounts a ≡ true) }
 {
     let Some(value) = entry(table, "account") else {
@@ -67,7 +68,8 @@ fn read_account(
     place: u32,
     earlier: &[Account],
 ) -> Result<Account, SetupError>
-    ensures read { Answers account_entry result (read_account place (map (λ a. name_bytes a.name) earlier.now) (map (λ a. a.uid) earlier.now) (view item.now)) }
+    ensures read { Answers account_entry result (read_account place (map (λ a. name_bytes a.name) earlier.now)
+        (map (λ a. a.uid) earlier.now) (view item.now)) }
     ensures new_name { IfOk result (λ a. list_any (λ e. same_name e.name a.name) earlier.now ≡ false) }
     ensures new_uid { IfOk result (λ a. list_any (λ e. e.uid == a.uid) earlier.now ≡ false) }
     ensures legal { IfOk result (λ a. is_account a ≡ true) }
@@ -92,7 +94,8 @@ fn keys_of(
     place: u32,
     earlier: &[Account],
 ) -> Result<Account, SetupError>
-    ensures read { Answers account_entry result (read_account_keys place (map (λ a. name_bytes a.name) earlier.now) (map (λ a. a.uid) earlier.now) (table_view table.now)) }
+    ensures read { Answers account_entry result (read_account_keys place (map (λ a. name_bytes a.name) earlier.now)
+        (map (λ a. a.uid) earlier.now) (table_view table.now)) }
     ensures new_name { IfOk result (λ a. list_any (λ e. same_name e.name a.name) earlier.now ≡ false) }
     ensures new_uid { IfOk result (λ a. list_any (λ e. e.uid == a.uid) earlier.now ≡ false) }
     ensures legal { IfOk result (λ a. is_account a ≡ true) }
@@ -125,7 +128,10 @@ fn keys_of(
 
 /// The name of an account, which none of the others has.
 fn name_of(table: &Table, spot: Spot, others: &[Account]) -> Result<Name, SetupFault>
-    ensures read { Reads name_bytes result (untaken spot (λ name. list_any (λ other. bytes_eq other name) (map (λ a. name_bytes a.name) others.now)) (read_spelled spot (passed is_name) (get_member (codes "name") (table_view table.now)))) }
+    ensures
+        read { Reads name_bytes result
+        (untaken spot (λ name. list_any (λ other. bytes_eq other name) (map (λ a. name_bytes a.name) others.now))
+        (read_spelled spot (passed is_name) (get_member (codes "name") (table_view table.now)))) }
     ensures new { IfOk result (λ n. list_any (λ e. same_name e.name n) others.now ≡ false) }
 {
     let text = read_string(table, "name", spot)?;
@@ -140,7 +146,10 @@ fn name_of(table: &Table, spot: Spot, others: &[Account]) -> Result<Name, SetupF
 
 /// The user number of an account, which none of the others has.
 fn read_uid(table: &Table, spot: Spot, others: &[Account]) -> Result<u32, SetupFault>
-    ensures read { Reads (λ n. n) result (untaken spot (λ uid. list_any (λ other. other == uid) (map (λ a. a.uid) others.now)) (read_number spot 1 4294967294 (get_member (codes "uid") (table_view table.now)))) }
+    ensures
+        read { Reads (λ n. n) result
+        (untaken spot (λ uid. list_any (λ other. other == uid) (map (λ a. a.uid) others.now))
+        (read_number spot 1 4294967294 (get_member (codes "uid") (table_view table.now)))) }
     ensures new { IfOk result (λ n. list_any (λ e. e.uid == n) others.now ≡ false) }
     ensures within { IfOk result (λ n. (1 ≤ n) × (n ≤ 4294967294)) }
 {

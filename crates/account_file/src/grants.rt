@@ -28,7 +28,8 @@ const GRANTS_MAX: usize = 64;
 
 /// The grants of the account at a place from 1, none where the key isn't there.
 pub fn read_grants(alloc: Global, table: &Table, account: u32) -> Result<Grants, SetupError>
-    ensures read { Answers (map grant_entry) result (read_each (spot_in account setup_keys.Grants) 64 (read_grant account) (get_member (codes "grants") (table_view table.now))) }
+    ensures read { Answers (map grant_entry) result (read_each (spot_in account setup_keys.Grants) 64
+        (read_grant account) (get_member (codes "grants") (table_view table.now))) }
     ensures in_range { IfOk result (λ g. are_grants g ≡ true) }
 {
     let Some(value) = entry(table, "grants") else {
@@ -40,7 +41,8 @@ pub fn read_grants(alloc: Global, table: &Table, account: u32) -> Result<Grants,
 
 /// The grants that the items of an array spell.
 fn each_grant(alloc: Global, items: &[Value], account: u32) -> Result<Vec<Grant>, SetupError>
-    ensures read { Answers (λ v. map grant_entry v.items) result (read_behind (read_grant account) [] (map view items.now)) }
+    ensures read { Answers (λ v. map grant_entry v.items) result (read_behind (read_grant account) []
+        (map view items.now)) }
     ensures len { IfOk result (λ v. length v.items ≡ length items.now) }
     ensures modes { IfOk result (λ v. list_all (λ g. is_number 1 3 g.mode) v.items ≡ true) }
     ensures different { IfOk result (λ v. are_distinct (λ a b. same_label a.name b.name) v.items ≡ true) }
@@ -56,7 +58,8 @@ fn each_grant(alloc: Global, items: &[Value], account: u32) -> Result<Vec<Grant>
 /// A grant after others of the account at a place from 1.
 fn read_grant(item: &Value, account: u32, earlier: &[Grant]) -> Result<Grant, SetupFault>
     ensures read { Reads grant_entry result (read_grant account (map grant_entry earlier.now) (view item.now)) }
-    ensures new { IfOk result (λ g. list_any (λ e. bytes_eq (label_bytes e.name) (label_bytes g.name)) earlier.now ≡ false) }
+    ensures new { IfOk result (λ g. list_any (λ e. bytes_eq (label_bytes e.name) (label_bytes g.name)) earlier.now
+        ≡ false) }
     ensures in_range { IfOk result (λ g. is_number 1 3 g.mode ≡ true) }
 {
     let Some(table) = item.as_table() else {
@@ -75,7 +78,10 @@ fn read_grant(item: &Value, account: u32, earlier: &[Grant]) -> Result<Grant, Se
 
 /// The name of a grant, which none of the others has.
 fn label_of(table: &Table, spot: Spot, others: &[Grant]) -> Result<Label, SetupFault>
-    ensures read { Reads label_bytes result (untaken spot (λ name. list_any (λ other. bytes_eq other.name name) (map grant_entry others.now)) (read_spelled spot (passed is_label) (get_member (codes "name") (table_view table.now)))) }
+    ensures
+        read { Reads label_bytes result
+        (untaken spot (λ name. list_any (λ other. bytes_eq other.name name) (map grant_entry others.now))
+        (read_spelled spot (passed is_label) (get_member (codes "name") (table_view table.now)))) }
     ensures new { IfOk result (λ l. list_any (λ e. bytes_eq (label_bytes e.name) (label_bytes l)) others.now ≡ false) }
 {
     let text = read_string(table, "name", spot)?;

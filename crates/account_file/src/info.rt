@@ -77,7 +77,8 @@ fn are_integers(items: &[Value]) -> bool
 
 /// The numbers that the items are, if all are 1 to 1,000.
 fn small_numbers(alloc: Global, items: &[Value]) -> Result<Option<Vec<u32>>, AllocError>
-    ensures { IfOk result (λ o. option_map (λ v. v.items) o ≡ all_some (λ d. option_and_then (number_in 1 1000) (as_integer d)) (map view items.now)) }
+    ensures { IfOk result (λ o. option_map (λ v. v.items) o
+        ≡ all_some (λ d. option_and_then (number_in 1 1000) (as_integer d)) (map view items.now)) }
 {
     let mut small = Vec::new(alloc);
     for item in items {

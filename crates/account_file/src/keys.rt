@@ -10,7 +10,8 @@ ghost use Rattle.toml.specs.Data.{as_bool, get_member};
 ghost use Rattle.toml.specs.View.{view, table_view};
 ghost use Rattle.account_file.specs.declared.fault.SetupRule.TheVariants.{Kind};
 ghost use Rattle.account_file.specs.Faults.{demand_at, Reads};
-ghost use Rattle.account_file.specs.Keys.{read_string, read_spelled, passed, number_in, read_number, width_named, seed_spelled, password_spelled};
+ghost use Rattle.account_file.specs.Keys.{read_string, read_spelled, passed, number_in, read_number, width_named};
+ghost use Rattle.account_file.specs.Keys.{seed_spelled, password_spelled};
 ghost use Rattle.account_file.specs.Trees.{read_items};
 
 use crate::fault::{SetupFault, SetupRule, Spot};
@@ -48,7 +49,8 @@ pub fn read_text<'a>(
     low: usize,
     high: usize,
 ) -> Result<&'a str, SetupFault>
-    ensures read { Reads (λ s. s.now) result (read_spelled spot (passed (is_text low high)) (get_member key.now (table_view table.now))) }
+    ensures read { Reads (λ s. s.now) result (read_spelled spot (passed (is_text low high))
+        (get_member key.now (table_view table.now))) }
     ensures legal { IfOk result (λ s. is_text low high s.now ≡ true) }
 {
     let text = read_string(table, key, spot)?;
@@ -116,7 +118,8 @@ pub fn read_password(table: &Table, key: &str, spot: Spot) -> Result<u64, SetupF
 
 /// The truth value at a key, true where it is not there.
 pub fn read_truth(table: &Table, key: &str, spot: Spot) -> Result<bool, SetupFault>
-    ensures { Reads (λ b. b) result (option_map_or (λ value. demand_at spot Kind (as_bool value)) (get_member key.now (table_view table.now)) (Ok true)) }
+    ensures { Reads (λ b. b) result (option_map_or (λ value. demand_at spot Kind (as_bool value))
+        (get_member key.now (table_view table.now)) (Ok true)) }
 {
     match entry(table, key) {
         None => Ok(true),

@@ -63,7 +63,9 @@ pub fn read_texts(table: &Table) -> Result<Texts<'_>, SetupFault>
 
 /// The banner, empty where the key isn't there.
 fn read_banner(table: &Table) -> Result<&str, SetupFault>
-    ensures read { Reads (λ s. s.now) result (option_map_or (λ value. read_spelled (top Banner) (passed (is_text 0 200)) (Some value)) (get_member (codes "banner") (table_view table.now)) (Ok [])) }
+    ensures
+        read { Reads (λ s. s.now) result (option_map_or (λ value. read_spelled (top Banner) (passed (is_text 0 200))
+        (Some value)) (get_member (codes "banner") (table_view table.now)) (Ok [])) }
     ensures legal { IfOk result (λ s. is_text 0 200 s.now ≡ true) }
 {
     match entry(table, "banner") {
@@ -74,7 +76,8 @@ fn read_banner(table: &Table) -> Result<&str, SetupFault>
 
 /// What decoys are made of, `decoy` where the key isn't there.
 pub fn read_salt(table: &Table) -> Result<Seed, SetupFault>
-    ensures { Reads seed_bytes result (option_map_or (λ value. read_spelled (top Salt) seed_spelled (Some value)) (get_member (codes "salt") (table_view table.now)) (Ok (codes "decoy"))) }
+    ensures { Reads seed_bytes result (option_map_or (λ value. read_spelled (top Salt) seed_spelled (Some value))
+        (get_member (codes "salt") (table_view table.now)) (Ok (codes "decoy"))) }
 {
     match entry(table, "salt") {
         None => Ok(plain_salt()),
@@ -84,7 +87,8 @@ pub fn read_salt(table: &Table) -> Result<Seed, SetupFault>
 
 /// How long frames may be, narrow where the key isn't there.
 pub fn read_frames(table: &Table) -> Result<Width, SetupFault>
-    ensures { Reads (λ w. w) result (option_map_or (λ value. read_spelled (top Frames) width_named (Some value)) (get_member (codes "frames") (table_view table.now)) (Ok Narrow)) }
+    ensures { Reads (λ w. w) result (option_map_or (λ value. read_spelled (top Frames) width_named (Some value))
+        (get_member (codes "frames") (table_view table.now)) (Ok Narrow)) }
 {
     match entry(table, "frames") {
         None => Ok(Width::Narrow),
@@ -115,7 +119,10 @@ pub fn check_product(counts: Counts) -> Result<Counts, SetupFault>
     requires workers { counts.workers ≤ 64 }
     requires connections { counts.connections ≤ 4096 }
     requires requests { counts.requests ≤ 4096 }
-    ensures read { Reads (λ c. c) result (demand_at (top Requests) Product (then_some (nat_le (counts.workers * (counts.connections * (counts.requests + 3))) EVENTS_LIMIT) counts)) }
+    ensures
+        read { Reads (λ c. c) result
+        (demand_at (top Requests) Product
+        (then_some (nat_le (counts.workers * (counts.connections * (counts.requests + 3))) EVENTS_LIMIT) counts)) }
     ensures same { IfOk result (λ c. c ≡ counts) }
     ensures few { IfOk result (λ c. c.workers * (c.connections * (c.requests + 3)) ≤ EVENTS_LIMIT) }
 {

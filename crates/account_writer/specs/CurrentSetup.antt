@@ -28,4 +28,5 @@ setup_after setup journal = record setup { accounts = map (account_after journal
 
 -- bytes spell the setup after each journal that a ledger stands for
 pub record IsSetupAfter (setup : Settings) (l : LedgerParts) (bytes : List ℕ) : Type 0 where
-  pub by_journal : (journal : List Event) → StandsFor l journal → setup_of bytes ≡ Ok (entries_of (setup_after setup journal))
+  pub by_journal : (journal : List Event) → StandsFor l journal → setup_of bytes
+      ≡ Ok (entries_of (setup_after setup journal))

@@ -17,7 +17,8 @@ use Rattle.toml.specs.View.{items_of}
 -- a table with one key more, in the order of the keys
 abbrev pub put_member : List ℕ → Data → Members → Members
 put_member k d no_members = member k d no_members
-put_member k d (member l e ms) = match_ordering (slice_cmp nat_cmp k l) (member k d (member l e ms)) (member l d ms) (member l e (put_member k d ms))
+put_member k d (member l e ms) =
+    match_ordering (slice_cmp nat_cmp k l) (member k d (member l e ms)) (member l d ms) (member l e (put_member k d ms))
 
 -- the word for a width of frames
 abbrev pub width_word : Width → List ℕ
@@ -30,7 +31,8 @@ number n = integer (pos n)
 
 -- the keys of a grant, as they are written
 abbrev pub grant_members : Grant → Members
-grant_members g = put_member (codes "mode") (number g.mode) (put_member (codes "name") (string (label_bytes g.name)) no_members)
+grant_members g =
+    put_member (codes "mode") (number g.mode) (put_member (codes "name") (string (label_bytes g.name)) no_members)
 
 -- the table that is written for a grant
 abbrev pub grant_data : Grant → Data

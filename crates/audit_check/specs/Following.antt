@@ -1,5 +1,6 @@
 -- Inner: steps of the search through a log.
-use Rattle.std.specs.Prelude.{ℕ, ◌≡◌, ◌≢◌, ◌==◌, ◌&&◌, ◌||◌, not, Bool, true, false, List, [], ◌∷◌, ◌++◌, nat_le, if◌then◌else◌}
+use Rattle.std.specs.Prelude.{ℕ, ◌≡◌, ◌≢◌, ◌==◌, ◌&&◌, ◌||◌, not, Bool, true, false, List, [], ◌∷◌, ◌++◌, nat_le}
+use Rattle.std.specs.Prelude.{if◌then◌else◌}
 use Rattle.request_catalogue.specs.declared.rules.TheConstants.{NO_MATCH, NO_READING, PASSWORD_USED, USER_HELD}
 use Rattle.policy_model.specs.declared.event.Ask.{Ask}
 use Rattle.policy_model.specs.declared.event.Ask.TheVariants as asks
@@ -21,7 +22,8 @@ is_no_reading _ = false
 
 -- a denial that may be one on a reply whose readings decide, after a challenge that names a decoy or doesn't
 abbrev pub may_be_denied : ℕ → ℕ → Bool → Bool
-may_be_denied rule detail decoyed = detail == 0 && (rule == NO_READING || rule == NO_MATCH || rule == PASSWORD_USED && not decoyed)
+may_be_denied rule detail decoyed =
+    detail == 0 && (rule == NO_READING || rule == NO_MATCH || rule == PASSWORD_USED && not decoyed)
 
 -- an ask whose verdict rests on its own session alone, and not on a user's logins or on how many sessions were opened
 abbrev pub is_local : Ask → Bool
@@ -34,7 +36,8 @@ is_local _ = true
 -- a list of events says of a worker which session it has open, and has all events of that session, as a log does
 pub record IsRecent (recent : List Event) (worker : ℕ) (events : List Event) : Type 0 where
   pub session : open_session_of recent worker ≡ open_session_of events worker
-  pub own : open_session_of events worker ≢ 0 → events_of recent (open_session_of events worker) ≡ events_of events (open_session_of events worker)
+  pub own : open_session_of events worker ≢ 0 → events_of recent (open_session_of events worker) ≡ events_of events
+      (open_session_of events worker)
 
 -- what an event of a worker makes of such a list: a permitted opening or end begins it anew
 abbrev pub own_after : Event → List Event → List Event

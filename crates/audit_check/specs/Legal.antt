@@ -1,6 +1,7 @@
 -- Believed: a legal log: each event is of one of the setup's workers, with the session and the decision that the policy
 -- gives. More than one decision may stand only where a reply's readings decide, which the log doesn't show.
-use Rattle.std.specs.Prelude.{ℕ, ◌≡◌, ◌<◌, ◌==◌, ◌&&◌, ◌||◌, Bool, true, false, not, List, length, take, slice_index_or, Option}
+use Rattle.std.specs.Prelude.{ℕ, ◌≡◌, ◌<◌, ◌==◌, ◌&&◌, ◌||◌, Bool, true, false, not, List, length, take, slice_index_or}
+use Rattle.std.specs.Prelude.{Option}
 use Rattle.std.specs.Option.{option_and_then, option_map_or}
 use Rattle.request_catalogue.specs.declared.kind.Kind.TheVariants as kinds
 use Rattle.request_catalogue.specs.declared.rules.TheConstants.{NO_MATCH, NO_READING, PASSWORD_USED}
@@ -26,12 +27,14 @@ is_challenged_phase _ = false
 
 -- the session holds the user that it challenged
 abbrev pub holds_user : List Event → ℕ → Option Name → Bool
-holds_user before session user = option_map_or (λ holder. holder == session) (option_and_then (holder_of before) user) false
+holds_user before session user =
+    option_map_or (λ holder. holder == session) (option_and_then (holder_of before) user) false
 
 -- the readings of a reply decide: its session is challenged, has asks left, and holds its user or was given a decoy
 abbrev pub readings_decide : Settings → List Event → ℕ → Bool
 readings_decide setup before session =
-    not (session == 0) && is_challenged_phase (phase_of before session) && not (ask_count before session == setup.requests)
+    not (session == 0) && is_challenged_phase (phase_of before session)
+        && not (ask_count before session == setup.requests)
     && (was_decoyed before session || holds_user before session (challenged_user before session))
 
 -- the password is the account's next one
@@ -41,8 +44,11 @@ is_password_of before account password = option_map_or (λ a. is_next_password b
 -- what can be decided on such a reply: a permit of the user's next password, or a denial by rules 14 to 16; to a decoy
 -- only 14 and 16
 abbrev pub may_be_decided : Settings → List Event → ℕ → Decision → Bool
-may_be_decided setup before session (Permit password) = not (was_decoyed before session) && is_password_of before (option_and_then (account_of setup) (challenged_user before session)) password
-may_be_decided setup before session (Deny rule detail) = detail == 0 && (rule == NO_READING || rule == NO_MATCH || rule == PASSWORD_USED && not (was_decoyed before session))
+may_be_decided setup before session (Permit password) =
+    not (was_decoyed before session)
+    && is_password_of before (option_and_then (account_of setup) (challenged_user before session)) password
+may_be_decided setup before session (Deny rule detail) =
+    detail == 0 && (rule == NO_READING || rule == NO_MATCH || rule == PASSWORD_USED && not (was_decoyed before session))
 may_be_decided setup before session Lost = false
 
 -- an event is a REPLY that its readings decide
@@ -52,7 +58,8 @@ is_open setup before e = is_kind kinds.Reply e.ask && readings_decide setup befo
 -- the decision is the policy's; where a reply's readings decide, it is one that readings can bring
 pub record IsDecided (setup : Settings) (before : List Event) (e : Event) : Type 0 where
   pub decided : is_open setup before e ≡ false → e.decision ≡ verdict_of setup before e.worker e.ask
-  pub undecided : is_open setup before e ≡ true → may_be_decided setup before (open_session_of before e.worker) e.decision ≡ true
+  pub undecided : is_open setup before e ≡ true → may_be_decided setup before (open_session_of before e.worker)
+      e.decision ≡ true
 
 -- an event may follow these in a log: by its worker, its session and its decision
 pub record MayFollow (setup : Settings) (before : List Event) (e : Event) : Type 0 where
@@ -62,4 +69,5 @@ pub record MayFollow (setup : Settings) (before : List Event) (e : Event) : Type
 
 -- a legal log: each event may follow those before it
 abbrev pub IsLegalLog : Settings → List Event → Type 0
-IsLegalLog setup events = (k : ℕ) (d : Event) → k < length events → MayFollow setup (take k events) (slice_index_or events k d)
+IsLegalLog setup events =
+    (k : ℕ) (d : Event) → k < length events → MayFollow setup (take k events) (slice_index_or events k d)

@@ -27,7 +27,8 @@ pub record Says (number : ℕ) (line : List ℕ) (e : Event) : Type 0 where
 -- a line can say each of these events, the first of which stands after so many
 abbrev pub AreSaid : ℕ → List Event → Type 0
 AreSaid count [] = Unit {0}
-AreSaid count (e ∷ events) = IsLine (line_value (count + 1) e) × (without_readings e.ask ≡ e.ask) × AreSaid (count + 1) events
+AreSaid count (e ∷ events) =
+    IsLine (line_value (count + 1) e) × (without_readings e.ask ≡ e.ask) × AreSaid (count + 1) events
 
 -- a text is the lines of these events, numbered from 1, and they are a legal log
 pub record IsLogOf (setup : Settings) (text : List ℕ) (events : List Event) : Type 0 where

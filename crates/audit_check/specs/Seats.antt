@@ -1,5 +1,6 @@
 -- Inner: what is kept of a worker's open session, and what it decides.
-use Rattle.std.specs.Prelude.{ℕ, ◌≡◌, ◌≢◌, ◌<◌, ◌≤◌, ◌+◌, ◌==◌, ◌||◌, Bool, true, false, List, length, slice_index_or, Option, Some, None, if◌then◌else◌}
+use Rattle.std.specs.Prelude.{ℕ, ◌≡◌, ◌≢◌, ◌<◌, ◌≤◌, ◌+◌, ◌==◌, ◌||◌, Bool, true, false, List, length, slice_index_or}
+use Rattle.std.specs.Prelude.{Option, Some, None, if◌then◌else◌}
 use Rattle.request_catalogue.specs.declared.rules.TheConstants.{ASKS_SPENT, NOT_IN_PHASE}
 use Rattle.policy_model.specs.declared.event.Ask.{Ask}
 use Rattle.policy_model.specs.declared.event.Ask.TheVariants as asks
@@ -27,18 +28,21 @@ pub record IsSeat (seat : Seat) (worker : ℕ) (events : List Event) : Type 0 wh
 abbrev pub seat_after : Event → Seat → Seat
 seat_after e seat =
     if is_turn_of e.worker e then record { session = if is_begin e.ask then e.session else 0; over = false; asks = 0 }
-    else record { session = seat.session; over = seat.over || ends_session e; asks = seat.asks + (if came_by_frame e.ask then 1 else 0) }
+    else record { session = seat.session; over = seat.over || ends_session e; asks = seat.asks + (if came_by_frame e.ask
+        then 1 else 0) }
 
 -- the seat of an event's worker goes on, and any other stays
 pub record AreSeated (e : Event) (old new : List Seat) : Type 0 where
   pub same : length new ≡ length old
-  pub each : (n : ℕ) (d : Seat) → n < length old → slice_index_or new n d ≡ (if n == e.worker then seat_after e (slice_index_or old n d) else slice_index_or old n d)
+  pub each : (n : ℕ) (d : Seat) → n < length old → slice_index_or new n d
+      ≡ (if n == e.worker then seat_after e (slice_index_or old n d) else slice_index_or old n d)
 
 -- no worker has an open session
 abbrev pub AreVacant : List Seat → Type 0
 AreVacant seats = (n : ℕ) (d : Seat) → n < length seats → slice_index_or seats n d ≡ vacant
 
--- an ask that is permitted in every session that isn't over and has asks left: a READ or WRITE of the client's connection, a NOTE, a FINISH
+-- an ask that is permitted in every session that isn't over and has asks left:
+-- a READ or WRITE of the client's connection, a NOTE, a FINISH
 abbrev pub is_common : Ask → Bool
 is_common (asks.ReadAt handle offset max) = handle == 0
 is_common (asks.WriteAt handle offset len) = handle == 0

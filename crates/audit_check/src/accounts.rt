@@ -1,6 +1,7 @@
 //! What is decided by the accounts, where a session's own events decide nothing else.
 
-ghost use Rattle.std.specs.Prelude.{◌≡◌, ◌≢◌, ◌<◌, ◌&&◌, List, [], ◌∷◌, None, Some, length, nat_eq, not, slice_get, unwrap_or};
+ghost use Rattle.std.specs.Prelude.{◌≡◌, ◌≢◌, ◌<◌, ◌&&◌, List, [], ◌∷◌, None, Some, length, nat_eq, not, slice_get};
+ghost use Rattle.std.specs.Prelude.{unwrap_or};
 ghost use Rattle.std.specs.List.{last_or, list_any};
 ghost use Rattle.policy_model.specs.declared.account.Account.{Account};
 ghost use Rattle.policy_model.specs.declared.event.Decision.TheVariants.{Permit};
@@ -24,7 +25,8 @@ use request_catalogue::{Name, rules};
 fn sequence(setup: &Setup, history: &History, account: u32) -> u64
     requires kept { HasLog setup.now history.now }
     requires account { account < length setup.now.accounts }
-    ensures { (events : List Event) → IsKept setup.now events history.now → (a : Account) → slice_get setup.now.accounts account ≡ Some a → result ≡ current_sequence events a }
+    ensures { (events : List Event) → IsKept setup.now events history.now → (a : Account)
+        → slice_get setup.now.accounts account ≡ Some a → result ≡ current_sequence events a }
 {
     let first = setup.parts().accounts.as_slice()[account as usize].sequence;
     u64::from(first).saturating_sub(history.replies[account as usize].len() as u64)
@@ -43,7 +45,8 @@ pub(crate) struct Standing {
 fn standing_of(setup: &Setup, history: &History, account: u32) -> Standing
     requires kept { HasLog setup.now history.now }
     requires account { account < length setup.now.accounts }
-    ensures { (events : List Event) → IsKept setup.now events history.now → (a : Account) → slice_get setup.now.accounts account ≡ Some a → result ≡ standing_by events a }
+    ensures { (events : List Event) → IsKept setup.now events history.now → (a : Account)
+        → slice_get setup.now.accounts account ≡ Some a → result ≡ standing_by events a }
 {
     Standing {
         enabled: setup.parts().accounts.as_slice()[account as usize].enabled,
@@ -80,7 +83,8 @@ pub(crate) fn judge_challenge(
     now: u64,
 ) -> Decision
     requires { HasLog setup.now history.now }
-    ensures { (events : List Event) → IsKept setup.now events history.now → result ≡ account_verdict setup.now events session user.now now (account_of setup.now user.now) }
+    ensures { (events : List Event) → IsKept setup.now events history.now → result ≡ account_verdict setup.now events
+        session user.now now (account_of setup.now user.now) }
 {
     match setup.find(user) {
         None => setup.challenge_decoy(user),
@@ -108,7 +112,8 @@ fn silent_by(session: u32, hold: Hold) -> Decision
 /// A REPLY without readings of a session for a user.
 fn judge_user(setup: &Setup, history: &History, session: u32, user: &Name) -> Decision
     requires { HasLog setup.now history.now }
-    ensures { (events : List Event) → IsKept setup.now events history.now → result ≡ user_verdict setup.now events session [] user.now }
+    ensures { (events : List Event) → IsKept setup.now events history.now → result ≡ user_verdict setup.now events
+        session [] user.now }
 {
     match setup.find(user) {
         None => Decision::Deny {
@@ -150,7 +155,8 @@ pub(crate) fn judge_reply(setup: &Setup, history: &History, worker: u32) -> Deci
 /// The current sequence of a user that is there and has an account, or 0.
 fn sequence_of(setup: &Setup, history: &History, user: Option<Name>) -> u64
     requires { HasLog setup.now history.now }
-    ensures { (events : List Event) → IsKept setup.now events history.now → result ≡ sequence_of events (account_named setup.now user) }
+    ensures { (events : List Event) → IsKept setup.now events history.now
+        → result ≡ sequence_of events (account_named setup.now user) }
 {
     let Some(user) = user else {
         return 0;
@@ -166,7 +172,8 @@ pub(crate) fn judge_info(setup: &Setup, history: &History, worker: u32) -> Decis
     requires kept { HasLog setup.now history.now }
     requires worker { worker < length history.now.recent.items }
     ensures { (events : List Event) → IsKept setup.now events history.now → open_session_of events worker ≢ 0 →
-        result ≡ Permit (sequence_of events (account_named setup.now (verified_user events (open_session_of events worker)))) }
+        result
+        ≡ Permit (sequence_of events (account_named setup.now (verified_user events (open_session_of events worker)))) }
 {
     let recent = recent(history, worker);
     let user = verified_user(recent, open_session(recent, worker));
@@ -216,7 +223,8 @@ fn is_next_by(account: &Account, replies: &[u64], password: u64) -> bool
 fn is_next(setup: &Setup, history: &History, account: u32, password: u64) -> bool
     requires kept { HasLog setup.now history.now }
     requires account { account < length setup.now.accounts }
-    ensures { (events : List Event) → IsKept setup.now events history.now → (a : Account) → slice_get setup.now.accounts account ≡ Some a → result ≡ is_next_password events a password }
+    ensures { (events : List Event) → IsKept setup.now events history.now → (a : Account)
+        → slice_get setup.now.accounts account ≡ Some a → result ≡ is_next_password events a password }
 {
     is_next_by(
         &setup.parts().accounts.as_slice()[account as usize],
@@ -233,7 +241,8 @@ pub(crate) fn permits(
     password: u64,
 ) -> bool
     requires { HasLog setup.now history.now }
-    ensures { (events : List Event) → IsKept setup.now events history.now → result ≡ (not (is_decoy taking.now) && is_password_of events (account_named setup.now (user_named taking.now)) password) }
+    ensures { (events : List Event) → IsKept setup.now events history.now → result ≡ (not (is_decoy taking.now)
+        && is_password_of events (account_named setup.now (user_named taking.now)) password) }
 {
     if is_decoy(taking) {
         return false;

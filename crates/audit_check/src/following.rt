@@ -138,7 +138,8 @@ fn may_be_denied(rule: u8, detail: u32, decoyed: bool) -> bool
 fn may_be_decided(setup: &Setup, history: &History, event: &Event) -> bool
     requires kept { HasLog setup.now history.now }
     requires worker { event.now.worker < length history.now.recent.items }
-    ensures { (events : List Event) → IsKept setup.now events history.now → readings_decide setup.now events (open_session_of events event.now.worker) ≡ true →
+    ensures { (events : List Event) → IsKept setup.now events history.now → readings_decide setup.now events
+        (open_session_of events event.now.worker) ≡ true →
         result ≡ may_be_decided setup.now events (open_session_of events event.now.worker) event.now.decision }
 {
     let taking = login_of(history, event.worker);
@@ -153,7 +154,8 @@ fn may_be_decided(setup: &Setup, history: &History, event: &Event) -> bool
 /// it only for lack of a reading.
 fn is_open(event: &Event, verdict: &Decision) -> bool
     requires { without_readings event.now.ask ≡ event.now.ask }
-    ensures { (setup : Settings) (before : List Event) → verdict.now ≡ verdict_of setup before event.now.worker event.now.ask →
+    ensures { (setup : Settings) (before : List Event) → verdict.now ≡ verdict_of setup before event.now.worker
+        event.now.ask →
         result ≡ is_open setup before event.now }
 {
     event.ask.is_reply() && is_no_reading(verdict)

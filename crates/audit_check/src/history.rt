@@ -1,7 +1,8 @@
 //! What the events of a log so far say of each worker and each account, so that nobody looks through them
 //! again.
 
-ghost use Rattle.std.specs.Prelude.{◌≡◌, ◌<◌, ◌-◌, ◌^◌, List, [], ◌∷◌, ◌++◌, ◌+◌, IfOk, IfSome, length, map, slice_index_or, if◌then◌else◌};
+ghost use Rattle.std.specs.Prelude.{◌≡◌, ◌<◌, ◌-◌, ◌^◌, List, [], ◌∷◌, ◌++◌, ◌+◌, IfOk, IfSome, length, map};
+ghost use Rattle.std.specs.Prelude.{slice_index_or, if◌then◌else◌};
 ghost use Rattle.policy_model.specs.declared.event.Event.{Event};
 ghost use Rattle.policy_model.specs.Asks.{opens};
 ghost use Rattle.session_laws.specs.Tied.{holder_after};
@@ -9,7 +10,8 @@ ghost use Rattle.audit_check.specs.Following.{own_after};
 ghost use Rattle.audit_check.specs.Legal.{MayFollow};
 ghost use Rattle.audit_check.specs.declared.seats.Seat.{Seat};
 ghost use Rattle.audit_check.specs.Seats.{AreSeated, AreVacant};
-ghost use Rattle.audit_check.specs.History.{AreEmpty, AreFollowed, AreIdle, AreReplied, HasLog, IsKept, IsRenewed, IsReplyFor, first_hold, hold_after};
+ghost use Rattle.audit_check.specs.History.{AreEmpty, AreFollowed, AreIdle, AreReplied, HasLog, IsKept, IsRenewed};
+ghost use Rattle.audit_check.specs.History.{IsReplyFor, first_hold, hold_after};
 
 use crate::seats::{Seat, seat_after};
 use crate::sessions::{login_of, user_named};

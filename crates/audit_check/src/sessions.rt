@@ -16,7 +16,8 @@ use request_catalogue::Name;
 /// The worker's events from its last permitted opening or end on: all that its open session did.
 pub(crate) fn recent(history: &History, worker: u32) -> &[Event]
     requires { worker < length history.now.recent.items }
-    ensures { (setup : Settings) (events : List Event) → IsKept setup events history.now → IsRecent result.now worker events }
+    ensures { (setup : Settings) (events : List Event) → IsKept setup events history.now
+        → IsRecent result.now worker events }
 {
     history.recent[worker as usize].as_slice()
 }
@@ -66,7 +67,8 @@ pub(crate) fn user_named(taking: &Option<Event>) -> Option<Name>
 /// The last permitted CHALLENGE of the worker's open session.
 pub(crate) fn login_of(history: &History, worker: u32) -> Option<Event>
     requires { worker < length history.now.recent.items }
-    ensures { (setup : Settings) (events : List Event) → IsKept setup events history.now → open_session_of events worker ≢ 0 →
+    ensures { (setup : Settings) (events : List Event) → IsKept setup events history.now → open_session_of events worker
+        ≢ 0 →
         result ≡ last_event events (open_session_of events worker) takes }
 {
     let recent = recent(history, worker);

@@ -1,5 +1,6 @@
 -- Believed: what the mode `audit` came to, and why.
-use Rattle.std.specs.Prelude.{◌≡◌, ℕ, Bool, true, false, List, [], length, take, Option, Some, None, Result, Ok, Err, IfSome}
+use Rattle.std.specs.Prelude.{◌≡◌, ℕ, Bool, true, false, List, [], length, take, Option, Some, None, Result, Ok, Err}
+use Rattle.std.specs.Prelude.{IfSome}
 use Rattle.std.specs.List.{concat}
 use Rattle.outside.specs.Files.{Contents}
 use Rattle.outside.specs.Link.{Exchanged, Link, SendsPart}
@@ -32,7 +33,8 @@ log_front bytes = take 268435457 bytes
 pub record IsOnlyAnswer (setup : Settings) (text : List ℕ) (answer : Audit) : Type 0 where
   pub said : IsAnswer setup text answer
   pub exact : (other : Audit) → IsAnswer setup text other → answer ≡ other
-  pub runs : (journal : List Event) → IsJournalOf setup journal → text ≡ log_text journal → answer ≡ Yes (length (kept_events journal))
+  pub runs : (journal : List Event) → IsJournalOf setup journal → text ≡ log_text journal
+      → answer ≡ Yes (length (kept_events journal))
 
 -- the answer is right for the one text of a log's file; where recovery finds records in the file, that is their lines
 pub record IsAnswerOfBytes (setup : Settings) (bytes : List ℕ) (answer : Audit) : Type 0 where
@@ -62,8 +64,10 @@ pub record IsLogMissing (contents : Option Contents) (parts : AuditParts) : Type
 -- why there is no answer: a read failed, memory ran out, the setup is missing or refused, or the log is missing
 abbrev pub IsFileError : Option Contents → AuditParts → Type 0 → AuditError → Type 0
 IsFileError contents parts ReadFailed errors.ReadFailed = ReadFailed
-IsFileError contents parts ReadFailed errors.SetupMissing = IsSetupError contents parts.setup ReadFailed setup_errors.Missing
-IsFileError contents parts ReadFailed (errors.SetupRefused fault) = IsSetupError contents parts.setup ReadFailed (setup_errors.Refused fault)
+IsFileError contents parts ReadFailed errors.SetupMissing =
+    IsSetupError contents parts.setup ReadFailed setup_errors.Missing
+IsFileError contents parts ReadFailed (errors.SetupRefused fault) =
+    IsSetupError contents parts.setup ReadFailed (setup_errors.Refused fault)
 IsFileError contents parts ReadFailed errors.LogMissing = IsLogMissing contents parts
 IsFileError contents parts ReadFailed errors.OutOfMemory = Unit {0}
 IsFileError contents parts ReadFailed errors.EndsFailed = ⊥
@@ -87,7 +91,8 @@ error_of_setup setup_errors.Missing = errors.SetupMissing
 error_of_setup (setup_errors.Refused fault) = errors.SetupRefused fault
 
 -- what each end of `audit` means: the answer was sent, whole or in part, or there is none and nothing was sent
-abbrev pub IsOutcome : AuditParts → Option Contents → Option Link → Option Link → Type 0 → Type 0 → Result Audit AuditError → Type 0
+abbrev pub IsOutcome : AuditParts → Option Contents → Option Link → Option Link → Type 0 → Type 0
+    → Result Audit AuditError → Type 0
 IsOutcome parts contents before after ReadFailed EndsFailed (Ok answer) =
     IsAnswered contents parts answer × Goes (Exchanged [] (answer_line answer)) before after
 IsOutcome parts contents before after ReadFailed EndsFailed (Err errors.EndsFailed) =

@@ -10,5 +10,6 @@ pub record AuditParts : Type 0 where
 
 -- what the command line `audit SETUP LOG` asks for; any other asks for nothing
 abbrev pub audit_command : List (List ℕ) → Option AuditParts
-audit_command (mode ∷ setup ∷ log ∷ []) = then_some (bytes_eq mode (codes "audit")) (record { setup = setup; log = log })
+audit_command (mode ∷ setup ∷ log ∷ []) =
+    then_some (bytes_eq mode (codes "audit")) (record { setup = setup; log = log })
 audit_command _ = None

@@ -5,7 +5,8 @@ ghost use Rattle.outside.specs.Files.{SameFiles};
 ghost use Rattle.outside.specs.Told.{Goes, Rose};
 ghost use Rattle.audit_mode.specs.declared.error.AuditError.{AuditError};
 ghost use Rattle.audit_mode.specs.Commands.{command_parts};
-ghost use Rattle.audit_mode.specs.Outcome.{IsAnswered, IsAnswerOf, IsFileError, IsLogError, IsOutcome, answer_status, ends_before_line, status_of};
+ghost use Rattle.audit_mode.specs.Outcome.{IsAnswered, IsAnswerOf, IsFileError, IsLogError, IsOutcome, answer_status};
+ghost use Rattle.audit_mode.specs.Outcome.{ends_before_line, status_of};
 
 use crate::command::AuditCommand;
 use crate::error::AuditError;

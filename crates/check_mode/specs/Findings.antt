@@ -6,11 +6,13 @@ use Rattle.service_reading.specs.Found.{FoundService}
 use Rattle.check_mode.specs.declared.fault.CheckFault.{CheckFault}
 use Rattle.check_mode.specs.declared.fault.CheckFault.TheVariants as faults
 use Rattle.check_mode.specs.declared.finding.Finding.{Finding}
-use Rattle.check_mode.specs.declared.finding.Finding.TheVariants.{Right, SetupMissing, SetupRefused, WordsMissing, WordsRefused}
+use Rattle.check_mode.specs.declared.finding.Finding.TheVariants.{Right, SetupMissing, SetupRefused, WordsMissing}
+use Rattle.check_mode.specs.declared.finding.Finding.TheVariants.{WordsRefused}
 
 -- what is found of a setup and its word list, by what the files say
 abbrev pub told_by : Result FoundService ServiceError → Result Finding CheckFault
-told_by (Ok found) = Ok (Right (length found.entries.accounts) found.entries.counts.workers found.entries.counts.requests)
+told_by (Ok found) =
+    Ok (Right (length found.entries.accounts) found.entries.counts.workers found.entries.counts.requests)
 told_by (Err errors.SetupMissing) = Ok SetupMissing
 told_by (Err (errors.SetupRefused fault)) = Ok (SetupRefused fault)
 told_by (Err errors.WordsMissing) = Ok WordsMissing

@@ -22,13 +22,15 @@ abbrev pub IsFinding : List Key → Option Contents → List ℕ → Finding →
 IsFinding forms contents name finding = IfSome contents (λ files. told_by (service_in forms files name) ≡ Ok finding)
 
 -- what each end of `check` means: what was found was sent, whole or in part, or nothing was sent
-abbrev pub IsOutcome : List Key → List ℕ → Option Contents → Option Link → Option Link → Type 0 → Type 0 → Result Finding CheckFault → Type 0
+abbrev pub IsOutcome : List Key → List ℕ → Option Contents → Option Link → Option Link → Type 0 → Type 0
+    → Result Finding CheckFault → Type 0
 IsOutcome forms name contents before after ReadFailed EndsFailed (Ok finding) =
     IsFinding forms contents name finding × Goes (Exchanged [] (line_of finding)) before after
 IsOutcome forms name contents before after ReadFailed EndsFailed (Err faults.ReadFailed) = ReadFailed × (after ≡ before)
 IsOutcome forms name contents before after ReadFailed EndsFailed (Err faults.OutOfMemory) = after ≡ before
 IsOutcome forms name contents before after ReadFailed EndsFailed (Err faults.EndsFailed) =
-    EndsFailed × ((finding : Finding) × IsFinding forms contents name finding × SendsPart (line_of finding) before after)
+    EndsFailed × ((finding : Finding) × IsFinding forms contents name finding × SendsPart (line_of finding) before
+        after)
 
 -- whether the mode ended before its line
 abbrev pub ends_before_line : Result Finding CheckFault → Bool

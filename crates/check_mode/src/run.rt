@@ -24,7 +24,8 @@ pub fn run_check<F: Files, I: Information, E: Stream>(
     files: &mut F,
     ends: &mut E,
 ) -> Result<Finding, CheckFault>
-    ensures outcome { IsOutcome (I.forms information.now) setup.now (F.contents files.new) (E.link ends.old) (E.link ends.new)
+    ensures outcome { IsOutcome (I.forms information.now) setup.now (F.contents files.new) (E.link ends.old)
+        (E.link ends.new)
         (Rose (F.read_faults files.old) (F.read_faults files.new))
         (Rose (E.faults ends.old) (E.faults ends.new)) result }
     ensures untold { ends_before_line result ≡ true → ends.new ≡ ends.old }
@@ -58,7 +59,9 @@ fn find<F: Files, I: Information>(
 
 /// What a setup and a word list that were read, or not, tell.
 fn told_by(read: Result<ServiceParts, ServiceError>) -> Result<Finding, CheckFault>
-    ensures ok { IfOk read (λ parts. result ≡ told_by (Ok (record { entries = entries_of parts.setup; words = parts.dictionary }))) }
+    ensures
+        ok { IfOk read
+        (λ parts. result ≡ told_by (Ok (record { entries = entries_of parts.setup; words = parts.dictionary }))) }
     ensures err { IfErr read (λ error. result ≡ told_by (Err error)) }
 {
     match read {

@@ -15,7 +15,8 @@ abbrev pub start_outcome : {X : Type 0} → Result X KeeperFault → Result (Uni
 start_outcome (Ok _) = Ok tt
 start_outcome (Err _) = Err (record {})
 
--- a child that was just started, by its role, by what its stream tells and counts, and by what its post tells: it has this role, nothing passed yet, and it has to send what is planned for it
+-- a child that was just started, by its role, by what its stream tells and counts, and by what its post
+-- tells: it has this role, nothing passed yet, and it has to send what is planned for it
 pub record IsNewChild (role : Role) (own : Role) (link : Option Link) (faults : ℕ) (scene : Option Scene) : Type 0 where
   pub right : own ≡ role
   pub unused : IfSome link IsUnused
@@ -23,7 +24,8 @@ pub record IsNewChild (role : Role) (own : Role) (link : Option Link) (faults : 
   pub faultless : faults ≡ 0
 
 -- the child before the login was given back, and then a start of the user's was tried; nothing else was done
-pub record ChangesChild (pre : Role) (link : Option Link) (user : Role) (outcome : Result (Unit {0}) Failed) (before after : Option Scene) : Type 0 where
+pub record ChangesChild (pre : Role) (link : Option Link) (user : Role) (outcome : Result (Unit {0}) Failed)
+    (before after : Option Scene) : Type 0 where
   pub between : Option Scene
   pub given_back : GivenBack pre link before between
   pub started : Did (Start user outcome) between after

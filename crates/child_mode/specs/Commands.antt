@@ -7,4 +7,5 @@ use Rattle.child_mode.specs.Words.{ChildParts}
 
 abbrev pub parts_of : ChildCommand → ChildParts
 parts_of (commands.Pre session) = record { role = Pre; session = session }
-parts_of (commands.User session uid user) = record { role = User (record { uid = uid; name = name_bytes user }); session = session }
+parts_of (commands.User session uid user) =
+    record { role = User (record { uid = uid; name = name_bytes user }); session = session }

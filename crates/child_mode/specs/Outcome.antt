@@ -9,7 +9,8 @@ use Rattle.child_mode.specs.declared.run.ChildRun.TheVariants as runs
 use Rattle.child_mode.specs.Words.{ChildParts}
 
 -- the run is that of the child over its link, and a link that failed was counted
-pub record IsEndedRun (parts : ChildParts) (end : ChildEnd) (before after : Option Link) (EndsFailed : Type 0) : Type 0 where
+pub record IsEndedRun (parts : ChildParts) (end : ChildEnd) (before after : Option Link)
+    (EndsFailed : Type 0) : Type 0 where
   pub run : HasRun parts.role parts.session end before after
   pub fault : end ≡ ends.LinkFault → EndsFailed
 

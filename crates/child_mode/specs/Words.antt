@@ -1,5 +1,6 @@
 -- Believed: the command lines of the modes of the children.
-use Rattle.std.specs.Prelude.{ℕ, ◌&&◌, nat_le, if◌then◌else◌, List, [], ◌∷◌, codes, Option, Some, None, option_map, option_and_then}
+use Rattle.std.specs.Prelude.{ℕ, ◌&&◌, nat_le, if◌then◌else◌, List, [], ◌∷◌, codes, Option, Some, None, option_map}
+use Rattle.std.specs.Prelude.{option_and_then}
 use Rattle.std.specs.Bool.{then_some}
 use Rattle.std.specs.Str.{bytes_eq}
 use Rattle.request_catalogue.specs.Texts.{is_name}
@@ -34,7 +35,8 @@ pre_parts mode session =
 abbrev pub user_parts : List ℕ → List ℕ → List ℕ → List ℕ → Option ChildParts
 user_parts mode session uid name =
     if bytes_eq mode (codes "child-user") && is_name name
-    then option_and_then (λ s. option_map (λ u. record { role = User (record { uid = u; name = name }); session = s }) (number_within uid_max uid)) (number_within session_max session)
+    then option_and_then (λ s. option_map (λ u. record { role = User (record { uid = u; name = name }); session = s })
+        (number_within uid_max uid)) (number_within session_max session)
     else None
 
 -- what the command line `child-pre SESSION` or `child-user SESSION UID NAME` asks for; any other asks for nothing

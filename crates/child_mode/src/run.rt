@@ -64,7 +64,8 @@ fn take_memory(alloc: Global) -> Result<Memory, AllocError>
 
 /// Runs the child that a command names over the ends, the monitor's side of which is its link.
 pub fn run_child_mode<E: Stream>(alloc: Global, command: &ChildCommand, ends: &mut E) -> ChildRun
-    ensures outcome { IsOutcome (parts_of command.now) (E.link ends.old) (E.link ends.new) (Rose (E.faults ends.old) (E.faults ends.new)) result }
+    ensures outcome { IsOutcome (parts_of command.now) (E.link ends.old) (E.link ends.new)
+        (Rose (E.faults ends.old) (E.faults ends.new)) result }
     ensures untold { result ≡ OutOfMemory → ends.new ≡ ends.old }
     ensures faults { E.faults ends.old ≤ E.faults ends.new }
 {

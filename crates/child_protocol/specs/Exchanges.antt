@@ -1,5 +1,6 @@
 -- Believed: what a child asked and was answered, by the whole list.
-use Rattle.std.specs.Prelude.{ℕ, zero, suc, Bool, true, false, List, [], ◌∷◌, ◌++◌, Result, Ok, Err, nat_le, not, ◌&&◌, ◌||◌, cond}
+use Rattle.std.specs.Prelude.{ℕ, zero, suc, Bool, true, false, List, [], ◌∷◌, ◌++◌, Result, Ok, Err, nat_le, not, ◌&&◌}
+use Rattle.std.specs.Prelude.{◌||◌, cond}
 use Rattle.request_catalogue.specs.Catalogue.{RequestValue, Challenge, Reply, Abandon, Import, ReadAt, WriteAt, Finish}
 use Rattle.request_catalogue.specs.Replies.{AnswerValue, Done, Denied}
 use Rattle.child_protocol.specs.Lines.{Front, More, behind_lines, front_of}

@@ -18,7 +18,8 @@ frame_width = widths.Narrow
 unfoldable pub request_bytes : RequestValue → List ℕ
 request_bytes request = spelling_of frame_width (request_message request)
 
--- the request's frame stands in front of the buffer, and after it what stood there; in either width it is this frame, and
+-- the request's frame stands in front of the buffer, and after it what
+-- stood there; in either width it is this frame, and
 -- read as this request of the catalogue
 pub record IsPut (request : RequestValue) (len : ℕ) (old new : List ℕ) : Type 0 where
   pub len_is : len ≡ length (request_bytes request)

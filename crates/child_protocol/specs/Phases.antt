@@ -1,4 +1,5 @@
--- Inner: the phase of a child's session, by what it asked and was answered, and what the phase table says of its next request.
+-- Inner: the phase of a child's session, by what it asked and was
+-- answered, and what the phase table says of its next request.
 use Rattle.std.specs.Prelude.{◌≡◌, Bool, true, false, List, [], ◌∷◌, not, ◌&&◌, ◌||◌, ◌==◌}
 use Rattle.request_catalogue.specs.declared.kind.Kind.{Kind}
 use Rattle.request_catalogue.specs.Kinds.{kind_number}
@@ -46,4 +47,5 @@ row_allows row had = row.permitted && not (row.once && had)
 
 -- the phase table allows the request after these exchanges
 abbrev pub IsAllowed : Role → RequestValue → List Exchange → Type 0
-IsAllowed role request history = row_allows (table_row (phase_in role history) (kind_of request)) (was_had (is_of (kind_of request)) history) ≡ true
+IsAllowed role request history =
+    row_allows (table_row (phase_in role history) (kind_of request)) (was_had (is_of (kind_of request)) history) ≡ true

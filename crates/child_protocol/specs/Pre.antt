@@ -1,7 +1,9 @@
 -- Believed: the dialogue of the child before the login.
-use Rattle.std.specs.Prelude.{ℕ, zero, suc, Bool, true, false, List, [], ◌∷◌, ◌++◌, length, Option, Some, None, codes, cond}
+use Rattle.std.specs.Prelude.{ℕ, zero, suc, Bool, true, false, List, [], ◌∷◌, ◌++◌, length, Option, Some, None, codes}
+use Rattle.std.specs.Prelude.{cond}
 use Rattle.std.specs.Fmt.{decimal}
-use Rattle.request_catalogue.specs.Catalogue.{RequestValue, Banner, Challenge, Reply, Abandon, Export, ReadAt, WriteAt, Finish}
+use Rattle.request_catalogue.specs.Catalogue.{RequestValue, Banner, Challenge, Reply, Abandon, Export, ReadAt, WriteAt}
+use Rattle.request_catalogue.specs.Catalogue.{Finish}
 use Rattle.request_catalogue.specs.Replies.{AnswerValue, Done, Denied, Device}
 use Rattle.child_protocol.specs.Lines.{Front, More, TooLong, Line, behind_lines, front_of}
 use Rattle.child_protocol.specs.Commands.{PreCommand, Terminal, User, Respond, Cancel, Quit, pre_command}
@@ -63,7 +65,9 @@ terminal_in (suc count) bytes = terminal_at (front_of (behind_lines count bytes)
 
 -- the state once so many lines were taken: terminal, unread bytes, and the counts of lines and of bytes
 abbrev pub state_at : ℕ → List ℕ → StateValue
-state_at lines bytes = record { terminal = terminal_in lines bytes; unread = behind_lines lines bytes; lines = lines; bytes = length bytes }
+state_at lines bytes =
+    record { terminal = terminal_in lines bytes; unread = behind_lines lines bytes; lines = lines;
+        bytes = length bytes }
 
 -- the state that the child before the login exports after these exchanges
 abbrev pub pre_state : List Exchange → StateValue
@@ -97,4 +101,5 @@ unfoldable pub pre_next : List Exchange → Option RequestValue
 pre_next [] = Some Banner
 pre_next (e ∷ before) =
     cond (ends_child e.request e.answer) None
-    (Some (pre_follows e.request e.answer (pre_is_last (underway before)) (pre_first (underway (e ∷ before)) (is_challenged (e ∷ before))) (pre_state (e ∷ before))))
+    (Some (pre_follows e.request e.answer (pre_is_last (underway before))
+        (pre_first (underway (e ∷ before)) (is_challenged (e ∷ before))) (pre_state (e ∷ before))))

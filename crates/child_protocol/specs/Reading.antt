@@ -19,7 +19,8 @@ front_value (fronts.Line text len) = lines.Line text.now
 
 -- how long a line is with its newline
 abbrev pub IsLineOf : List ℕ → Front → Type 0
-IsLineOf bytes (fronts.Line text len) = (len ≤ length bytes) × (drop len bytes ≡ lines.behind_line bytes) × (is_some (lines.line_end bytes) ≡ true)
+IsLineOf bytes (fronts.Line text len) =
+    (len ≤ length bytes) × (drop len bytes ≡ lines.behind_line bytes) × (is_some (lines.line_end bytes) ≡ true)
 IsLineOf bytes fronts.More = length bytes ≤ 300
 IsLineOf bytes fronts.TooLong = Unit {0}
 

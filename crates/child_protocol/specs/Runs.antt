@@ -1,5 +1,6 @@
 -- Believed: what a child's run sends and takes, and how it ends.
-use Rattle.std.specs.Prelude.{◌≡◌, ◌⊎◌, ℕ, ◌<◌, ◌≤◌, List, [], ◌∷◌, ◌++◌, length, take, Option, Some, None, Result, Ok, Err, IfSome}
+use Rattle.std.specs.Prelude.{◌≡◌, ◌⊎◌, ℕ, ◌<◌, ◌≤◌, List, [], ◌∷◌, ◌++◌, length, take, Option, Some, None, Result, Ok}
+use Rattle.std.specs.Prelude.{Err, IfSome}
 use Rattle.imsg_frame.specs.Message.{Message, spelling_of, IsMessage}
 use Rattle.imsg_frame.specs.Cut.{IsWholeFront, IsPartialFront, IsBadFront}
 use Rattle.outside.specs.Link.{Link, Exchanged}
@@ -29,7 +30,9 @@ abbrev pub AreReplies : ℕ → List Exchange → List Message → Type 0
 AreReplies session [] [] = Unit {0}
 AreReplies session [] (message ∷ messages) = ⊥
 AreReplies session (e ∷ before) [] = ⊥
-AreReplies session (e ∷ before) (message ∷ messages) = IsMessage frame_width 16384 message × IsReply session e.request message e.answer × AreReplies session before messages
+AreReplies session (e ∷ before) (message ∷ messages) =
+    IsMessage frame_width 16384 message × IsReply session e.request message e.answer
+    × AreReplies session before messages
 
 -- a message replies to this request with no answer at all
 abbrev pub IsNoReply : ℕ → RequestValue → Message → Type 0
@@ -37,15 +40,23 @@ IsNoReply session request message = (answer : AnswerValue) → IsReply session r
 
 -- the table of ends: which answers a child had, which bytes it took after their replies, and what it sent
 abbrev pub EndsSo : ChildEnd → Role → ℕ → List AnswerValue → List ℕ → List ℕ → Option Link → Type 0
-EndsSo ends.Done role session answers rest sent link = (says role answers ≡ None) × (sent ≡ asked_bytes (exchanges_of role answers))
-EndsSo ends.Spent role session answers rest sent link = (length answers ≡ 4097) × (sent ≡ asked_bytes (exchanges_of role answers)) × ((request : RequestValue) × (says role answers ≡ Some request))
+EndsSo ends.Done role session answers rest sent link =
+    (says role answers ≡ None) × (sent ≡ asked_bytes (exchanges_of role answers))
+EndsSo ends.Spent role session answers rest sent link =
+    (length answers ≡ 4097) × (sent ≡ asked_bytes (exchanges_of role answers))
+    × ((request : RequestValue) × (says role answers ≡ Some request))
 EndsSo ends.LinkEnded role session answers rest sent link =
-    (request : RequestValue) × (says role answers ≡ Some request) × (sent ≡ asked_bytes (exchanges_of role answers) ++ request_bytes request) × IsPartialFront frame_width 16384 rest × IfSome link (λ l. l.left ≡ [])
+    (request : RequestValue) × (says role answers ≡ Some request)
+        × (sent ≡ asked_bytes (exchanges_of role answers) ++ request_bytes request) × IsPartialFront frame_width 16384
+        rest × IfSome link (λ l. l.left ≡ [])
 EndsSo ends.Unreadable role session answers rest sent link =
-    (request : RequestValue) × (says role answers ≡ Some request) × (sent ≡ asked_bytes (exchanges_of role answers) ++ request_bytes request)
-    × (((len : ℕ) × IsBadFront frame_width 16384 rest len) ⊎ ((message : Message) × IsWholeFront frame_width 16384 rest message × IsNoReply session request message))
+    (request : RequestValue) × (says role answers ≡ Some request)
+        × (sent ≡ asked_bytes (exchanges_of role answers) ++ request_bytes request)
+    × (((len : ℕ) × IsBadFront frame_width 16384 rest len)
+        ⊎ ((message : Message) × IsWholeFront frame_width 16384 rest message × IsNoReply session request message))
 EndsSo ends.LinkFault role session answers rest sent link =
-    (request : RequestValue) × (says role answers ≡ Some request) × ((n : ℕ) × (sent ≡ asked_bytes (exchanges_of role answers) ++ take n (request_bytes request)))
+    (request : RequestValue) × (says role answers ≡ Some request)
+        × ((n : ℕ) × (sent ≡ asked_bytes (exchanges_of role answers) ++ take n (request_bytes request)))
 
 -- a child's run over its link: it took the replies of some answers, at most 4,097, sent the requests that they lead to,
 -- and ended so
@@ -61,7 +72,8 @@ pub record HasRun (role : Role) (session : ℕ) (end : ChildEnd) (before after :
   pub ends_so : EndsSo end role session answers rest sent after
 
 -- a run is underway: this request was put, and all before it were sent and answered
-pub record IsRunning (role : Role) (session : ℕ) (stands : List AnswerValue → Type 0) (count len : ℕ) (out held : List ℕ) (before after : Option Link) : Type 0 where
+pub record IsRunning (role : Role) (session : ℕ) (stands : List AnswerValue → Type 0) (count len : ℕ)
+    (out held : List ℕ) (before after : Option Link) : Type 0 where
   pub answers : List AnswerValue
   pub stands_for : stands answers
   pub counted : length answers ≡ count
@@ -76,8 +88,11 @@ pub record IsRunning (role : Role) (session : ℕ) (stands : List AnswerValue �
 
 -- what came of waiting for a frame: with these bytes held and received, one was taken; or the end comes
 abbrev pub Hears : Result Turn ChildEnd → (Message → Turn → Type 0) → List ℕ → List ℕ → Option Link → Type 0
-Hears (Ok turn) Took bytes held link = (message : Message) × IsMessage frame_width 16384 message × (bytes ≡ spelling_of frame_width message ++ held) × Took message turn
-Hears (Err ends.LinkEnded) Took bytes held link = IsPartialFront frame_width 16384 bytes × IfSome link (λ l. l.left ≡ [])
+Hears (Ok turn) Took bytes held link =
+    (message : Message) × IsMessage frame_width 16384 message × (bytes ≡ spelling_of frame_width message ++ held)
+    × Took message turn
+Hears (Err ends.LinkEnded) Took bytes held link =
+    IsPartialFront frame_width 16384 bytes × IfSome link (λ l. l.left ≡ [])
 Hears (Err ends.Unreadable) Took bytes held link = (len : ℕ) × IsBadFront frame_width 16384 bytes len
 Hears (Err ends.LinkFault) Took bytes held link = Unit {0}
 Hears (Err _) Took bytes held link = ⊥

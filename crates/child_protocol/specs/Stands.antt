@@ -30,7 +30,9 @@ pub record Kept : Type 0 where
   pub read : ℕ
 
 abbrev pub kept_of : PreDialogue → Kept
-kept_of core = record { place = core.place; held = core.held.items; terminal = list_of core.terminal; challenged = core.challenged; lines = core.lines; read = core.read }
+kept_of core =
+    record { place = core.place; held = core.held.items; terminal = list_of core.terminal; challenged = core.challenged;
+        lines = core.lines; read = core.read }
 
 -- the bytes, lines and choices kept are those of the exchanges
 pub record Keeps (kept : Kept) (history : List Exchange) : Type 0 where
@@ -59,9 +61,11 @@ abbrev pub IsAt : Place → Kept → List Exchange → Type 0
 IsAt places.New kept history = (history ≡ []) × IsOnLine kept []
 IsAt places.Greeting kept history = (history ≡ []) × IsOnLine kept []
 IsAt places.Saying kept history = ((text : List ℕ) × (pre_next history ≡ Some (say text))) × IsOnLine kept history
-IsAt places.Parting kept history = ((text : List ℕ) × (pre_next history ≡ Some (say text))) × (pre_is_last (underway history) ≡ true)
+IsAt places.Parting kept history =
+    ((text : List ℕ) × (pre_next history ≡ Some (say text))) × (pre_is_last (underway history) ≡ true)
 IsAt places.Reading kept history = (pre_next history ≡ Some read_more) × IsReading kept history
-IsAt places.Challenging kept history = ((user : List ℕ) × (pre_next history ≡ Some (Challenge user))) × IsOnLine kept history
+IsAt places.Challenging kept history =
+    ((user : List ℕ) × (pre_next history ≡ Some (Challenge user))) × IsOnLine kept history
 IsAt places.Replying kept history = ((text : List ℕ) × (pre_next history ≡ Some (Reply text))) × IsOnLine kept history
 IsAt places.Abandoning kept history = (pre_next history ≡ Some Abandon) × IsOnLine kept history
 IsAt places.Exporting kept history = (state : List ℕ) × (pre_next history ≡ Some (Export state))
@@ -98,7 +102,8 @@ pub record TakesTo (history : List Exchange) (kept : Kept) (turn : Turn) (old ne
 
 -- of any exchanges that it stood for, a child takes an answer
 abbrev pub Takes : Kept → AnswerValue → Kept → Turn → List ℕ → List ℕ → Type 0
-Takes before answer after turn old new = (history : List Exchange) → Stands before history → TakesTo (with_answer Pre history answer) after turn old new
+Takes before answer after turn old new =
+    (history : List Exchange) → Stands before history → TakesTo (with_answer Pre history answer) after turn old new
 
 -- a child stands for fewer exchanges than a run has
 abbrev pub HasRun : Kept → Type 0

@@ -1,10 +1,13 @@
 -- Believed: the dialogue of the user's child.
-use Rattle.std.specs.Prelude.{ℕ, ◌≤◌, ◌<◌, ◌^◌, IsTrue, zero, suc, Bool, true, false, List, [], ◌∷◌, ◌++◌, length, take, drop, position, Option, Some, None, option_and_then, Result, Ok, Err, codes, nat_lt, ◌==◌, ◌&&◌, if◌then◌else◌, cond}
+use Rattle.std.specs.Prelude.{ℕ, ◌≤◌, ◌<◌, ◌^◌, IsTrue, zero, suc, Bool, true, false, List, [], ◌∷◌, ◌++◌, length, take}
+use Rattle.std.specs.Prelude.{drop, position, Option, Some, None, option_and_then, Result, Ok, Err, codes, nat_lt, ◌==◌}
+use Rattle.std.specs.Prelude.{◌&&◌, if◌then◌else◌, cond}
 use Rattle.std.specs.Bool.{then_some}
 use Rattle.std.specs.Fmt.{decimal}
 use Rattle.std.specs.Str.{bytes_eq}
 use Rattle.std.specs.Int.{w32, from_le_bytes}
-use Rattle.request_catalogue.specs.Catalogue.{RequestValue, Import, ReadAt, WriteAt, OpenFile, CloseFile, Info, Note, Finish}
+use Rattle.request_catalogue.specs.Catalogue.{RequestValue, Import, ReadAt, WriteAt, OpenFile, CloseFile, Info, Note}
+use Rattle.request_catalogue.specs.Catalogue.{Finish}
 use Rattle.request_catalogue.specs.Replies.{AnswerValue, Done, Denied, Device}
 use Rattle.request_catalogue.specs.Texts.{is_label, is_note, is_text}
 use Rattle.text_line.specs.Reading.{decimal_of}
@@ -149,7 +152,9 @@ pub record Who : Type 0 where
 -- what follows the IMPORT: a welcome if the record names the user whom the child serves, otherwise FINISH
 abbrev pub greeting_of : Who → Result ImportValue ImportFault → RequestValue
 greeting_of who (Err fault) = Finish
-greeting_of who (Ok found) = if found.uid == who.uid && bytes_eq found.user who.name then say (codes "welcome " ++ who.name ++ codes "\n") else Finish
+greeting_of who (Ok found) =
+    if found.uid == who.uid && bytes_eq found.user who.name then say (codes "welcome " ++ who.name ++ codes "\n")
+    else Finish
 
 -- what follows a READ: a file is closed; from the client more bytes lead on, and none lead to FINISH
 abbrev pub read_done : ℕ → List ℕ → RequestValue → RequestValue

@@ -6,7 +6,8 @@ use Rattle.request_catalogue.specs.Replies.{AnswerValue}
 use Rattle.child_protocol.specs.Lines.{Front, More, TooLong, Line, behind_line}
 use Rattle.child_protocol.specs.Exchanges.{Exchange, texts_of, underway}
 use Rattle.child_protocol.specs.Pre.{say, read_more}
-use Rattle.child_protocol.specs.User.{Who, UserCommand, Get, Put, command_at, file_text, user_command, user_is_last, user_next}
+use Rattle.child_protocol.specs.User.{Who, UserCommand, Get, Put, command_at, file_text, user_command, user_is_last}
+use Rattle.child_protocol.specs.User.{user_next}
 use Rattle.child_protocol.specs.Says.{User, with_answer, exchanges_of}
 use Rattle.child_protocol.specs.Frames.{IsTurn}
 use Rattle.child_protocol.specs.Holding.{Holds}
@@ -25,7 +26,9 @@ pub record Kept : Type 0 where
   pub handle : ℕ
 
 abbrev pub kept_of : UserDialogue → Kept
-kept_of core = record { who = record { uid = core.uid; name = name_bytes core.user }; place = core.place; held = core.held.items; text = core.text.items; handle = core.handle }
+kept_of core =
+    record { who = record { uid = core.uid; name = name_bytes core.user }; place = core.place; held = core.held.items;
+        text = core.text.items; handle = core.handle }
 
 -- a line, or the greeting, is underway, and after its text comes the next line
 pub record IsOnLine (bytes : List ℕ) (history : List Exchange) : Type 0 where
@@ -43,16 +46,30 @@ pub record IsReading (bytes : List ℕ) (history : List Exchange) : Type 0 where
 abbrev pub IsAt : UserPlace → Kept → List Exchange → Type 0
 IsAt places.New kept history = history ≡ []
 IsAt places.Importing kept history = history ≡ []
-IsAt places.Saying kept history = ((text : List ℕ) × (user_next kept.who history ≡ Some (say text))) × IsOnLine kept.held history
-IsAt places.Parting kept history = ((text : List ℕ) × (user_next kept.who history ≡ Some (say text))) × (user_is_last (underway history) ≡ true)
+IsAt places.Saying kept history =
+    ((text : List ℕ) × (user_next kept.who history ≡ Some (say text))) × IsOnLine kept.held history
+IsAt places.Parting kept history =
+    ((text : List ℕ) × (user_next kept.who history ≡ Some (say text))) × (user_is_last (underway history) ≡ true)
 IsAt places.Reading kept history = (user_next kept.who history ≡ Some read_more) × IsReading kept.held history
-IsAt places.OpeningGet kept history = ((name : List ℕ) × (user_next kept.who history ≡ Some (OpenFile 1 name)) × (command_at (underway history) ≡ Get name)) × IsOnLine kept.held history
-IsAt places.OpeningPut kept history = ((name : List ℕ) × (user_next kept.who history ≡ Some (OpenFile 2 name)) × (command_at (underway history) ≡ Put name kept.text) × (1 ≤ length kept.text)) × IsOnLine kept.held history
-IsAt places.Getting kept history = ((file : ℕ) × (user_next kept.who history ≡ Some (ReadAt (suc file) 0 4000)) × (kept.handle ≡ suc file)) × IsOnLine kept.held history
-IsAt places.Putting kept history = ((file : ℕ) × (text : List ℕ) × (user_next kept.who history ≡ Some (WriteAt (suc file) 0 text)) × (kept.handle ≡ suc file)) × IsOnLine kept.held history
-IsAt places.Closing kept history = ((handle : ℕ) × (user_next kept.who history ≡ Some (CloseFile handle)) × (file_text history ≡ say kept.text) × (1 ≤ length kept.text)) × IsOnLine kept.held history
-IsAt places.Noting kept history = ((text : List ℕ) × (user_next kept.who history ≡ Some (Note text))) × IsOnLine kept.held history
-IsAt places.Asking kept history = ((number : ℕ) × (user_next kept.who history ≡ Some (Info number))) × IsOnLine kept.held history
+IsAt places.OpeningGet kept history =
+    ((name : List ℕ) × (user_next kept.who history ≡ Some (OpenFile 1 name))
+    × (command_at (underway history) ≡ Get name)) × IsOnLine kept.held history
+IsAt places.OpeningPut kept history =
+    ((name : List ℕ) × (user_next kept.who history ≡ Some (OpenFile 2 name))
+    × (command_at (underway history) ≡ Put name kept.text) × (1 ≤ length kept.text)) × IsOnLine kept.held history
+IsAt places.Getting kept history =
+    ((file : ℕ) × (user_next kept.who history ≡ Some (ReadAt (suc file) 0 4000)) × (kept.handle ≡ suc file))
+    × IsOnLine kept.held history
+IsAt places.Putting kept history =
+    ((file : ℕ) × (text : List ℕ) × (user_next kept.who history ≡ Some (WriteAt (suc file) 0 text))
+    × (kept.handle ≡ suc file)) × IsOnLine kept.held history
+IsAt places.Closing kept history =
+    ((handle : ℕ) × (user_next kept.who history ≡ Some (CloseFile handle)) × (file_text history ≡ say kept.text)
+    × (1 ≤ length kept.text)) × IsOnLine kept.held history
+IsAt places.Noting kept history =
+    ((text : List ℕ) × (user_next kept.who history ≡ Some (Note text))) × IsOnLine kept.held history
+IsAt places.Asking kept history =
+    ((number : ℕ) × (user_next kept.who history ≡ Some (Info number))) × IsOnLine kept.held history
 IsAt places.Finishing kept history = user_next kept.who history ≡ Some Finish
 IsAt places.Ended kept history = user_next kept.who history ≡ None
 
@@ -69,7 +86,9 @@ text_by _ before = before
 abbrev pub kept_behind : Front → Kept → Kept
 kept_behind More kept = record kept { place = places.Reading }
 kept_behind TooLong kept = record kept { place = places.Parting }
-kept_behind (Line text) kept = record kept { place = user_place_by (user_command text); held = behind_line kept.held; text = text_by (user_command text) kept.text }
+kept_behind (Line text) kept =
+    record kept { place = user_place_by (user_command text); held = behind_line kept.held;
+        text = text_by (user_command text) kept.text }
 
 -- a text to put in a file has bytes
 abbrev pub HasText : Kept → Type 0
@@ -111,7 +130,8 @@ pub record TakesTo (history : List Exchange) (kept : Kept) (turn : Turn) (old ne
 -- of any exchanges that it stood for, a child takes an answer, and serves whom it served
 pub record Takes (before : Kept) (answer : AnswerValue) (after : Kept) (turn : Turn) (old new : List ℕ) : Type 0 where
   pub who : after.who ≡ before.who
-  pub takes : (history : List Exchange) → Stands before history → TakesTo (with_answer (User before.who) history answer) after turn old new
+  pub takes : (history : List Exchange) → Stands before history → TakesTo (with_answer (User before.who) history answer)
+      after turn old new
 
 -- a child stands for some exchanges
 abbrev pub HasRun : Kept → Type 0

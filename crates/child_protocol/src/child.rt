@@ -39,8 +39,10 @@ impl PreChild {
     /// The answer to the last request, if the frame is a reply to it.
     fn answer_in<'a>(&self, frame: &Frame<'a>) -> Option<Answer<'a>>
         requires { IsAsked self.now.dialogue.place }
-        ensures found { IfSome result (λ a. IsReplyOf self.now.session (kind_at self.now.dialogue.place) (form_at self.now.dialogue.place) (message_of frame.now) (answer_of a)) }
-        ensures only { (answer : AnswerValue) → IsReplyOf self.now.session (kind_at self.now.dialogue.place) (form_at self.now.dialogue.place) (message_of frame.now) answer
+        ensures found { IfSome result (λ a. IsReplyOf self.now.session (kind_at self.now.dialogue.place)
+            (form_at self.now.dialogue.place) (message_of frame.now) (answer_of a)) }
+        ensures only { (answer : AnswerValue) → IsReplyOf self.now.session (kind_at self.now.dialogue.place)
+            (form_at self.now.dialogue.place) (message_of frame.now) answer
             → IsSomeAnd result (λ a. answer_of a ≡ answer) }
     {
         let place = self.dialogue.place;

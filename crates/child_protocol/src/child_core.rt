@@ -45,5 +45,6 @@ pub trait ChildCore {
         ensures session { session self.new ≡ session self.old }
         ensures asked { WhereAsked result (is_asked self.new) }
         ensures takes { (answers : List AnswerValue) → stands self.old answers
-            → TakesMessage (role self.old) (session self.old) answers (message_of frame.now) (stands self.new) result out.old out.new };
+            → TakesMessage (role self.old) (session self.old) answers (message_of frame.now) (stands self.new) result
+            out.old out.new };
 }

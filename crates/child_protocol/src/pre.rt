@@ -41,7 +41,8 @@ impl PreDialogue {
     ghost use Rattle.state_export.specs.Spelling.{IsState, state_bytes, value_of};
     ghost use Rattle.child_protocol.specs.Pre.{say, pre_first};
     ghost use Rattle.child_protocol.specs.Frames.{IsPut, IsTurn};
-    ghost use Rattle.child_protocol.specs.Stands.{kept_of, kept_behind, kept_state, at_saying, form_at, Stands, HasRun, IsAsked, Takes};
+    ghost use Rattle.child_protocol.specs.Stands.{kept_of, kept_behind, kept_state, at_saying, form_at, Stands, HasRun};
+    ghost use Rattle.child_protocol.specs.Stands.{IsAsked, Takes};
     ghost use Rattle.child_protocol.specs.Replies.{FitsForm};
 
     /// A child that asked nothing yet.
@@ -152,7 +153,8 @@ impl PreDialogue {
         requires small { rule ≤ 22 }
         requires asked { IsAsked self.old.place }
         requires room { 16384 ≤ length out.old }
-        ensures { (detail : ℕ) → Takes (kept_of self.old) (Denied rule detail) (kept_of self.new) result out.old out.new }
+        ensures { (detail : ℕ) → Takes (kept_of self.old) (Denied rule detail) (kept_of self.new) result out.old
+            out.new }
     {
         match self.place {
             Place::Challenging => self.say_denied(rule, out),
@@ -238,7 +240,8 @@ impl PreDialogue {
     fn next_line(&mut self, out: &mut [u8]) -> Turn
         requires room { 16384 ≤ length out.old }
         requires few { self.old.lines + 1 < 2 ^ 32 }
-        ensures turn { IsTurn (Some (pre_first (front_of self.old.held.items) self.old.challenged)) result out.old out.new }
+        ensures turn { IsTurn (Some (pre_first (front_of self.old.held.items) self.old.challenged)) result out.old
+            out.new }
         ensures kept { kept_of self.new ≡ kept_behind (front_of self.old.held.items) (kept_of self.old) }
     {
         let len = self.ask_line(out);
@@ -293,7 +296,8 @@ impl PreDialogue {
 fn state_of<'a>(terminal: &'a [u8], unread: &'a [u8], lines: u32, bytes: u32) -> State<'a>
     requires terminal { length terminal.now ≤ 64 }
     requires unread { length unread.now ≤ 4096 }
-    ensures value { value_of result ≡ record { terminal = terminal.now; unread = unread.now; lines = lines; bytes = bytes } }
+    ensures value { value_of result ≡ record { terminal = terminal.now; unread = unread.now; lines = lines;
+        bytes = bytes } }
     ensures in_range { IsState (value_of result) }
 {
     State {

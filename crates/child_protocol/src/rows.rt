@@ -20,5 +20,6 @@ pub fn user_dialogue()
 /// A law: the phase table has a cell for each request of either child, in the phase that its
 /// answers give, and no request that is permitted once was had before.
 pub fn each_request_is_allowed()
-    ensures { (role : Role) (answers : List AnswerValue) (request : RequestValue) → says role answers ≡ Some request → IsAllowed role request (exchanges_of role answers) }
+    ensures { (role : Role) (answers : List AnswerValue) (request : RequestValue) → says role answers ≡ Some request
+        → IsAllowed role request (exchanges_of role answers) }
 {}

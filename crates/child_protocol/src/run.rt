@@ -81,7 +81,8 @@ fn hear<C: ChildCore, E: Stream>(
     ensures within { length reader.new.bytes ≤ reader.new.max }
     ensures hears { (bytes : List ℕ) × Receives reader.old.bytes bytes (E.link link.old) (E.link link.new)
         × Hears result (λ message turn. (answers : List AnswerValue) → C.stands core.old answers
-        → TakesMessage (C.role core.old) (C.session core.old) answers message (C.stands core.new) turn out.old out.new) bytes reader.new.bytes (E.link link.new) }
+        → TakesMessage (C.role core.old) (C.session core.old) answers message (C.stands core.new) turn out.old out.new)
+        bytes reader.new.bytes (E.link link.new) }
     ensures fault { result ≡ Err ChildEnd.LinkFault → Rose (E.faults link.old) (E.faults link.new) }
     ensures faults { E.faults link.old ≤ E.faults link.new }
     ensures link_role { E.role link.new ≡ E.role link.old }

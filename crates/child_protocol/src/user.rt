@@ -45,7 +45,9 @@ impl UserDialogue {
     ghost use Rattle.child_protocol.specs.User.{user_first};
     ghost use Rattle.child_protocol.specs.Frames.{IsPut, IsTurn};
     ghost use Rattle.child_protocol.specs.UserPlaces.{IsUserAsked, user_form_at};
-    ghost use Rattle.child_protocol.specs.UserStands.{kept_of, kept_behind, HasText, at_importing, at_saying, at_finishing, at_ended, at_getting, at_putting, at_closing, at_welcome, HasRun, Takes};
+    ghost use Rattle.child_protocol.specs.UserStands.{kept_of, kept_behind, HasText, at_importing, at_saying};
+    ghost use Rattle.child_protocol.specs.UserStands.{at_finishing, at_ended, at_getting, at_putting, at_closing};
+    ghost use Rattle.child_protocol.specs.UserStands.{at_welcome, HasRun, Takes};
     ghost use Rattle.child_protocol.specs.Replies.{FitsForm};
 
     /// A child that asked nothing yet.
@@ -167,7 +169,8 @@ impl UserDialogue {
         requires small { rule ≤ 22 }
         requires asked { IsUserAsked self.old.place }
         requires room { 16384 ≤ length out.old }
-        ensures { (detail : ℕ) → Takes (kept_of self.old) (Denied rule detail) (kept_of self.new) result out.old out.new }
+        ensures { (detail : ℕ) → Takes (kept_of self.old) (Denied rule detail) (kept_of self.new) result out.old
+            out.new }
     {
         match self.place {
             UserPlace::OpeningGet | UserPlace::OpeningPut | UserPlace::Asking => {
@@ -280,7 +283,8 @@ impl UserDialogue {
 
     /// Whether what was left is for the user.
     fn serves(&self, found: &Imported<'_>) -> bool
-        ensures { result ≡ (found.now.uid == (kept_of self.now).who.uid && bytes_eq (name_bytes found.now.user) (kept_of self.now).who.name) }
+        ensures { result ≡ (found.now.uid == (kept_of self.now).who.uid && bytes_eq (name_bytes found.now.user)
+            (kept_of self.now).who.name) }
     {
         found.uid == self.uid && found.user.as_slice() == self.user.as_slice()
     }
@@ -290,7 +294,8 @@ impl UserDialogue {
         requires few { length unread.now ≤ 4096 }
         requires room { 16384 ≤ length out.old }
         ensures kept { kept_of self.new ≡ at_welcome unread.now (kept_of self.old) }
-        ensures turn { IsTurn (Some (say (codes "welcome " ++ (kept_of self.old).who.name ++ codes "\n"))) result out.old out.new }
+        ensures turn { IsTurn (Some (say (codes "welcome " ++ (kept_of self.old).who.name ++ codes "\n"))) result
+            out.old out.new }
     {
         set(&mut self.held, unread);
         let mut text = Text::new();

@@ -40,8 +40,10 @@ impl UserChild {
     /// The answer to the last request, if the frame is a reply to it.
     fn answer_in<'a>(&self, frame: &Frame<'a>) -> Option<Answer<'a>>
         requires { IsUserAsked self.now.dialogue.place }
-        ensures found { IfSome result (λ a. IsReplyOf self.now.session (user_kind_at self.now.dialogue.place) (user_form_at self.now.dialogue.place) (message_of frame.now) (answer_of a)) }
-        ensures only { (answer : AnswerValue) → IsReplyOf self.now.session (user_kind_at self.now.dialogue.place) (user_form_at self.now.dialogue.place) (message_of frame.now) answer
+        ensures found { IfSome result (λ a. IsReplyOf self.now.session (user_kind_at self.now.dialogue.place)
+            (user_form_at self.now.dialogue.place) (message_of frame.now) (answer_of a)) }
+        ensures only { (answer : AnswerValue) → IsReplyOf self.now.session (user_kind_at self.now.dialogue.place)
+            (user_form_at self.now.dialogue.place) (message_of frame.now) answer
             → IsSomeAnd result (λ a. answer_of a ≡ answer) }
     {
         let place = self.dialogue.place;

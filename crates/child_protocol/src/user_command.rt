@@ -3,7 +3,8 @@
 ghost use Rattle.std.specs.Prelude.{◌≡◌, ◌≤◌, ◌<◌, ◌^◌, IfSome, true, length};
 ghost use Rattle.request_catalogue.specs.Catalogue.{value_of, IsInRange};
 ghost use Rattle.request_catalogue.specs.Texts.{is_label, is_note};
-ghost use Rattle.child_protocol.specs.User.{Get, Remark, IsLegalUser, if_legal, is_content, number_of, put_command, put_parts, space_in, tell_command, user_command, user_request};
+ghost use Rattle.child_protocol.specs.User.{Get, Remark, IsLegalUser, if_legal, is_content, number_of, put_command};
+ghost use Rattle.child_protocol.specs.User.{put_parts, space_in, tell_command, user_command, user_request};
 ghost use Rattle.child_protocol.specs.Frames.{frame_width};
 ghost use Rattle.child_protocol.specs.Reading.{line_value};
 ghost use Rattle.child_protocol.specs.UserPlaces.{user_place_by};

@@ -5,7 +5,8 @@ use Rattle.std.specs.Int.{w64, to_be_bytes}
 use Rattle.policy_model.specs.declared.event.Decision.{Decision}
 use Rattle.policy_model.specs.declared.event.Decision.TheVariants as decisions
 use Rattle.decision_log.specs.Log.{spaced, spaced_hex, why_text}
-use Rattle.decision_log.specs.Values.{AskValue, Begin, Banner, Challenge, Reply, Abandon, Export, Import, ReadAt, WriteAt, OpenFile, CloseFile, Info, Note, Finish, Bad, End, LineValue}
+use Rattle.decision_log.specs.Values.{AskValue, Begin, Banner, Challenge, Reply, Abandon, Export, Import, ReadAt}
+use Rattle.decision_log.specs.Values.{WriteAt, OpenFile, CloseFile, Info, Note, Finish, Bad, End, LineValue}
 
 -- what was asked; a file's name and a note in hexadecimal
 abbrev pub asked_text : AskValue → List ℕ
@@ -43,4 +44,6 @@ decided_text ask decisions.Lost = []
 
 -- the text of a line: the number, the worker, the session, the ask and the decision
 unfoldable pub line_text : LineValue → List ℕ
-line_text v = decimal v.number ++ codes " w" ++ decimal v.worker ++ codes " s" ++ decimal v.session ++ codes " " ++ asked_text v.ask ++ codes " " ++ decided_text v.ask v.decision ++ codes "\n"
+line_text v =
+    decimal v.number ++ codes " w" ++ decimal v.worker ++ codes " s" ++ decimal v.session ++ codes " "
+    ++ asked_text v.ask ++ codes " " ++ decided_text v.ask v.decision ++ codes "\n"

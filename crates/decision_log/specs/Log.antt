@@ -68,7 +68,9 @@ decision_text ask decisions.Lost = []
 
 -- the line of an event: its number, the worker, the session, the ask and the decision
 unfoldable pub line_of : ℕ → Event → List ℕ
-line_of number e = decimal number ++ codes " w" ++ decimal e.worker ++ codes " s" ++ decimal e.session ++ codes " " ++ ask_text e.ask ++ codes " " ++ decision_text e.ask e.decision ++ codes "\n"
+line_of number e =
+    decimal number ++ codes " w" ++ decimal e.worker ++ codes " s" ++ decimal e.session ++ codes " " ++ ask_text e.ask
+    ++ codes " " ++ decision_text e.ask e.decision ++ codes "\n"
 
 -- the lines of these events, numbered on from so many before them
 abbrev pub lines_after : ℕ → List Event → List ℕ

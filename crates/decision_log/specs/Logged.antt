@@ -3,7 +3,8 @@ use Rattle.request_catalogue.specs.TextBytes.{label_bytes, name_bytes, note_byte
 use Rattle.decision_log.specs.declared.logged.Logged.{Logged}
 use Rattle.decision_log.specs.declared.logged.LoggedAsk.{LoggedAsk}
 use Rattle.decision_log.specs.declared.logged.LoggedAsk.TheVariants as logged
-use Rattle.decision_log.specs.Values.{AskValue, Begin, Banner, Challenge, Reply, Abandon, Export, Import, ReadAt, WriteAt, OpenFile, CloseFile, Info, Note, Finish, Bad, End, LineValue}
+use Rattle.decision_log.specs.Values.{AskValue, Begin, Banner, Challenge, Reply, Abandon, Export, Import, ReadAt}
+use Rattle.decision_log.specs.Values.{WriteAt, OpenFile, CloseFile, Info, Note, Finish, Bad, End, LineValue}
 
 abbrev pub logged_ask : LoggedAsk → AskValue
 logged_ask logged.Begin = Begin
@@ -24,4 +25,5 @@ logged_ask (logged.Bad rule detail) = Bad rule detail
 logged_ask (logged.End why) = End why
 
 abbrev pub logged_value : Logged → LineValue
-logged_value l = record { number = l.number; worker = l.worker; session = l.session; ask = logged_ask l.what; decision = l.decision }
+logged_value l =
+    record { number = l.number; worker = l.worker; session = l.session; ask = logged_ask l.what; decision = l.decision }

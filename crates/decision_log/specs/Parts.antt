@@ -1,5 +1,6 @@
 -- Believed: the parts of a line, from left to right. A part ends at a space or a newline.
-use Rattle.std.specs.Prelude.{◌≡◌, ◌≢◌, ℕ, ◌≤◌, ◌^◌, Bool, ◌||◌, ◌&&◌, ◌==◌, List, [], ◌∷◌, drop, length, take, Option, Some, None, Result, Ok, Err, nat_le, nat_lt, if◌then◌else◌}
+use Rattle.std.specs.Prelude.{◌≡◌, ◌≢◌, ℕ, ◌≤◌, ◌^◌, Bool, ◌||◌, ◌&&◌, ◌==◌, List, [], ◌∷◌, drop, length, take, Option}
+use Rattle.std.specs.Prelude.{Some, None, Result, Ok, Err, nat_le, nat_lt, if◌then◌else◌}
 use Rattle.std.specs.Bool.{then_some}
 use Rattle.std.specs.Int.{w64, from_be_bytes}
 use Rattle.std.specs.List.{position_or_len}
@@ -51,14 +52,16 @@ one first make text = do
   Ok (record { value = make a.value; rest = a.rest })
 
 -- two parts, and the value that they make
-abbrev pub two : {A B C : Type 0} → (List ℕ → Result A LineFault) → (List ℕ → Result B LineFault) → (A → B → C) → List ℕ → Result (Read C) LineFault
+abbrev pub two : {A B C : Type 0} → (List ℕ → Result A LineFault) → (List ℕ → Result B LineFault) → (A → B → C) → List ℕ
+    → Result (Read C) LineFault
 two first second make text = do
   a ← next first text
   b ← next second a.rest
   Ok (record { value = make a.value b.value; rest = b.rest })
 
 -- three parts, and the value that they make
-abbrev pub three : {A B C D : Type 0} → (List ℕ → Result A LineFault) → (List ℕ → Result B LineFault) → (List ℕ → Result C LineFault) → (A → B → C → D) → List ℕ → Result (Read D) LineFault
+abbrev pub three : {A B C D : Type 0} → (List ℕ → Result A LineFault) → (List ℕ → Result B LineFault)
+    → (List ℕ → Result C LineFault) → (A → B → C → D) → List ℕ → Result (Read D) LineFault
 three first second third make text = do
   a ← next first text
   b ← next second a.rest

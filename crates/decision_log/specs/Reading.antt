@@ -16,8 +16,10 @@ use Rattle.decision_log.specs.declared.words.DecisionWord.{DecisionWord}
 use Rattle.decision_log.specs.declared.words.DecisionWord.TheVariants as decision_
 use Rattle.decision_log.specs.declared.words.WhyWord.{WhyWord}
 use Rattle.decision_log.specs.declared.words.WhyWord.TheVariants as why_
-use Rattle.decision_log.specs.Parts.{Read, hex_in, lettered, name_in, next, number_below, one, part, password_in, rule_in, three, two}
-use Rattle.decision_log.specs.Values.{AskValue, Begin, Banner, Challenge, Reply, Abandon, Export, Import, ReadAt, WriteAt, OpenFile, CloseFile, Info, Note, Finish, Bad, End, LineValue}
+use Rattle.decision_log.specs.Parts.{Read, hex_in, lettered, name_in, next, number_below, one, part, password_in}
+use Rattle.decision_log.specs.Parts.{rule_in, three, two}
+use Rattle.decision_log.specs.Values.{AskValue, Begin, Banner, Challenge, Reply, Abandon, Export, Import, ReadAt}
+use Rattle.decision_log.specs.Values.{WriteAt, OpenFile, CloseFile, Info, Note, Finish, Bad, End, LineValue}
 use Rattle.decision_log.specs.Words.{ask_word, ask_words, decision_word, decision_words, why_word, why_words}
 
 -- a value for which nothing more is read
@@ -97,7 +99,8 @@ value_behind session _ = done (decisions.Permit 0)
 -- what follows the word of a decision: a permit's value, or a denial's rule and detail
 abbrev pub decision_behind : ℕ → AskValue → DecisionWord → List ℕ → Result (Read Decision) LineFault
 decision_behind session ask decision_.Permit = value_behind session ask
-decision_behind session ask decision_.Deny = two (rule_in 1 22) (number_below (2 ^ 32)) (λ rule detail. decisions.Deny rule detail)
+decision_behind session ask decision_.Deny =
+    two (rule_in 1 22) (number_below (2 ^ 32)) (λ rule detail. decisions.Deny rule detail)
 
 -- the decision at the front of the rest of a line, and what is left
 abbrev pub decision_read : ℕ → AskValue → List ℕ → Result (Read Decision) LineFault
@@ -113,4 +116,6 @@ line_read text = do
   session ← next (lettered 115) worker.rest
   ask ← ask_read session.rest
   decision ← decision_read session.value ask.value ask.rest
-  demand faults.End (then_some (bytes_eq decision.rest (codes "\n")) (record { number = number.value; worker = worker.value; session = session.value; ask = ask.value; decision = decision.value }))
+  demand faults.End (then_some (bytes_eq decision.rest (codes "\n"))
+      (record { number = number.value; worker = worker.value; session = session.value; ask = ask.value;
+      decision = decision.value }))

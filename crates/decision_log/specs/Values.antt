@@ -58,7 +58,8 @@ pub record LineValue : Type 0 where
 
 -- what the line of an event says
 abbrev pub line_value : ℕ → Event → LineValue
-line_value number e = record { number = number; worker = e.worker; session = e.session; ask = ask_value e.ask; decision = e.decision }
+line_value number e =
+    record { number = number; worker = e.worker; session = e.session; ask = ask_value e.ask; decision = e.decision }
 
 -- the numbers of a reason are in their ranges: a rule from 1 to 7, a length of 16 bits
 abbrev pub IsWhy : Why → Type 0

@@ -28,7 +28,8 @@ ask_word asks.End = codes "end"
 
 -- the kinds of asks that a log shows
 unfoldable pub ask_words : List AskWord
-ask_words = asks.Open ∷ asks.Banner ∷ asks.Challenge ∷ asks.Reply ∷ asks.Abandon ∷ asks.Export ∷ asks.Import ∷ asks.Read ∷ asks.Write ∷ asks.Grant ∷ asks.Close ∷ asks.Info ∷ asks.Note ∷ asks.Finish ∷ asks.Bad ∷ asks.End ∷ []
+ask_words = asks.Open ∷ asks.Banner ∷ asks.Challenge ∷ asks.Reply ∷ asks.Abandon ∷ asks.Export ∷ asks.Import ∷ asks.Read
+    ∷ asks.Write ∷ asks.Grant ∷ asks.Close ∷ asks.Info ∷ asks.Note ∷ asks.Finish ∷ asks.Bad ∷ asks.End ∷ []
 
 -- the word that a decision begins with
 unfoldable pub decision_word : DecisionWord → List ℕ
@@ -52,4 +53,5 @@ why_word whys.LogLost = codes "log-lost"
 
 -- the kinds of reasons for an end
 unfoldable pub why_words : List WhyWord
-why_words = whys.Finished ∷ whys.ChildEnded ∷ whys.Truncated ∷ whys.BadFrame ∷ whys.Violation ∷ whys.LinkFault ∷ whys.KeeperFault ∷ whys.LogLost ∷ []
+why_words = whys.Finished ∷ whys.ChildEnded ∷ whys.Truncated ∷ whys.BadFrame ∷ whys.Violation ∷ whys.LinkFault
+    ∷ whys.KeeperFault ∷ whys.LogLost ∷ []

@@ -6,7 +6,8 @@ ghost use Rattle.std.specs.Str.{bytes_eq};
 ghost use Rattle.hex.specs.Hex.{encode_lower};
 ghost use Rattle.request_catalogue.specs.Texts.{is_label, is_note};
 ghost use Rattle.request_catalogue.specs.TextBytes.{label_bytes, name_bytes, note_bytes};
-ghost use Rattle.decision_log.specs.Parts.{Gives, IsNoHex, hex_in, hex_of, lettered, name_in, number_below, password_in, rule_in};
+ghost use Rattle.decision_log.specs.Parts.{Gives, IsNoHex, hex_in, hex_of, lettered, name_in, number_below};
+ghost use Rattle.decision_log.specs.Parts.{password_in, rule_in};
 
 use crate::logged::LineFault;
 use request_catalogue::{Label, Name, Note};
@@ -91,7 +92,8 @@ const HEX_MAX: usize = 64;
 /// to the front of the room, and says how many they are.
 fn hex_into(digits: &[u8], room: &mut [u8]) -> Option<usize>
     requires { length room.old ≡ HEX_MAX }
-    ensures told { MatchOption result (IsNoHex digits.now) (λ n. (n ≤ HEX_MAX) × (hex_of digits.now ≡ Some (take n room.new))) }
+    ensures told { MatchOption result (IsNoHex digits.now) (λ n. (n ≤ HEX_MAX)
+        × (hex_of digits.now ≡ Some (take n room.new))) }
     ensures len { length room.new ≡ HEX_MAX }
 {
     let len = digits.len() / 2;

@@ -5,7 +5,8 @@ ghost use Rattle.policy_model.specs.declared.event.Decision.TheVariants.{Permit}
 ghost use Rattle.decision_log.specs.LineTexts.{line_text};
 ghost use Rattle.decision_log.specs.Logged.{logged_ask, logged_value};
 ghost use Rattle.decision_log.specs.Parts.{Gives, next, number_below, one, rule_in, three, two};
-ghost use Rattle.decision_log.specs.Reading.{ask_behind, ask_read, decision_behind, decision_read, end_read, line_read, value_behind, why_behind, why_read};
+ghost use Rattle.decision_log.specs.Reading.{ask_behind, ask_read, decision_behind, decision_read, end_read, line_read};
+ghost use Rattle.decision_log.specs.Reading.{value_behind, why_behind, why_read};
 ghost use Rattle.decision_log.specs.Values.{IsLine, LineValue, ReadAt, WriteAt};
 
 use crate::logged::{LineFault, Logged, LoggedAsk};
@@ -25,7 +26,8 @@ pub(crate) struct Found<'a, T> {
 
 /// A number of 64 bits after a space.
 fn next_u64(text: &[u8]) -> Result<Found<'_, u64>, LineFault>
-    ensures { Gives (λ f. record { value = f.value; rest = f.rest.now }) result (next (number_below (2 ^ 64)) text.now) }
+    ensures { Gives (λ f. record { value = f.value; rest = f.rest.now }) result
+        (next (number_below (2 ^ 64)) text.now) }
 {
     let part = next_part(text);
     let value = u64_in(part.bytes)?;
@@ -37,7 +39,8 @@ fn next_u64(text: &[u8]) -> Result<Found<'_, u64>, LineFault>
 
 /// A number of 32 bits after a space.
 fn next_u32(text: &[u8]) -> Result<Found<'_, u32>, LineFault>
-    ensures { Gives (λ f. record { value = f.value; rest = f.rest.now }) result (next (number_below (2 ^ 32)) text.now) }
+    ensures { Gives (λ f. record { value = f.value; rest = f.rest.now }) result
+        (next (number_below (2 ^ 32)) text.now) }
 {
     let part = next_part(text);
     let value = u32_in(part.bytes)?;
@@ -49,7 +52,8 @@ fn next_u32(text: &[u8]) -> Result<Found<'_, u32>, LineFault>
 
 /// A number of 16 bits after a space.
 fn next_u16(text: &[u8]) -> Result<Found<'_, u16>, LineFault>
-    ensures { Gives (λ f. record { value = f.value; rest = f.rest.now }) result (next (number_below (2 ^ 16)) text.now) }
+    ensures { Gives (λ f. record { value = f.value; rest = f.rest.now }) result
+        (next (number_below (2 ^ 16)) text.now) }
 {
     let part = next_part(text);
     let value = u16_in(part.bytes)?;
@@ -61,7 +65,8 @@ fn next_u16(text: &[u8]) -> Result<Found<'_, u16>, LineFault>
 
 /// A rule of low to high after a space, and its detail.
 fn next_rule(low: u8, high: u8, text: &[u8]) -> Result<Found<'_, (u8, u32)>, LineFault>
-    ensures { Gives (λ f. record { value = f.value; rest = f.rest.now }) result (two (rule_in low high) (number_below (2 ^ 32)) (λ rule detail. (rule, detail)) text.now) }
+    ensures { Gives (λ f. record { value = f.value; rest = f.rest.now }) result
+        (two (rule_in low high) (number_below (2 ^ 32)) (λ rule detail. (rule, detail)) text.now) }
 {
     let part = next_part(text);
     let rule = rule_in(low, high, part.bytes)?;
@@ -102,7 +107,8 @@ fn why_behind(word: WhyWord, rest: &[u8]) -> Result<Found<'_, Why>, LineFault>
 
 /// An end by a bad frame's length.
 fn bad_frame(rest: &[u8]) -> Result<Found<'_, Why>, LineFault>
-    ensures { Gives (λ f. record { value = f.value; rest = f.rest.now }) result (one (number_below (2 ^ 16)) (λ len. Why.BadFrame len) rest.now) }
+    ensures { Gives (λ f. record { value = f.value; rest = f.rest.now }) result
+        (one (number_below (2 ^ 16)) (λ len. Why.BadFrame len) rest.now) }
 {
     let len = next_u16(rest)?;
     Ok(Found {
@@ -113,7 +119,8 @@ fn bad_frame(rest: &[u8]) -> Result<Found<'_, Why>, LineFault>
 
 /// An end by a violation of a rule.
 fn violation(rest: &[u8]) -> Result<Found<'_, Why>, LineFault>
-    ensures { Gives (λ f. record { value = f.value; rest = f.rest.now }) result (one (rule_in 1 7) (λ rule. Why.Violation rule) rest.now) }
+    ensures { Gives (λ f. record { value = f.value; rest = f.rest.now }) result
+        (one (rule_in 1 7) (λ rule. Why.Violation rule) rest.now) }
 {
     let part = next_part(rest);
     let rule = rule_in(1, 7, part.bytes)?;
@@ -160,7 +167,8 @@ fn ask_behind(word: AskWord, rest: &[u8]) -> Result<Found<'_, LoggedAsk>, LineFa
 }
 
 fn challenge(rest: &[u8]) -> Result<Found<'_, LoggedAsk>, LineFault>
-    ensures { Gives (λ f. record { value = logged_ask f.value; rest = f.rest.now }) result (ask_behind AskWord.Challenge rest.now) }
+    ensures { Gives (λ f. record { value = logged_ask f.value; rest = f.rest.now }) result
+        (ask_behind AskWord.Challenge rest.now) }
 {
     let part = next_part(rest);
     let user = name_in(part.bytes)?;
@@ -175,7 +183,8 @@ fn challenge(rest: &[u8]) -> Result<Found<'_, LoggedAsk>, LineFault>
 }
 
 fn export(rest: &[u8]) -> Result<Found<'_, LoggedAsk>, LineFault>
-    ensures { Gives (λ f. record { value = logged_ask f.value; rest = f.rest.now }) result (ask_behind AskWord.Export rest.now) }
+    ensures { Gives (λ f. record { value = logged_ask f.value; rest = f.rest.now }) result
+        (ask_behind AskWord.Export rest.now) }
 {
     let len = next_u16(rest)?;
     Ok(Found {
@@ -185,7 +194,8 @@ fn export(rest: &[u8]) -> Result<Found<'_, LoggedAsk>, LineFault>
 }
 
 fn read_at(rest: &[u8]) -> Result<Found<'_, LoggedAsk>, LineFault>
-    ensures { Gives (λ f. record { value = logged_ask f.value; rest = f.rest.now }) result (ask_behind AskWord.Read rest.now) }
+    ensures { Gives (λ f. record { value = logged_ask f.value; rest = f.rest.now }) result
+        (ask_behind AskWord.Read rest.now) }
 {
     let handle = next_u32(rest)?;
     let offset = next_u64(handle.rest)?;
@@ -201,7 +211,8 @@ fn read_at(rest: &[u8]) -> Result<Found<'_, LoggedAsk>, LineFault>
 }
 
 fn write_at(rest: &[u8]) -> Result<Found<'_, LoggedAsk>, LineFault>
-    ensures { Gives (λ f. record { value = logged_ask f.value; rest = f.rest.now }) result (ask_behind AskWord.Write rest.now) }
+    ensures { Gives (λ f. record { value = logged_ask f.value; rest = f.rest.now }) result
+        (ask_behind AskWord.Write rest.now) }
 {
     let handle = next_u32(rest)?;
     let offset = next_u64(handle.rest)?;
@@ -217,7 +228,8 @@ fn write_at(rest: &[u8]) -> Result<Found<'_, LoggedAsk>, LineFault>
 }
 
 fn open_file(rest: &[u8]) -> Result<Found<'_, LoggedAsk>, LineFault>
-    ensures { Gives (λ f. record { value = logged_ask f.value; rest = f.rest.now }) result (ask_behind AskWord.Grant rest.now) }
+    ensures { Gives (λ f. record { value = logged_ask f.value; rest = f.rest.now }) result
+        (ask_behind AskWord.Grant rest.now) }
 {
     let part = next_part(rest);
     let mode = u8_in(part.bytes)?;
@@ -230,7 +242,8 @@ fn open_file(rest: &[u8]) -> Result<Found<'_, LoggedAsk>, LineFault>
 }
 
 fn close_file(rest: &[u8]) -> Result<Found<'_, LoggedAsk>, LineFault>
-    ensures { Gives (λ f. record { value = logged_ask f.value; rest = f.rest.now }) result (ask_behind AskWord.Close rest.now) }
+    ensures { Gives (λ f. record { value = logged_ask f.value; rest = f.rest.now }) result
+        (ask_behind AskWord.Close rest.now) }
 {
     let handle = next_u32(rest)?;
     Ok(Found {
@@ -242,7 +255,8 @@ fn close_file(rest: &[u8]) -> Result<Found<'_, LoggedAsk>, LineFault>
 }
 
 fn info(rest: &[u8]) -> Result<Found<'_, LoggedAsk>, LineFault>
-    ensures { Gives (λ f. record { value = logged_ask f.value; rest = f.rest.now }) result (ask_behind AskWord.Info rest.now) }
+    ensures { Gives (λ f. record { value = logged_ask f.value; rest = f.rest.now }) result
+        (ask_behind AskWord.Info rest.now) }
 {
     let number = next_u32(rest)?;
     Ok(Found {
@@ -254,7 +268,8 @@ fn info(rest: &[u8]) -> Result<Found<'_, LoggedAsk>, LineFault>
 }
 
 fn note(rest: &[u8]) -> Result<Found<'_, LoggedAsk>, LineFault>
-    ensures { Gives (λ f. record { value = logged_ask f.value; rest = f.rest.now }) result (ask_behind AskWord.Note rest.now) }
+    ensures { Gives (λ f. record { value = logged_ask f.value; rest = f.rest.now }) result
+        (ask_behind AskWord.Note rest.now) }
 {
     let part = next_part(rest);
     let text = note_in(part.bytes)?;
@@ -265,7 +280,8 @@ fn note(rest: &[u8]) -> Result<Found<'_, LoggedAsk>, LineFault>
 }
 
 fn bad(rest: &[u8]) -> Result<Found<'_, LoggedAsk>, LineFault>
-    ensures { Gives (λ f. record { value = logged_ask f.value; rest = f.rest.now }) result (ask_behind AskWord.Bad rest.now) }
+    ensures { Gives (λ f. record { value = logged_ask f.value; rest = f.rest.now }) result
+        (ask_behind AskWord.Bad rest.now) }
 {
     let rule = next_rule(2, 5, rest)?;
     Ok(Found {
@@ -293,7 +309,8 @@ fn decision_read<'a>(
     ask: &LoggedAsk,
     text: &'a [u8],
 ) -> Result<Found<'a, Decision>, LineFault>
-    ensures { Gives (λ f. record { value = f.value; rest = f.rest.now }) result (decision_read session (logged_ask ask.now) text.now) }
+    ensures { Gives (λ f. record { value = f.value; rest = f.rest.now }) result
+        (decision_read session (logged_ask ask.now) text.now) }
 {
     let part = next_part(text);
     match DecisionWord::of(part.bytes) {
@@ -305,7 +322,8 @@ fn decision_read<'a>(
 
 /// A denial's rule and detail.
 fn denial(rest: &[u8]) -> Result<Found<'_, Decision>, LineFault>
-    ensures { Gives (λ f. record { value = f.value; rest = f.rest.now }) result (two (rule_in 1 22) (number_below (2 ^ 32)) (λ rule detail. Decision.Deny rule detail) rest.now) }
+    ensures { Gives (λ f. record { value = f.value; rest = f.rest.now }) result
+        (two (rule_in 1 22) (number_below (2 ^ 32)) (λ rule detail. Decision.Deny rule detail) rest.now) }
 {
     let rule = next_rule(1, 22, rest)?;
     Ok(Found {
@@ -323,7 +341,8 @@ fn value_behind<'a>(
     ask: &LoggedAsk,
     rest: &'a [u8],
 ) -> Result<Found<'a, Decision>, LineFault>
-    ensures { Gives (λ f. record { value = f.value; rest = f.rest.now }) result (value_behind session (logged_ask ask.now) rest.now) }
+    ensures { Gives (λ f. record { value = f.value; rest = f.rest.now }) result
+        (value_behind session (logged_ask ask.now) rest.now) }
 {
     match ask {
         LoggedAsk::Begin => Ok(permit(u64::from(session), rest)),

@@ -21,7 +21,8 @@ pub fn line(number: u32, event: &Event, out: &mut [u8]) -> usize
     ensures within { result ≤ 256 }
     ensures written { out.new ≡ line_of number event.now ++ drop result out.old }
     // What a line can say is read again.
-    ensures read_back { IsLine (line_value number event.now) → line_read (take result out.new) ≡ Ok (line_value number event.now) }
+    ensures read_back { IsLine (line_value number event.now) → line_read (take result out.new)
+        ≡ Ok (line_value number event.now) }
 {
     write_line(number, event, out)
 }
@@ -145,7 +146,8 @@ fn put_why(line: &mut Line, why: &Why)
 /// Appends that a file was asked for.
 fn put_grant(line: &mut Line, mode: u8, name: &Label)
     requires { array_vec_len line.old + 150 ≤ LINE_MAX }
-    ensures { WritesUpTo 150 (codes "grant" ++ spaced mode ++ spaced_hex (label_bytes name.now)) line.old.items line.new.items }
+    ensures { WritesUpTo 150 (codes "grant" ++ spaced mode ++ spaced_hex (label_bytes name.now)) line.old.items
+        line.new.items }
 {
     put_one(line, b"grant", u32::from(mode));
     put_spaced_hex(line, name.as_slice());

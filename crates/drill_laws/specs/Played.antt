@@ -8,7 +8,8 @@ use Rattle.service_model.specs.Stories.{ArePlanned}
 use Rattle.drill_plan.specs.Passwords.{session_count}
 use Rattle.drill_plan.specs.Plan.{drill_plan}
 
--- the worker's sessions were served over children that said what the plan of the drill of n has for them, and as many were opened as the setup says
+-- the worker's sessions were served over children that said what the plan of the
+-- drill of n has for them, and as many were opened as the setup says
 pub record IsPlayed (n : ℕ) (service : Service) (journal : List Event) (worker : ℕ) : Type 0 where
   pub sittings : List Sitting
   pub served : AreSittingsOf service journal worker sittings

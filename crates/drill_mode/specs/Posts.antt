@@ -9,7 +9,8 @@ use Rattle.drill_plan.specs.Plan.{drill_plan}
 
 -- nothing was asked of a post yet, and its children go by the plan of this worker in the drill of n
 abbrev pub IsNewPost : ℕ → ℕ → QuietPost → Type 0
-IsNewPost n worker post = scene_of post ≡ Some (record { acts = []; talks = []; unread = []; plan = drill_plan n worker })
+IsNewPost n worker post =
+    scene_of post ≡ Some (record { acts = []; talks = []; unread = []; plan = drill_plan n worker })
 
 -- each post is that of its worker
 abbrev pub AreNewPosts : ℕ → List QuietPost → Type 0

@@ -1,5 +1,6 @@
 -- Believed: which journals are a drill's.
-use Rattle.std.specs.Prelude.{◌≡◌, ℕ, ◌<◌, ◌≤◌, ◌==◌, Bool, true, false, List, [], ◌∷◌, ◌++◌, filter, length, slice_get, Some, MatchBool}
+use Rattle.std.specs.Prelude.{◌≡◌, ℕ, ◌<◌, ◌≤◌, ◌==◌, Bool, true, false, List, [], ◌∷◌, ◌++◌, filter, length, slice_get}
+use Rattle.std.specs.Prelude.{Some, MatchBool}
 use Rattle.std.specs.List.{flat_map, list_any}
 use Rattle.request_catalogue.specs.declared.rules.TheConstants.{NOT_IN_PHASE}
 use Rattle.request_catalogue.specs.Catalogue.{RequestValue}
@@ -18,7 +19,8 @@ use Rattle.drill_plan.specs.Requests.{IsAskFor, drill_requests}
 abbrev pub AreAsked : List RequestValue → List Event → Type 0
 AreAsked [] events = events ≡ []
 AreAsked (request ∷ requests) [] = ⊥
-AreAsked (request ∷ requests) (e ∷ events) = IsAskFor request e.ask × MatchBool (ends_session e) (events ≡ []) (AreAsked requests events)
+AreAsked (request ∷ requests) (e ∷ events) =
+    IsAskFor request e.ask × MatchBool (ends_session e) (events ≡ []) (AreAsked requests events)
 
 -- why a session of this class ends, by whether its reply was accepted
 abbrev pub drill_end : Class → Bool → Why

@@ -26,9 +26,11 @@ pub record IsDrillAccount (n worker : ℕ) (account : Account) : Type 0 where
 -- the accounts of the drill of n: one for each of four workers, in their order
 pub record AreDrillAccounts (n : ℕ) (accounts : List Account) : Type 0 where
   pub four : length accounts ≡ 4
-  pub each : (worker : ℕ) (account : Account) → slice_get accounts worker ≡ Some account → IsDrillAccount n worker account
+  pub each : (worker : ℕ) (account : Account) → slice_get accounts worker ≡ Some account
+      → IsDrillAccount n worker account
 
 -- the setup of the drill of n: the plain one, with four workers, their accounts, and 16 requests a session
 pub record IsDrillSetup (n : ℕ) (setup : Settings) : Type 0 where
-  pub plain : setup ≡ record plain_settings { workers = 4; connections = session_count n; requests = 16; tries = 3; hold = 30000; accounts = setup.accounts }
+  pub plain : setup ≡ record plain_settings { workers = 4; connections = session_count n; requests = 16; tries = 3;
+      hold = 30000; accounts = setup.accounts }
   pub accounts : AreDrillAccounts n setup.accounts

@@ -25,12 +25,14 @@ broken_header _ = []
 
 -- what the child before the login sends in a session of this class, for this user with these passwords
 abbrev pub early_bytes_by : List ℕ → ℕ → ℕ → Class → List ℕ
-early_bytes_by user current right class = requests_bytes (early_requests_by user current right class) ++ broken_header class
+early_bytes_by user current right class =
+    requests_bytes (early_requests_by user current right class) ++ broken_header class
 
 -- what the children of a worker's session have to send: the one before the login, and the user's
 abbrev pub session_bytes : ℕ → ℕ → ℕ → List ℕ × List ℕ
 session_bytes n worker session =
-    (early_bytes_by (own_name worker) (current_password n worker session) (right_password n worker session) (class_of n worker session), requests_bytes (user_requests n worker session))
+    (early_bytes_by (own_name worker) (current_password n worker session) (right_password n worker session)
+        (class_of n worker session), requests_bytes (user_requests n worker session))
 
 -- what those of each of a worker's connections have to send
 abbrev pub drill_plan : ℕ → ℕ → List (List ℕ × List ℕ)

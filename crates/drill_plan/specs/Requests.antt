@@ -2,7 +2,8 @@
 use Rattle.std.specs.Prelude.{◌≡◌, ℕ, List, [], ◌∷◌, ◌++◌, codes, length, Some, None}
 use Rattle.request_catalogue.specs.declared.texts.Label.{Label}
 use Rattle.request_catalogue.specs.declared.texts.Name.{Name}
-use Rattle.request_catalogue.specs.Catalogue.{RequestValue, Abandon, Banner, Challenge, CloseFile, Export, Finish, Import, OpenFile, ReadAt, Reply, WriteAt}
+use Rattle.request_catalogue.specs.Catalogue.{RequestValue, Abandon, Banner, Challenge, CloseFile, Export, Finish}
+use Rattle.request_catalogue.specs.Catalogue.{Import, OpenFile, ReadAt, Reply, WriteAt}
 use Rattle.request_catalogue.specs.TextBytes.{label_bytes, name_bytes}
 use Rattle.policy_model.specs.declared.event.Ask.{Ask}
 use Rattle.policy_model.specs.declared.event.Ask.TheVariants as asks
@@ -19,19 +20,23 @@ least_record = state_bytes (record { terminal = []; unread = []; lines = 0; byte
 
 -- what the child before the login asks in a session of this class, by the user's current password and the right one
 abbrev pub early_requests_by : List ℕ → ℕ → ℕ → Class → List RequestValue
-early_requests_by user current right LogsIn = Banner ∷ Challenge user ∷ Reply (password_text right) ∷ Export least_record ∷ []
+early_requests_by user current right LogsIn =
+    Banner ∷ Challenge user ∷ Reply (password_text right) ∷ Export least_record ∷ []
 early_requests_by user current right Repeats = Challenge user ∷ Reply (password_text current) ∷ Finish ∷ []
 early_requests_by user current right Exports = Export least_record ∷ []
 early_requests_by user current right BreaksOff = Challenge user ∷ Abandon ∷ Challenge (codes "nobody") ∷ []
 
 -- what the user's child asks in a session of this class: only a login has one
 abbrev pub user_requests_by : Class → List RequestValue
-user_requests_by LogsIn = Import ∷ OpenFile 3 (codes "notes") ∷ WriteAt 1 0 (codes "drill") ∷ ReadAt 1 0 16 ∷ CloseFile 1 ∷ Finish ∷ []
+user_requests_by LogsIn =
+    Import ∷ OpenFile 3 (codes "notes") ∷ WriteAt 1 0 (codes "drill") ∷ ReadAt 1 0 16 ∷ CloseFile 1 ∷ Finish ∷ []
 user_requests_by _ = []
 
 -- what the child before the login asks in a session of the drill
 abbrev pub early_requests : ℕ → ℕ → ℕ → List RequestValue
-early_requests n worker session = early_requests_by (own_name worker) (current_password n worker session) (right_password n worker session) (class_of n worker session)
+early_requests n worker session =
+    early_requests_by (own_name worker) (current_password n worker session) (right_password n worker session)
+        (class_of n worker session)
 
 -- what the user's child asks in a session of the drill
 abbrev pub user_requests : ℕ → ℕ → ℕ → List RequestValue

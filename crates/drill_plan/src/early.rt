@@ -32,7 +32,8 @@ pub fn early_bytes(
     class: Class,
     login: &Login,
 ) -> Result<Vec<u8>, AllocError>
-    ensures { let l = login.now in IfOk result (λ bytes. bytes.items ≡ early_bytes_by (name_bytes l.user) l.current l.right class) }
+    ensures { let l = login.now in IfOk result (λ bytes. bytes.items ≡ early_bytes_by (name_bytes l.user) l.current
+        l.right class) }
 {
     match class {
         Class::LogsIn => login_bytes(alloc, pen, login),
@@ -44,7 +45,8 @@ pub fn early_bytes(
 
 /// What a child says that logs its user in.
 fn login_bytes(alloc: Global, pen: &mut Pen, login: &Login) -> Result<Vec<u8>, AllocError>
-    ensures { let l = login.now in IfOk result (λ bytes. bytes.items ≡ early_bytes_by (name_bytes l.user) l.current l.right LogsIn) }
+    ensures { let l = login.now in IfOk result (λ bytes. bytes.items ≡ early_bytes_by (name_bytes l.user) l.current
+        l.right LogsIn) }
 {
     let mut bytes = Vec::new(alloc);
     pen.put(&mut bytes, &Request::Banner)?;
@@ -56,7 +58,8 @@ fn login_bytes(alloc: Global, pen: &mut Pen, login: &Login) -> Result<Vec<u8>, A
 
 /// What a child says that repeats a password.
 fn repeat_bytes(alloc: Global, pen: &mut Pen, login: &Login) -> Result<Vec<u8>, AllocError>
-    ensures { let l = login.now in IfOk result (λ bytes. bytes.items ≡ early_bytes_by (name_bytes l.user) l.current l.right Repeats) }
+    ensures { let l = login.now in IfOk result (λ bytes. bytes.items ≡ early_bytes_by (name_bytes l.user) l.current
+        l.right Repeats) }
 {
     let mut bytes = Vec::new(alloc);
     pen.put(&mut bytes, &Request::Challenge { user: login.user })?;
@@ -76,7 +79,8 @@ fn export_bytes(alloc: Global, pen: &mut Pen) -> Result<Vec<u8>, AllocError>
 
 /// What a child says that breaks off.
 fn broken_bytes(alloc: Global, pen: &mut Pen, login: &Login) -> Result<Vec<u8>, AllocError>
-    ensures { let l = login.now in IfOk result (λ bytes. bytes.items ≡ early_bytes_by (name_bytes l.user) l.current l.right BreaksOff) }
+    ensures { let l = login.now in IfOk result (λ bytes. bytes.items ≡ early_bytes_by (name_bytes l.user) l.current
+        l.right BreaksOff) }
 {
     let mut bytes = Vec::new(alloc);
     pen.put(&mut bytes, &Request::Challenge { user: login.user })?;

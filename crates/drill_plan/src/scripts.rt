@@ -47,7 +47,8 @@ pub fn drill_scripts(alloc: Global, n: u32, worker: u32) -> Result<Vec<Script>, 
 
 /// What the other sides of a connection say in a session of this class.
 fn script(alloc: Global, pen: &mut Pen, class: Class, login: &Login) -> Result<Script, AllocError>
-    ensures pre { let l = login.now in IfOk result (λ script. script.pre ≡ early_bytes_by (name_bytes l.user) l.current l.right class) }
+    ensures pre { let l = login.now in IfOk result (λ script. script.pre ≡ early_bytes_by (name_bytes l.user) l.current
+        l.right class) }
     ensures user { IfOk result (λ script. script.user ≡ requests_bytes (user_requests_by class)) }
 {
     let pre = early_bytes(alloc, pen, class, login)?;

@@ -17,11 +17,14 @@ pub record BreaksOff (given : List (List ℕ)) (answered : ℕ) (bytes : List �
 
 -- whatever records a log was given before, now it was given those of the append too, and all of them are answered
 abbrev pub KeepsAll : List ℕ → LogParts → LogParts → Type 0
-KeepsAll bytes old new = (given : List (List ℕ)) (answered : ℕ) → Keeps given answered old → Keeps (given ++ pieces_of bytes) (answered + length (pieces_of bytes)) new
+KeepsAll bytes old new =
+    (given : List (List ℕ)) (answered : ℕ) → Keeps given answered old → Keeps (given ++ pieces_of bytes)
+        (answered + length (pieces_of bytes)) new
 
 -- whatever records a log was given before, the append broke off after them
 abbrev pub KeepsSome : List ℕ → LogParts → LogParts → Type 0
-KeepsSome bytes old new = (given : List (List ℕ)) (answered : ℕ) → Keeps given answered old → BreaksOff given answered bytes new
+KeepsSome bytes old new =
+    (given : List (List ℕ)) (answered : ℕ) → Keeps given answered old → BreaksOff given answered bytes new
 
 -- no append failed before, and all records of this one stand in the image, within its first 271,581,189 bytes
 pub record IsDone (bytes : List ℕ) (old new : LogParts) : Type 0 where
@@ -48,7 +51,8 @@ pub record WasStopped (old new : LogParts) : Type 0 where
   pub still : new.now ≡ old.now
   pub refused : IsRefused old new
 
--- a record of the append would end past the image's first 271,581,189 bytes; where it is the append's only one the disk stands as it did
+-- a record of the append would end past the image's first 271,581,189 bytes;
+-- where it is the append's only one the disk stands as it did
 pub record IsTooLong (bytes : List ℕ) (old new : LogParts) : Type 0 where
   pub far : 271581189 < end_of old bytes + 1
   pub still : length bytes ≤ 256 → new.now ≡ old.now

@@ -1,7 +1,8 @@
 -- Inner: what stands on a disk, what its calls do to it, and what a crash may leave.
 use Rattle.std.specs.Prelude.{◌≡◌, ◌⊎◌, ℕ, ◌+◌, ◌≤◌, max, List, [], ◌∷◌, ◌++◌, length, take, drop}
 
--- what stands on a disk: what a read gives; what a read gave at the last sync that answered Ok; and the ranges that were written since, each its place and its length, the latest first
+-- what stands on a disk: what a read gives; what a read gave at the last sync that answered Ok; and
+-- the ranges that were written since, each its place and its length, the latest first
 pub record DiskState : Type 0 where
   pub reads : List ℕ
   pub safe : List ℕ
@@ -17,7 +18,8 @@ pub record IsTorn (at size : ℕ) (before after : List ℕ) : Type 0 where
 -- what may stand where these ranges were written, one after the other, and no sync came after them
 abbrev pub MayStand : List ℕ → List (ℕ × ℕ) → List ℕ → Type 0
 MayStand safe [] image = image ≡ safe
-MayStand safe (range ∷ ranges) image = (earlier : List ℕ) × MayStand safe ranges earlier × IsTorn range.0 range.1 earlier image
+MayStand safe (range ∷ ranges) image =
+    (earlier : List ℕ) × MayStand safe ranges earlier × IsTorn range.0 range.1 earlier image
 
 -- a crash may leave this image
 abbrev pub MayLeave : DiskState → List ℕ → Type 0
@@ -43,7 +45,9 @@ moment_of story = length story.past
 -- from one moment on, each image that a crash at a moment might have left meets a demand of that moment
 abbrev pub AtEachMoment : ℕ → (ℕ → List ℕ → Type 0) → List DiskState → Type 0
 AtEachMoment since Demand [] = Unit {0}
-AtEachMoment since Demand (state ∷ older) = (since ≤ length older → (image : List ℕ) → MayLeave state image → Demand (length older) image) × AtEachMoment since Demand older
+AtEachMoment since Demand (state ∷ older) =
+    (since ≤ length older → (image : List ℕ) → MayLeave state image → Demand (length older) image)
+    × AtEachMoment since Demand older
 
 -- the bytes that a read gives after a write that was done
 abbrev pub overwritten : List ℕ → ℕ → List ℕ → List ℕ
@@ -65,7 +69,8 @@ wrote at bytes story = then_state story (record {
 pub record HalfWrote (at : ℕ) (bytes : List ℕ) (before after : Story) : Type 0 where
   pub reads : List ℕ
   pub torn : IsTorn at (length bytes) before.now.reads reads
-  pub is : after ≡ then_state before (record { reads = reads; safe = before.now.safe; loose = (at, length bytes) ∷ before.now.loose })
+  pub is : after ≡ then_state before (record { reads = reads; safe = before.now.safe; loose = (at, length bytes)
+      ∷ before.now.loose })
 
 -- a sync was done
 abbrev pub synced : Story → Story
@@ -85,4 +90,6 @@ HalfWroteSafely at bytes before after = HalfWrote at bytes before after ⊎ (aft
 
 -- a call of a disk, whether it was done or failed
 abbrev pub IsCall : ℕ → List ℕ → Story → Story → Type 0
-IsCall at bytes before after = (after ≡ wrote at bytes before) ⊎ (HalfWrote at bytes before after ⊎ ((after ≡ synced before) ⊎ (after ≡ not_synced before)))
+IsCall at bytes before after =
+    (after ≡ wrote at bytes before)
+    ⊎ (HalfWrote at bytes before after ⊎ ((after ≡ synced before) ⊎ (after ≡ not_synced before)))

@@ -1,5 +1,6 @@
 -- Believed: what a durable log holds, whatever a crash leaves of it.
-use Rattle.std.specs.Prelude.{◌≡◌, ℕ, ◌+◌, ◌-◌, ◌*◌, ◌/◌, ◌^◌, ◌<◌, ◌≤◌, min, Bool, false, All, List, [], ◌∷◌, ◌++◌, codes, length, take, drop, Option, None, option_map, if◌then◌else◌, ◌==◌, zero, suc}
+use Rattle.std.specs.Prelude.{◌≡◌, ℕ, ◌+◌, ◌-◌, ◌*◌, ◌/◌, ◌^◌, ◌<◌, ◌≤◌, min, Bool, false, All, List, [], ◌∷◌, ◌++◌}
+use Rattle.std.specs.Prelude.{codes, length, take, drop, Option, None, option_map, if◌then◌else◌, ◌==◌, zero, suc}
 use Rattle.std.specs.Int.{w16, from_le_bytes, to_le_bytes}
 use Rattle.std.specs.List.{concat}
 use Rattle.outside.specs.Told.{Goes}
@@ -21,13 +22,15 @@ pub record HasFront (least most : ℕ) (given : List (List ℕ)) (image : List �
   pub most_of : count ≤ most
   pub records : HasRecords image (take count given)
 
--- At the moment of so many calls on the disk, an image has a first part of the given records: all whose append had answered `Ok` by then, and none whose append had not begun. A record takes four calls.
+-- At the moment of so many calls on the disk, an image has a first part of the given records: all whose append
+-- had answered `Ok` by then, and none whose append had not begun. A record takes four calls.
 abbrev pub HasAnswered : List (List ℕ) → ℕ → ℕ → ℕ → List ℕ → Type 0
 HasAnswered given answered first moment image =
     let calls = moment - first in
     HasFront (min (calls / 4) answered) (min ((calls + 3) / 4) (length given)) given image
 
--- since the log was made on a disk of the first story, each image that a crash at any moment might have left has a first part of the given records, with all that were answered by then
+-- since the log was made on a disk of the first story, each image that a crash at any moment might
+-- have left has a first part of the given records, with all that were answered by then
 pub record LosesNothing (given : List (List ℕ)) (answered : ℕ) (first now : Story) : Type 0 where
   pub newer : List DiskState
   pub later : states_of now ≡ newer ++ states_of first
@@ -41,7 +44,8 @@ pub record IsAtRest (gate : ℕ) (given : List (List ℕ)) (first now : Story) :
   pub place : gate ≡ 4 + length (opened given)
   pub calls : moment_of now ≡ moment_of first + 4 * length given
 
--- What contracts see of a log: the disk's story when the log was made, and now, where it is told; the place of the closed gate; whether an append failed; the disk's faults; and how many appends were refused without a call
+-- What contracts see of a log: the disk's story when the log was made, and now, where it is told; the place of the
+-- closed gate; whether an append failed; the disk's faults; and how many appends were refused without a call
 pub record LogParts : Type 0 where
   pub first : Option Story
   pub now : Option Story
@@ -51,9 +55,11 @@ pub record LogParts : Type 0 where
   pub refused : ℕ
 
 abbrev pub log_parts : Option Story → Option Story → ℕ → Bool → ℕ → ℕ → LogParts
-log_parts first now gate stopped faults refused = record { first = first; now = now; gate = gate; stopped = stopped; faults = faults; refused = refused }
+log_parts first now gate stopped faults refused =
+    record { first = first; now = now; gate = gate; stopped = stopped; faults = faults; refused = refused }
 
--- the log was given these records, and so many of them were answered `Ok`: it loses nothing, and where no append failed all were answered and are at rest
+-- the log was given these records, and so many of them were answered `Ok`: it loses
+-- nothing, and where no append failed all were answered and are at rest
 pub record Keeps (given : List (List ℕ)) (answered : ℕ) (log : LogParts) : Type 0 where
   pub told : Goes (LosesNothing given answered) log.first log.now
   pub rest : log.stopped ≡ false → Goes (IsAtRest log.gate given) log.first log.now

@@ -8,7 +8,8 @@ use Rattle.durable_log.specs.Disk.{DiskState, Story, moment_of, overwritten, set
 
 -- what stands on a disk after a call; a write that fails writes nothing that a read gives, and its range is unsafe
 abbrev pub state_after : DiskState → DiskCall → DiskState
-state_after s (Write at bytes true) = record { reads = overwritten s.reads at bytes; safe = s.safe; loose = (at, length bytes) ∷ s.loose }
+state_after s (Write at bytes true) =
+    record { reads = overwritten s.reads at bytes; safe = s.safe; loose = (at, length bytes) ∷ s.loose }
 state_after s (Write at bytes false) = record { reads = s.reads; safe = s.safe; loose = (at, length bytes) ∷ s.loose }
 state_after s (Sync true) = settled s.reads
 state_after s (Sync false) = s
@@ -50,7 +51,8 @@ abbrev pub AreWithin : DiskState → List DiskCall → Type 0
 AreWithin s [] = Unit {0}
 AreWithin s (call ∷ calls) = IsWithin s call × AreWithin (state_after s call) calls
 
--- what contracts see of a disk in memory: its story, where it tells; the calls so far; which of them fail; and its faults
+-- what contracts see of a disk in memory: its story, where it tells;
+-- the calls so far; which of them fail; and its faults
 pub record MemDiskParts : Type 0 where
   pub story : Option Story
   pub made : ℕ
@@ -58,7 +60,8 @@ pub record MemDiskParts : Type 0 where
   pub faults : ℕ
 
 abbrev pub disk_parts : Bool → List ℕ → List DiskCall → ℕ → List ℕ → ℕ → MemDiskParts
-disk_parts telling first calls made fails faults = record { story = told_if telling (story_from (begun first) calls); made = made; fails = fails; faults = faults }
+disk_parts telling first calls made fails faults =
+    record { story = told_if telling (story_from (begun first) calls); made = made; fails = fails; faults = faults }
 
 -- what a read gives of a disk, and the image in which every byte that is not yet safe has one value
 pub record IsPicture (fill : ℕ) (state : DiskState) (picture : Picture) : Type 0 where

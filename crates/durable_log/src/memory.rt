@@ -3,7 +3,8 @@
 mod call;
 mod picture;
 
-ghost use Rattle.std.specs.Prelude.{◌≡◌, ◌↔◌, ◌≤◌, ◌++◌, ◌∷◌, ◌+◌, ◌-◌, ◌^◌, [], Contains, IfOk, IfSome, IsErr, IsSome, IsSomeAnd, IsTrue, OnErr, OnOk, Some, length, min, true};
+ghost use Rattle.std.specs.Prelude.{◌≡◌, ◌↔◌, ◌≤◌, ◌++◌, ◌∷◌, ◌+◌, ◌-◌, ◌^◌, [], Contains, IfOk, IfSome, IsErr, IsSome};
+ghost use Rattle.std.specs.Prelude.{IsSomeAnd, IsTrue, OnErr, OnOk, Some, length, min, true};
 ghost use Rattle.outside.specs.Faults.{count_after};
 ghost use Rattle.outside.specs.Told.{Goes};
 ghost use Rattle.durable_log.specs.Disk.{HalfWrote, MayLeave, moment_of, not_synced, synced, wrote};

@@ -36,14 +36,17 @@ pub record IsCut (width : Width) (max : ℕ) (bytes : List ℕ) (messages : List
   pub each : AllByRecursion (IsMessage width max) messages
 
 -- a cut that goes as far as there are frames
-pub record IsLongestCut (width : Width) (max : ℕ) (bytes : List ℕ) (messages : List Message) (rest : List ℕ) : Type 0 where
+pub record IsLongestCut (width : Width) (max : ℕ) (bytes : List ℕ) (messages : List Message)
+    (rest : List ℕ) : Type 0 where
   pub cut : IsCut width max bytes messages rest
   pub last : IsLastFront width max rest
 
 -- the messages were added after those before, and with the rest they are a cut of the bytes
 abbrev pub AddsCut : Width → ℕ → List Message → List ℕ → List Message → List ℕ → Type 0
-AddsCut width max before bytes after rest = (added : List Message) × (after ≡ before ++ added) × IsCut width max bytes added rest
+AddsCut width max before bytes after rest =
+    (added : List Message) × (after ≡ before ++ added) × IsCut width max bytes added rest
 
 -- what is held is less than a whole frame and all was fed, or a bad header is in front
 abbrev pub IsStop : Width → ℕ → List ℕ → List ℕ → Type 0
-IsStop width max held unfed = (IsPartialFront width max held × (unfed ≡ [])) ⊎ ((len : ℕ) × IsBadFront width max held len)
+IsStop width max held unfed =
+    (IsPartialFront width max held × (unfed ≡ [])) ⊎ ((len : ℕ) × IsBadFront width max held len)

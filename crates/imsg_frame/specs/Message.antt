@@ -24,7 +24,8 @@ messages_in frames = map owned_message_of frames
 
 -- the 16 bytes of a header: kind, len and flags, peerid and pid, each with its lowest byte first
 unfoldable pub header_bytes : Width → Header → List ℕ
-header_bytes width h = to_le_bytes w32 h.kind ++ len_bytes width h.len h.flags ++ to_le_bytes w32 h.peerid ++ to_le_bytes w32 h.pid
+header_bytes width h =
+    to_le_bytes w32 h.kind ++ len_bytes width h.len h.flags ++ to_le_bytes w32 h.peerid ++ to_le_bytes w32 h.pid
 
 -- the one spelling of a message in a width: the bytes of its header, and then its body
 unfoldable pub spelling_of : Width → Message → List ℕ

@@ -26,7 +26,8 @@ impl<'a> Frame<'a> {
     pub fn in_front(header: Header, bytes: &'a [u8]) -> Frame<'a>
         requires low { 16 ≤ header.len }
         requires within { header.len ≤ length bytes.now }
-        ensures { (frame rest : List ℕ) → bytes.now ≡ frame ++ rest → header.len ≡ length frame → message_of result ≡ given_as header frame }
+        ensures { (frame rest : List ℕ) → bytes.now ≡ frame ++ rest → header.len ≡ length frame → message_of result
+            ≡ given_as header frame }
     {
         Frame {
             header,

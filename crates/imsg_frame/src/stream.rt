@@ -99,7 +99,8 @@ impl Reader {
             × IsStop self.new.width self.new.max self.new.bytes unfed) }
         // Every cut of the stream that goes as far has these frames, however the stream comes in pieces.
         ensures only { IfOk result (λ frames. (others : List Message) (rest : List ℕ)
-            → IsLongestCut self.old.width self.old.max (self.old.bytes ++ flat_map (λ piece. piece.now) pieces.now) others rest
+            → IsLongestCut self.old.width self.old.max (self.old.bytes ++ flat_map (λ piece. piece.now) pieces.now)
+            others rest
             → messages_in frames.items ≡ others) }
         ensures width { self.new.width ≡ self.old.width }
         ensures max { self.new.max ≡ self.old.max }

@@ -21,7 +21,8 @@ pub record IsLeastTwice (number : ℕ) (numbers : List ℕ) : Type 0 where
 abbrev pub AreOnce : List ℕ → Type 0
 AreOnce numbers = (number : ℕ) → count_of number numbers ≤ 1
 
--- hooks of these numbers can't stand together: two have one number, of which this is the least; where memory ran out nothing is said
+-- hooks of these numbers can't stand together: two have one number, of
+-- which this is the least; where memory ran out nothing is said
 abbrev pub IsRefused : List ℕ → HooksFault → Type 0
 IsRefused numbers (Twice number) = IsLeastTwice number numbers
 IsRefused numbers OutOfMemory = Unit {0}

@@ -60,7 +60,9 @@ impl Hooks {
 
     /// These hooks together. `Twice` exactly where two have one number, with the least such number.
     pub fn new(list: Vec<Hook>) -> Result<Hooks, HooksFault>
-        ensures { let keys = map (λ h. h.key) list.items in MatchResult result (λ hooks. (map (λ h. h.key) hooks.list.items ≡ keys) × AreOnce (numbers_of keys)) (IsRefused (numbers_of keys)) }
+        ensures { let keys = map (λ h. h.key) list.items in
+            MatchResult result (λ hooks. (map (λ h. h.key) hooks.list.items ≡ keys) × AreOnce (numbers_of keys))
+            (IsRefused (numbers_of keys)) }
     {
         match least_twice(list.as_slice()) {
             None => Ok(Hooks { list }),
@@ -78,7 +80,8 @@ impl Hooks {
     /// What the hook of this number says of a card.
     pub fn say(&self, number: u32, card: &Card) -> InfoText
         requires { is_some (find (λ h. h.key.number == number) self.now.list.items) ≡ true }
-        ensures { IfSome (find (λ h. h.key.number == number) self.now.list.items) (λ h. info_bytes result ≡ said h.key.form card.now) }
+        ensures { IfSome (find (λ h. h.key.number == number) self.now.list.items) (λ h. info_bytes result
+            ≡ said h.key.form card.now) }
     {
         match numbered(self.list.as_slice(), number) {
             Some(hook) => hook.say(card),

@@ -10,7 +10,8 @@ use crate::hooks::Hook;
 
 /// The least number that two of the hooks have.
 pub(crate) fn least_twice(list: &[Hook]) -> Option<u32>
-    ensures { let numbers = numbers_of (map (λ h. h.key) list.now) in MatchOption result (AreOnce numbers) (λ number. IsLeastTwice number numbers) }
+    ensures { let numbers = numbers_of (map (λ h. h.key) list.now) in MatchOption result (AreOnce numbers)
+        (λ number. IsLeastTwice number numbers) }
 {
     first_least(list)
 }

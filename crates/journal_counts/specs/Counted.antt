@@ -9,7 +9,8 @@ use Rattle.policy_model.specs.declared.event.Why.{Why}
 use Rattle.policy_model.specs.declared.event.Why.TheVariants as whys
 use Rattle.policy_model.specs.Asks.{accepts, is_permit, opens}
 use Rattle.journal_counts.specs.declared.counted.Counted.{Counted}
-use Rattle.journal_counts.specs.declared.counted.Counted.TheVariants.{Accepted, Denied, End, Events, Permitted, Rule, Sessions}
+use Rattle.journal_counts.specs.declared.counted.Counted.TheVariants.{Accepted, Denied, End, Events, Permitted, Rule}
+use Rattle.journal_counts.specs.declared.counted.Counted.TheVariants.{Sessions}
 use Rattle.journal_counts.specs.declared.counted.EndKind.{EndKind}
 use Rattle.journal_counts.specs.declared.counted.EndKind.TheVariants as kinds
 

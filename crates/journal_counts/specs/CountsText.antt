@@ -4,7 +4,8 @@ use Rattle.std.specs.Fmt.{decimal}
 use Rattle.std.specs.List.{range_with_len}
 use Rattle.policy_model.specs.declared.event.Event.{Event}
 use Rattle.journal_counts.specs.declared.counted.Counted.{Counted}
-use Rattle.journal_counts.specs.declared.counted.Counted.TheVariants.{Accepted, Denied, End, Events, Permitted, Rule, Sessions}
+use Rattle.journal_counts.specs.declared.counted.Counted.TheVariants.{Accepted, Denied, End, Events, Permitted, Rule}
+use Rattle.journal_counts.specs.declared.counted.Counted.TheVariants.{Sessions}
 use Rattle.journal_counts.specs.declared.counted.EndKind.{EndKind}
 use Rattle.journal_counts.specs.declared.counted.EndKind.TheVariants as kinds
 use Rattle.journal_counts.specs.Counted.{count_in}
@@ -44,7 +45,8 @@ totals = Sessions ∷ Events ∷ Permitted ∷ Denied ∷ Accepted ∷ []
 
 -- the kinds of ends, in the order of their lines
 abbrev pub end_kinds : List EndKind
-end_kinds = kinds.Finished ∷ kinds.ChildEnded ∷ kinds.Truncated ∷ kinds.BadFrame ∷ kinds.Violation ∷ kinds.LinkFault ∷ kinds.KeeperFault ∷ kinds.LogLost ∷ []
+end_kinds = kinds.Finished ∷ kinds.ChildEnded ∷ kinds.Truncated ∷ kinds.BadFrame ∷ kinds.Violation ∷ kinds.LinkFault
+    ∷ kinds.KeeperFault ∷ kinds.LogLost ∷ []
 
 -- a line for each total
 unfoldable pub totals_text : List Event → List ℕ

@@ -1,4 +1,5 @@
-//! The tests of the log's lines, of what audits them and of what they bring back, which stand apart so that no crate waits for them.
+//! The tests of the log's lines, of what audits them and of what they bring
+//! back, which stand apart so that no crate waits for them.
 #![tactic(auto)]
 
 #[cfg(test)]

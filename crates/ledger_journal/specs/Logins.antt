@@ -1,5 +1,6 @@
 -- Believed: the accepted replies of a log, which of them the setup has already, and which verify.
-use Rattle.std.specs.Prelude.{ℕ, ◌≡◌, ◌<◌, ◌-◌, ◌&&◌, ◌==◌, Bool, true, false, List, [], ◌∷◌, ◌++◌, filter, length, map, nat_lt, position, slice_get, Option, Some, None, if◌then◌else◌}
+use Rattle.std.specs.Prelude.{ℕ, ◌≡◌, ◌<◌, ◌-◌, ◌&&◌, ◌==◌, Bool, true, false, List, [], ◌∷◌, ◌++◌, filter, length, map}
+use Rattle.std.specs.Prelude.{nat_lt, position, slice_get, Option, Some, None, if◌then◌else◌}
 use Rattle.std.specs.List.{last_or, list_any}
 use Rattle.std.specs.Option.{option_to_list}
 use Rattle.std.specs.Str.{bytes_eq}
@@ -47,7 +48,9 @@ account_taken setup (Some v) = if nat_lt (value_of v.decision) DECOYS_FROM then 
 
 -- the reply that a line accepts, if it does, for the account that its session took last
 abbrev pub login_by : Option ℕ → LineValue → Option Login
-login_by account v = if accepts_reply v then Some (record { line = v.number; account = account; password = value_of v.decision }) else None
+login_by account v =
+    if accepts_reply v then Some (record { line = v.number; account = account; password = value_of v.decision })
+    else None
 
 -- the reply that a line accepts, if it does, after these lines
 abbrev pub login_in : Settings → List LineValue → LineValue → Option Login
@@ -56,7 +59,8 @@ login_in setup before v = login_by (account_taken setup (last_taking before v.se
 -- the accepted replies of these lines, after earlier ones
 abbrev pub logins_after : Settings → List LineValue → List LineValue → List Login
 logins_after setup before [] = []
-logins_after setup before (v ∷ lines) = option_to_list (login_in setup before v) ++ logins_after setup (before ++ v ∷ []) lines
+logins_after setup before (v ∷ lines) =
+    option_to_list (login_in setup before v) ++ logins_after setup (before ++ v ∷ []) lines
 
 -- the accepted replies that the records of a log show
 abbrev pub logins_of : Settings → List (List ℕ) → List Login

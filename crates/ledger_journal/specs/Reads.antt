@@ -1,5 +1,6 @@
 -- Inner: what is kept of records while they are read.
-use Rattle.std.specs.Prelude.{ℕ, ◌≡◌, ◌≤◌, ◌<◌, ◌^◌, ◌||◌, not, nat_lt, min, if◌then◌else◌, List, ◌++◌, All, codes, length, Option, Some, None, slice_index_or, Bool}
+use Rattle.std.specs.Prelude.{ℕ, ◌≡◌, ◌≤◌, ◌<◌, ◌^◌, ◌||◌, not, nat_lt, min, if◌then◌else◌, List, ◌++◌, All, codes}
+use Rattle.std.specs.Prelude.{length, Option, Some, None, slice_index_or, Bool}
 use Rattle.std.specs.BTreeMap.{BTreeMap, get}
 use Rattle.std.specs.Ordering.{nat_cmp}
 use Rattle.std.specs.List.{list_any, AllByRecursion}
@@ -33,7 +34,8 @@ bad_after None place is_line = if nat_lt EVENTS_LIMIT place || not is_line then 
 
 -- a line is taken note of: the account of its session is the one that it takes, where it is a permitted CHALLENGE
 pub record IsTaken (setup : Settings) (v : LineValue) (old new : BTreeMap ℕ (Option ℕ)) : Type 0 where
-  pub each : (session : ℕ) → taken (get nat_cmp new session) ≡ (if takes_for session v then account_taken setup (Some v) else taken (get nat_cmp old session))
+  pub each : (session : ℕ) → taken (get nat_cmp new session) ≡ (if takes_for session v then account_taken setup (Some v)
+      else taken (get nat_cmp old session))
 
 -- a reply is of an account that the setup has, or of none
 abbrev pub IsWithin : Settings → Login → Type 0
@@ -43,7 +45,8 @@ IsWithin setup login = (number : ℕ) → login.account ≡ Some number → numb
 pub record IsRead (setup : Settings) (records : List (List ℕ)) (log : Log) : Type 0 where
   pub counted : log.count ≡ length records
   pub first_bad : IsFirstBad records log.bad
-  pub takings : (session : ℕ) → taken (get nat_cmp log.takings session) ≡ account_taken setup (last_taking (lines_of records) session)
+  pub takings : (session : ℕ) → taken (get nat_cmp log.takings session) ≡ account_taken setup
+      (last_taking (lines_of records) session)
   pub logins : log.logins.items ≡ logins_of setup records
   pub few : length log.logins.items ≤ length records
   pub within : AllByRecursion (IsWithin setup) log.logins.items
@@ -70,7 +73,8 @@ IsReadError image errors.OutOfMemory = Unit {0}
 -- it is known of each account whether one of these replies is its stored password
 pub record AreSeen (setup : Settings) (logins : List Login) (seen : List Bool) : Type 0 where
   pub same : length seen ≡ length setup.accounts
-  pub each : (number : ℕ) (d : Bool) → number < length setup.accounts → slice_index_or seen number d ≡ list_any (is_stored setup (Some number)) logins
+  pub each : (number : ℕ) (d : Bool) → number < length setup.accounts → slice_index_or seen number d
+      ≡ list_any (is_stored setup (Some number)) logins
 
 -- some records were read
 pub record HasBeenRead (setup : Settings) (log : Log) : Type 0 where

@@ -1,5 +1,6 @@
 -- Believed: what recovery answers for the records of a log.
-use Rattle.std.specs.Prelude.{ℕ, ◌≡◌, ◌<◌, ◌+◌, ◌⊎◌, ◌&&◌, Bool, true, false, not, List, [], ◌∷◌, ◌++◌, length, map, slice_get, Some, None, Result, Ok, Err}
+use Rattle.std.specs.Prelude.{ℕ, ◌≡◌, ◌<◌, ◌+◌, ◌⊎◌, ◌&&◌, Bool, true, false, not, List, [], ◌∷◌, ◌++◌, length, map}
+use Rattle.std.specs.Prelude.{slice_get, Some, None, Result, Ok, Err}
 use Rattle.policy_model.specs.declared.account.Account.{Account}
 use Rattle.policy_model.specs.declared.ranges.TheConstants.{EVENTS_LIMIT}
 use Rattle.policy_model.specs.Settings.{Settings}
@@ -31,7 +32,8 @@ pub record IsRefused (setup : Settings) (left : List Login) (number : ℕ) : Typ
 
 -- the record at this place has a fault: it is no line with its number, or its reply doesn't verify
 abbrev pub HasFault : Settings → List (List ℕ) → ℕ → Type 0
-HasFault setup records number = IsNoLine records number ⊎ IsRefused setup (left_of setup (logins_of setup records)) number
+HasFault setup records number =
+    IsNoLine records number ⊎ IsRefused setup (left_of setup (logins_of setup records)) number
 
 -- the record at this place has a fault, and none before it has one
 pub record IsFirstFault (setup : Settings) (records : List (List ℕ)) (number : ℕ) : Type 0 where
@@ -42,7 +44,8 @@ pub record IsFirstFault (setup : Settings) (records : List (List ℕ)) (number :
 pub record HasAccepted (setup : Settings) (logins : List Login) (l : LedgerParts) : Type 0 where
   pub made : l.setup ≡ setup
   pub same : length l.accounts ≡ length setup.accounts
-  pub states : (number : ℕ) (account : Account) → slice_get setup.accounts number ≡ Some account → state_at l number ≡ state_after logins number account
+  pub states : (number : ℕ) (account : Account) → slice_get setup.accounts number ≡ Some account → state_at l number
+      ≡ state_after logins number account
 
 -- a ledger knows what the setup says, and no more
 pub record IsOwn (setup : Settings) (l : LedgerParts) : Type 0 where
@@ -59,7 +62,8 @@ pub record IsRecovered (setup : Settings) (records : List (List ℕ)) (r : Recov
   pub no_fault : (number : ℕ) → HasFault setup records number → ⊥
   pub lines : r.lines ≡ length records
   pub accepted : r.accepted ≡ length (logins_of setup records)
-  pub already : r.already ≡ (not (is_none_left (logins_of setup records)) && is_none_left (left_of setup (logins_of setup records)))
+  pub already : r.already ≡ (not (is_none_left (logins_of setup records))
+      && is_none_left (left_of setup (logins_of setup records)))
   pub ledger : HasAccepted setup (left_of setup (logins_of setup records)) r.ledger
   pub own : r.already ≡ true → IsOwn setup r.ledger
 

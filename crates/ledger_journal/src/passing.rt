@@ -14,8 +14,10 @@ use std::alloc::{AllocError, Global};
 fn is_passed(setup: &Setup, seen: &mut Vec<bool>, login: &Login) -> bool
     requires within { IsWithin setup.now login.now }
     requires same { length seen.old.items ≡ length setup.now.accounts }
-    ensures passed { (later : List Login) → AreSeen setup.now later seen.old.items → result ≡ is_passed setup.now login.now later }
-    ensures seen { (later : List Login) → AreSeen setup.now later seen.old.items → AreSeen setup.now (login.now ∷ later) seen.new.items }
+    ensures passed { (later : List Login) → AreSeen setup.now later seen.old.items
+        → result ≡ is_passed setup.now login.now later }
+    ensures seen { (later : List Login) → AreSeen setup.now later seen.old.items → AreSeen setup.now (login.now ∷ later)
+        seen.new.items }
     ensures same { length seen.new.items ≡ length setup.now.accounts }
 {
     let Some(account) = login.account else {

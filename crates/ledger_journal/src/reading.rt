@@ -1,6 +1,7 @@
 //! The lines of a log's records, and the replies that they accept.
 
-ghost use Rattle.std.specs.Prelude.{◌≡◌, ◌≤◌, ◌<◌, ◌+◌, ◌^◌, ◌++◌, ◌∷◌, [], IfOk, IfSome, List, MatchOption, MatchResult, ℕ, length, nat_lt, None, Some, if◌then◌else◌};
+ghost use Rattle.std.specs.Prelude.{◌≡◌, ◌≤◌, ◌<◌, ◌+◌, ◌^◌, ◌++◌, ◌∷◌, [], IfOk, IfSome, List, MatchOption};
+ghost use Rattle.std.specs.Prelude.{MatchResult, ℕ, length, nat_lt, None, Some, if◌then◌else◌};
 ghost use Rattle.std.specs.BTreeMap.{get};
 ghost use Rattle.std.specs.Option.{option_to_list};
 ghost use Rattle.std.specs.Ordering.{nat_cmp};
@@ -35,7 +36,8 @@ pub(crate) struct Log {
 
 /// The line that a record is, where it is one and its place is its number.
 fn line_at(place: usize, bytes: &[u8]) -> Option<Logged>
-    ensures { MatchOption result (line_at place bytes.now ≡ None) (λ line. line_at place bytes.now ≡ Some (logged_value line)) }
+    ensures { MatchOption result (line_at place bytes.now ≡ None) (λ line. line_at place bytes.now
+        ≡ Some (logged_value line)) }
 {
     match read_line(bytes) {
         Ok(line) if line.number as usize == place => Some(line),
@@ -133,8 +135,10 @@ impl Log {
     fn add(&mut self, setup: &Setup, line: &Logged) -> Result<(), AllocError>
         ensures count { self.new.count ≡ self.old.count }
         ensures bad { self.new.bad ≡ self.old.bad }
-        ensures logins { IfOk result (λ _. self.new.logins.items ≡ self.old.logins.items ++ option_to_list (login_by (taken (get nat_cmp self.old.takings line.now.session)) (logged_value line.now))) }
-        ensures takings { IfOk result (λ _. IsTaken setup.now (logged_value line.now) self.old.takings self.new.takings) }
+        ensures logins { IfOk result (λ _. self.new.logins.items ≡ self.old.logins.items ++ option_to_list
+            (login_by (taken (get nat_cmp self.old.takings line.now.session)) (logged_value line.now))) }
+        ensures takings { IfOk result (λ _. IsTaken setup.now (logged_value line.now) self.old.takings
+            self.new.takings) }
     {
         keep(&mut self.logins, login_in(&self.takings, line))?;
         take(&mut self.takings, setup, line)
@@ -144,7 +148,8 @@ impl Log {
     fn read(&mut self, setup: &Setup, bytes: &[u8]) -> Result<(), AllocError>
         requires fits { self.old.count < 2 ^ 63 }
         requires bad { MatchOption self.old.bad (self.old.count ≤ EVENTS_LIMIT) (λ _. Unit {0}) }
-        ensures { (records : List (List ℕ)) → IsRead setup.now records self.old → IfOk result (λ _. IsRead setup.now (records ++ bytes.now ∷ []) self.new) }
+        ensures { (records : List (List ℕ)) → IsRead setup.now records self.old
+            → IfOk result (λ _. IsRead setup.now (records ++ bytes.now ∷ []) self.new) }
     {
         let place = self.count + 1;
         let line = line_at(place, bytes);

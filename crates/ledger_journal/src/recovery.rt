@@ -102,7 +102,8 @@ pub fn recover(alloc: Global, setup: &Setup, image: &[u8]) -> Result<Recovered, 
     ensures back { (journal : List Event) → IsWhole setup.now journal → HasRecords image.now (records_of journal) →
         IsRecoveredAs (IsBackAt setup.now journal) result }
     // Where the setup has what the journal says already, they are recovered too, and nothing changes.
-    ensures again { (first : Settings) (journal : List Event) → IsWhole first journal → setup.now.accounts ≡ map (account_after journal) first.accounts →
+    ensures again { (first : Settings) (journal : List Event) → IsWhole first journal → setup.now.accounts
+        ≡ map (account_after journal) first.accounts →
         HasRecords image.now (records_of journal) → IsRecoveredAs (IsThereAlready setup.now journal) result }
 {
     let log = read_log(alloc, setup, image)?;

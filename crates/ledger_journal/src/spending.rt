@@ -16,7 +16,8 @@ use otp_ledger::Ledger;
 fn verifies(ledger: &Ledger, account: u32, password: u64) -> bool
     requires account { account < length ledger.now.accounts }
     requires known { IsOfSetup ledger.now }
-    ensures { result ≡ (nat_lt 0 (state_at ledger.now account).sequence && is_next (state_at ledger.now account) password) }
+    ensures { result ≡ (nat_lt 0 (state_at ledger.now account).sequence && is_next (state_at ledger.now account)
+        password) }
 {
     let algo = ledger.setup().parts().accounts.as_slice()[account as usize].algo;
     let current = ledger.current(account);

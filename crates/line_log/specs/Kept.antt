@@ -1,5 +1,6 @@
 -- Inner: what a log of lines holds, and what each image that a crash may leave of it holds.
-use Rattle.std.specs.Prelude.{ℕ, ◌≡◌, ◌⊎◌, ◌+◌, ◌-◌, ◌^◌, ◌≤◌, min, Bool, true, false, List, ◌++◌, length, Option, None, option_map, is_some, IfSome, if◌then◌else◌}
+use Rattle.std.specs.Prelude.{ℕ, ◌≡◌, ◌⊎◌, ◌+◌, ◌-◌, ◌^◌, ◌≤◌, min, Bool, true, false, List, ◌++◌, length, Option, None}
+use Rattle.std.specs.Prelude.{option_map, is_some, IfSome, if◌then◌else◌}
 use Rattle.std.specs.List.{AllByRecursion, concat}
 use Rattle.outside.specs.Told.{Goes}
 use Rattle.durable_log.specs.Appending.{HasStopped}
@@ -7,7 +8,8 @@ use Rattle.durable_log.specs.Disk.{Story}
 use Rattle.durable_log.specs.Journal.{Keeps, LogParts, LosesNothing, faults_of, held_of}
 use Rattle.line_log.specs.Line.{is_line}
 
--- What contracts see of a log of lines: the log of records now, and as it stood before the append that failed; the line of that append; and how many appends were refused without one
+-- What contracts see of a log of lines: the log of records now, and as it stood before the append
+-- that failed; the line of that append; and how many appends were refused without one
 pub record LineParts : Type 0 where
   pub log : LogParts
   pub before : LogParts
@@ -19,7 +21,8 @@ line_parts log before last refused = record { log = log; before = before; last =
 
 -- what was given after a failed append: what the log held before, and the line of that append
 abbrev pub given_at_last : LineParts → Option (List ℕ)
-given_at_last parts = if is_some parts.log.now then option_map (λ held. held ++ parts.last) (held_of parts.before) else None
+given_at_last parts =
+    if is_some parts.log.now then option_map (λ held. held ++ parts.last) (held_of parts.before) else None
 
 -- the bytes that the log was given, where its disk tells: those of its records, and of a last line whose append failed
 abbrev pub given_of : LineParts → Option (List ℕ)
@@ -40,7 +43,8 @@ last_story parts = parts.log.now
 pub record IsLine (bytes : List ℕ) : Type 0 where
   pub is : is_line bytes ≡ true
 
--- the log was given these lines, and so many of them were answered `Ok`: all, or all but the last where that one's append failed. It loses nothing, and what it was given is these lines.
+-- the log was given these lines, and so many of them were answered `Ok`: all, or all but the last
+-- where that one's append failed. It loses nothing, and what it was given is these lines.
 pub record KeepsLines (lines : List (List ℕ)) (answered : ℕ) (parts : LineParts) : Type 0 where
   pub each : AllByRecursion IsLine lines
   pub told : Goes (LosesNothing lines answered) parts.log.first parts.log.now

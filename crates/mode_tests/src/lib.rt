@@ -1,4 +1,5 @@
-//! The tests of the modes `check` and `audit`, of the children's modes and of the counts, which stand apart so that no crate waits for them.
+//! The tests of the modes `check` and `audit`, of the children's modes and of
+//! the counts, which stand apart so that no crate waits for them.
 #![tactic(auto)]
 
 #[cfg(test)]

@@ -9,7 +9,8 @@ use Rattle.session_core.specs.Standing.{Stands}
 
 -- an event is the policy's and the core stands after it; or it is lost and the core is as it was
 pub record Settles (lost : Bool) (worker : ℕ) (ask : Ask) (old new : CoreParts) (e : Event) : Type 0 where
-  pub next : lost ≡ false → (journal : List Event) → Stands old journal → e ≡ next_event (setup_of old) journal worker ask
+  pub next : lost ≡ false → (journal : List Event) → Stands old journal → e ≡ next_event (setup_of old) journal
+      worker ask
   pub stands : lost ≡ false → (journal : List Event) → Stands old journal → Stands new (journal ++ e ∷ [])
   pub nowhere : lost ≡ true → (journal : List Event) → Stands old journal → e ≡ event_with journal worker ask Lost
   pub same : lost ≡ true → new ≡ old

@@ -17,9 +17,11 @@ use Rattle.monitor_book.specs.Lines.{LogMatches, decided_in}
 
 -- the line that a lost event would have had after those that were kept, where there is one
 abbrev pub lost_line_of : Settings → List Event → Option Event → List ℕ
-lost_line_of setup kept lost = option_map_or (λ e. line_of (length kept + 1) (next_event setup kept e.worker e.ask)) lost []
+lost_line_of setup kept lost =
+    option_map_or (λ e. line_of (length kept + 1) (next_event setup kept e.worker e.ask)) lost []
 
--- What contracts see of a book: the core, all events, whether one was lost; what the log held when the book was made, where it tells, and what it holds now; and how many faults it had then and has now
+-- What contracts see of a book: the core, all events, whether one was lost; what the log held when the book
+-- was made, where it tells, and what it holds now; and how many faults it had then and has now
 pub record BookParts : Type 0 where
   pub core : CoreParts
   pub journal : List Event
@@ -48,7 +50,9 @@ worker_of e = e.worker
 abbrev pub IsWithinQuota : Settings → List Event → Type 0
 IsWithinQuota setup journal = IsWithin worker_of setup.workers (quota_of setup) journal
 
--- the setup is in its ranges; the journal is legal, of the setup's workers and within their quotas, and the events that were decided are in the ranges of their types; the core stands for the events that were kept, and has room for a session of each event
+-- the setup is in its ranges; the journal is legal, of the setup's workers and within their
+-- quotas, and the events that were decided are in the ranges of their types; the core stands
+-- for the events that were kept, and has room for a session of each event
 pub record IsHistory (core : CoreParts) (journal : List Event) (lost : Bool) : Type 0 where
   pub in_range : IsInRange (setup_of core)
   pub run : IsRun (setup_of core) journal
@@ -59,7 +63,8 @@ pub record IsHistory (core : CoreParts) (journal : List Event) (lost : Bool) : T
   pub sessions : events_max (setup_of core) ≤ core.ledger.cap
 
 -- the log has the journal's lines after what it held at first, and an event was lost exactly by a fault of the log
-pub record IsLogged (setup : Settings) (journal : List Event) (held_first held : Option (List ℕ)) (faults_first faults : ℕ) : Type 0 where
+pub record IsLogged (setup : Settings) (journal : List Event) (held_first held : Option (List ℕ))
+    (faults_first faults : ℕ) : Type 0 where
   pub lines : LogMatches setup journal held_first held
   pub rose : has_lost journal ≡ true → Rose faults_first faults
   pub kept : has_lost journal ≡ false → faults ≡ faults_first

@@ -13,7 +13,8 @@ use Rattle.decision_log.specs.Log.{line_of, log_text}
 abbrev pub lost_line : Settings → List Event → List ℕ
 lost_line setup journal =
     let kept = kept_events journal in
-    option_map_or (λ e. line_of (length kept + 1) (next_event setup kept e.worker e.ask)) (find (λ e. is_lost e.decision) journal) []
+    option_map_or (λ e. line_of (length kept + 1) (next_event setup kept e.worker e.ask))
+        (find (λ e. is_lost e.decision) journal) []
 
 -- the log holds what it held, then the lines of the kept events, then at most a first part of the lost event's line
 pub record HoldsLines (setup : Settings) (journal : List Event) (before after : List ℕ) : Type 0 where
@@ -25,7 +26,8 @@ LogMatches setup journal before after = Goes (HoldsLines setup journal) before a
 
 -- the event whose line was lost first, as the policy decides it, if one was
 abbrev pub lost_event : Settings → List Event → Option Event
-lost_event setup journal = option_map (λ e. next_event setup (kept_events journal) e.worker e.ask) (find (λ e. is_lost e.decision) journal)
+lost_event setup journal =
+    option_map (λ e. next_event setup (kept_events journal) e.worker e.ask) (find (λ e. is_lost e.decision) journal)
 
 -- the events that a run decided: those that it kept, and that one
 abbrev pub decided_in : Settings → List Event → List Event

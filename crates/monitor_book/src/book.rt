@@ -40,9 +40,13 @@ impl<K: Sink> Model for Book<K> {
 
     ghost Value = { BookParts };
 
-    ghost view = { λ b. book_parts b.core b.journal.items b.lost (K.held b.opened.value) (K.held b.log) (K.faults b.opened.value) (K.faults b.log) };
+    ghost view =
+        { λ b. book_parts b.core b.journal.items b.lost (K.held b.opened.value) (K.held b.log) (K.faults b.opened.value)
+            (K.faults b.log) };
 
-    ghost invariant = { λ b. IsBook (book_parts b.core b.journal.items b.lost (K.held b.opened.value) (K.held b.log) (K.faults b.opened.value) (K.faults b.log))
+    ghost invariant =
+        { λ b. IsBook (book_parts b.core b.journal.items b.lost (K.held b.opened.value) (K.held b.log)
+            (K.faults b.opened.value) (K.faults b.log))
         × (events_max (setup_of b.core) ≤ vec_capacity b.journal) };
 }
 
@@ -56,7 +60,8 @@ impl<K: Sink> Book<K> {
     pub fn new(alloc: Global, core: Core, log: K) -> Result<Book<K>, (Core, K, AllocError)>
         requires fresh { Stands core [] }
         requires sessions { events_max (setup_of core) ≤ core.ledger.cap }
-        ensures new { IfOk result (λ book. book ≡ book_parts core [] false (K.held log) (K.held log) (K.faults log) (K.faults log)) }
+        ensures new { IfOk result (λ book. book ≡ book_parts core [] false (K.held log) (K.held log) (K.faults log)
+            (K.faults log)) }
         ensures back { IfErr result (λ back. (back.0 ≡ core) × (back.1 ≡ log)) }
     {
         match Vec::with_capacity(alloc, core.ledger().setup().events_max()) {

@@ -17,8 +17,10 @@ use session_core::Core;
 fn opening_session(core: &Core, worker: u32, decision: &Decision) -> u32
     requires worker { worker < core.now.ledger.setup.workers }
     requires few { core.now.settled < 2 ^ 32 - 1 }
-    requires decided { (journal : List Event) → Stands core.now journal → decision.now ≡ verdict_of core.now.ledger.setup journal worker Begin }
-    ensures { (journal : List Event) → Stands core.now journal → result ≡ (next_event core.now.ledger.setup journal worker Begin).session }
+    requires decided { (journal : List Event) → Stands core.now journal
+        → decision.now ≡ verdict_of core.now.ledger.setup journal worker Begin }
+    ensures { (journal : List Event) → Stands core.now journal
+        → result ≡ (next_event core.now.ledger.setup journal worker Begin).session }
 {
     match decision {
         Decision::Permit { value } => u32::try_from(*value).unwrap_or(0),
@@ -30,8 +32,10 @@ fn opening_session(core: &Core, worker: u32, decision: &Decision) -> u32
 fn session_of(core: &Core, worker: u32, ask: &Ask, decision: &Decision) -> u32
     requires worker { worker < core.now.ledger.setup.workers }
     requires few { core.now.settled < 2 ^ 32 - 1 }
-    requires decided { (journal : List Event) → Stands core.now journal → decision.now ≡ verdict_of core.now.ledger.setup journal worker ask.now }
-    ensures { (journal : List Event) → Stands core.now journal → result ≡ (next_event core.now.ledger.setup journal worker ask.now).session }
+    requires decided { (journal : List Event) → Stands core.now journal
+        → decision.now ≡ verdict_of core.now.ledger.setup journal worker ask.now }
+    ensures { (journal : List Event) → Stands core.now journal
+        → result ≡ (next_event core.now.ledger.setup journal worker ask.now).session }
 {
     match ask {
         Ask::Begin => opening_session(core, worker, decision),
@@ -43,8 +47,10 @@ fn session_of(core: &Core, worker: u32, ask: &Ask, decision: &Decision) -> u32
 pub(crate) fn event_of(core: &Core, worker: u32, ask: &Ask, decision: &Decision) -> Event
     requires worker { worker < core.now.ledger.setup.workers }
     requires few { core.now.settled < 2 ^ 32 - 1 }
-    requires decided { (journal : List Event) → Stands core.now journal → decision.now ≡ verdict_of core.now.ledger.setup journal worker ask.now }
-    ensures { (journal : List Event) → Stands core.now journal → result ≡ next_event core.now.ledger.setup journal worker ask.now }
+    requires decided { (journal : List Event) → Stands core.now journal
+        → decision.now ≡ verdict_of core.now.ledger.setup journal worker ask.now }
+    ensures { (journal : List Event) → Stands core.now journal → result ≡ next_event core.now.ledger.setup journal
+        worker ask.now }
 {
     Event {
         worker,
@@ -57,7 +63,8 @@ pub(crate) fn event_of(core: &Core, worker: u32, ask: &Ask, decision: &Decision)
 /// The session of an ask whose line was lost: an opening has none.
 fn lost_session(core: &Core, worker: u32, ask: &Ask) -> u32
     requires { worker < core.now.ledger.setup.workers }
-    ensures { (journal : List Event) → Stands core.now journal → result ≡ (event_with journal worker ask.now Lost).session }
+    ensures { (journal : List Event) → Stands core.now journal
+        → result ≡ (event_with journal worker ask.now Lost).session }
 {
     match ask {
         Ask::Begin => 0,
@@ -87,7 +94,8 @@ pub(crate) fn settle(
     decision: Decision,
 ) -> Event
     requires worker { worker < core.old.ledger.setup.workers }
-    requires decided { (journal : List Event) → Stands core.old journal → decision ≡ verdict_of core.old.ledger.setup journal worker ask.now }
+    requires decided { (journal : List Event) → Stands core.old journal → decision ≡ verdict_of core.old.ledger.setup
+        journal worker ask.now }
     requires room { HasRoom core.old (is_begin ask.now && is_permit decision) }
     ensures kept { KeepsSetup core.old core.new }
     ensures settled { Settles lost worker ask.now core.old core.new result }

@@ -1,5 +1,6 @@
 -- Believed: what is promised of a run, in its parts.
-use Rattle.std.specs.Prelude.{◌≡◌, ℕ, ◌<◌, ◌≤◌, Bool, true, false, ◌&&◌, ◌==◌, List, [], length, count_by, slice_get, Option, Some, None, IfSome}
+use Rattle.std.specs.Prelude.{◌≡◌, ℕ, ◌<◌, ◌≤◌, Bool, true, false, ◌&&◌, ◌==◌, List, [], length, count_by, slice_get}
+use Rattle.std.specs.Prelude.{Option, Some, None, IfSome}
 use Rattle.std.specs.List.{AllByRecursion, last_or, list_any}
 use Rattle.std.specs.Option.{option_map_or}
 use Rattle.policy_laws.specs.Consequences.{HasConsequences}
@@ -43,12 +44,15 @@ pub record SessionsInOrder (service : Service) (journal : List Event) : Type 0 w
 
 -- this holds of every worker and what its post reports, if it reports
 abbrev pub EachScene : {P : Type 0} → (P → Option Scene) → List P → (ℕ → Scene → Type 0) → Type 0
-EachScene {P} scene posts Holds = (worker : ℕ) (post : P) → slice_get posts worker ≡ Some post → IfSome (scene post) (Holds worker)
+EachScene {P} scene posts Holds =
+    (worker : ℕ) (post : P) → slice_get posts worker ≡ Some post → IfSome (scene post) (Holds worker)
 
 -- what a post reports, if it does, is exactly its worker's sessions: operations, bytes sent, taken and left unread, and
 -- at most one last accept
-pub record ConversationsMatch {P : Type 0} (service : Service) (scene : P → Option Scene) (journal : List Event) (posts : List P) : Type 0 where
-  pub held : EachScene scene posts (λ worker s. (sittings : List Sitting) × (last : LastAccept) × AreSittingsOf service journal worker sittings × IsStory sittings last s)
+pub record ConversationsMatch {P : Type 0} (service : Service) (scene : P → Option Scene) (journal : List Event)
+    (posts : List P) : Type 0 where
+  pub held : EachScene scene posts (λ worker s. (sittings : List Sitting) × (last : LastAccept)
+      × AreSittingsOf service journal worker sittings × IsStory sittings last s)
 
 -- ---- the length of the run
 
@@ -62,8 +66,10 @@ lost_by journal worker = list_any (λ e. e.worker == worker && is_lost e.decisio
 
 -- a worker that no accept stopped and that lost no decision opened exactly as many sessions as the setup has
 -- connections, if its post reports
-pub record RunsToQuota {P : Type 0} (setup : Settings) (scene : P → Option Scene) (journal : List Event) (posts : List P) : Type 0 where
-  pub quota : EachScene scene posts (λ worker s. list_any is_stop s.acts ≡ false → lost_by journal worker ≡ false → openings_by journal worker ≡ setup.connections)
+pub record RunsToQuota {P : Type 0} (setup : Settings) (scene : P → Option Scene) (journal : List Event)
+    (posts : List P) : Type 0 where
+  pub quota : EachScene scene posts (λ worker s. list_any is_stop s.acts ≡ false → lost_by journal worker ≡ false
+      → openings_by journal worker ≡ setup.connections)
 
 -- ---- accepts that failed
 
@@ -72,7 +78,8 @@ abbrev pub ends_by_accept_fault : Scene → Bool
 ends_by_accept_fault scene = option_map_or is_failed_accept (last_or None scene.acts) false
 
 -- some worker's post counts a failed accept and reports one, if it reports, as its last operation
-pub record SomeAcceptFailed {P : Type 0} (scene : P → Option Scene) (faults : P → Faults) (posts : List P) : Type 0 where
+pub record SomeAcceptFailed {P : Type 0} (scene : P → Option Scene) (faults : P → Faults)
+    (posts : List P) : Type 0 where
   pub worker : ℕ
   pub post : P
   pub stands : slice_get posts worker ≡ Some post
@@ -91,12 +98,16 @@ ends_by test journal worker = count_by (λ e. e.worker == worker && test e.ask) 
 
 -- at most as many of a worker's sessions ended by a failed link or a failed start as its post counts
 pub record FaultEndsAreCounted {P : Type 0} (faults : P → Faults) (journal : List Event) (posts : List P) : Type 0 where
-  pub link : (worker : ℕ) (post : P) → slice_get posts worker ≡ Some post → ends_by is_link_end journal worker ≤ (faults post).link
-  pub keeper : (worker : ℕ) (post : P) → slice_get posts worker ≡ Some post → ends_by is_keeper_end journal worker ≤ (faults post).keeper
+  pub link : (worker : ℕ) (post : P) → slice_get posts worker ≡ Some post → ends_by is_link_end journal worker
+      ≤ (faults post).link
+  pub keeper : (worker : ℕ) (post : P) → slice_get posts worker ≡ Some post → ends_by is_keeper_end journal worker
+      ≤ (faults post).keeper
 
 -- each post, if it reports, counts exactly the failed accepts and starts that it reports
-pub record FaultsAreCounted {P : Type 0} (scene : P → Option Scene) (faults : P → Faults) (posts : List P) : Type 0 where
-  pub each : (worker : ℕ) (post : P) → slice_get posts worker ≡ Some post → IfSome (scene post) (λ s. CountsAsTold s (faults post))
+pub record FaultsAreCounted {P : Type 0} (scene : P → Option Scene) (faults : P → Faults)
+    (posts : List P) : Type 0 where
+  pub each : (worker : ℕ) (post : P) → slice_get posts worker ≡ Some post
+      → IfSome (scene post) (λ s. CountsAsTold s (faults post))
 
 -- ---- completeness
 
@@ -129,8 +140,11 @@ pub record IsAnsweredWhole {P : Type 0} (service : Service) (scene : P → Optio
 
 -- ---- all of it
 
--- all that is promised of a run that has served by a service: what its journal, its posts and its log are, and whether an accept failed
-pub record RunPromises {P : Type 0} (service : Service) (failed : Bool) (journal : List Event) (posts : List P) (scene : P → Option Scene) (faults : P → Faults) (held_old held_new : Option (List ℕ)) (log_old log_new : ℕ) : Type 0 where
+-- all that is promised of a run that has served by a service: what its
+-- journal, its posts and its log are, and whether an accept failed
+pub record RunPromises {P : Type 0} (service : Service) (failed : Bool) (journal : List Event) (posts : List P)
+    (scene : P → Option Scene) (faults : P → Faults) (held_old held_new : Option (List ℕ))
+    (log_old log_new : ℕ) : Type 0 where
   pub legal : JournalIsLegal service.setup journal
   pub sessions : SessionsInOrder service journal
   pub conversations : ConversationsMatch service scene journal posts

@@ -12,8 +12,10 @@ pub record Preparation : Type 0 where
   pub service : Service
   pub opened : Option Opened
 
--- the cell is over an empty book of the service's setup, its passes have seen nothing, and there is a worker's memory for each
-pub record IsPrepared (service : Service) (place : CellFacts (Option Opened)) (passes : List BookPass) (desks workers room : ℕ) : Type 0 where
+-- the cell is over an empty book of the service's setup, its passes have
+-- seen nothing, and there is a worker's memory for each
+pub record IsPrepared (service : Service) (place : CellFacts (Option Opened)) (passes : List BookPass)
+    (desks workers room : ℕ) : Type 0 where
   pub opened : Opened
   pub cell : IsCellOf place (Some opened) service.setup.workers (quota_of service.setup)
   pub setup_is : opened.setup ≡ service.setup

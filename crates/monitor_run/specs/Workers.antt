@@ -22,7 +22,8 @@ pub record IsDeskOf (service texts : Service) (width : Width) (reader : Held) : 
   pub frames : IsForSessions service.setup.frames reader
 
 -- a worker may begin: its pass is of the cell and has seen nothing, and nothing was asked of its post
-pub record IsReady (setup : Settings) (place : CellFacts (Option Opened)) (pass : BookPass) (scene : Option Scene) (faults : Faults) : Type 0 where
+pub record IsReady (setup : Settings) (place : CellFacts (Option Opened)) (pass : BookPass) (scene : Option Scene)
+    (faults : Faults) : Type 0 where
   pub at : IsPassAt setup place pass
   pub unseen : pass.seen ≡ []
   pub left : quota_of setup ≤ (rights_of pass).left
@@ -30,7 +31,8 @@ pub record IsReady (setup : Settings) (place : CellFacts (Option Opened)) (pass 
   pub faultless : AreCounts 0 0 0 0 0 faults
 
 -- a worker has served: all that it did, from the beginning, is its sessions
-pub record HasServed (service : Service) (place : CellFacts (Option Opened)) (old new : BookPass) (end : WorkerEnd) (before after : Option Scene) (faults_old faults_new : Faults) : Type 0 where
+pub record HasServed (service : Service) (place : CellFacts (Option Opened)) (old new : BookPass) (end : WorkerEnd)
+    (before after : Option Scene) (faults_old faults_new : Faults) : Type 0 where
   pub at : IsPassAt service.setup place new
   pub number_is : new.number ≡ old.number
   pub story : HasStory service old.number end old.seen new.seen before after faults_old faults_new

@@ -56,7 +56,8 @@ pub(crate) fn gather<'a, T: Texts, P: Drop, Q: Drop>(
     ensures posts { (posts.new.items ≡ []) × (reverse (map (λ w. w.post) workers.new.items) ≡ posts.old.items) }
     ensures passes { (passes.new.items ≡ []) × (reverse (map (λ w. w.pass) workers.new.items) ≡ passes.old.items) }
     ensures desks { reverse (map (λ w. w.desk) workers.new.items) ≡ desks.old.items }
-    ensures room { (vec_capacity posts.new ≡ vec_capacity posts.old) × (vec_capacity passes.new ≡ vec_capacity passes.old) }
+    ensures room { (vec_capacity posts.new ≡ vec_capacity posts.old)
+        × (vec_capacity passes.new ≡ vec_capacity passes.old) }
 {
     for _ in 0..posts.len() {
         workers.push_reserved(last_worker(posts, passes, desks));

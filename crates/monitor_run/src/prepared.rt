@@ -38,8 +38,11 @@ impl<'a, T: Texts + Sync, P: Post, K: Sink> Model for Prepared<'a, T, P, K> {
 
     ghost view = { λ p. record { service = T.service p.texts.now; opened = p.cell.terms } };
 
-    ghost invariant = { λ p. IsPrepared (T.service p.texts.now) p.cell p.passes.items (length p.desks.items) (length p.workers.items) (vec_capacity p.workers)
-        × All (λ d. IsDeskOf (T.service p.texts.now) (T.service d.replies.texts.now) d.replies.frames.width d.reader) p.desks.items };
+    ghost invariant =
+        { λ p. IsPrepared (T.service p.texts.now) p.cell p.passes.items (length p.desks.items) (length p.workers.items)
+            (vec_capacity p.workers)
+        × All (λ d. IsDeskOf (T.service p.texts.now) (T.service d.replies.texts.now) d.replies.frames.width d.reader)
+        p.desks.items };
 }
 
 /// The memory of each worker that answers from these texts.
@@ -48,7 +51,9 @@ fn desks_of<'a, T: Texts + Sync>(
     texts: &'a T,
 ) -> Result<Vec<Desk<'a, T>>, AllocError>
     ensures count { IfOk result (λ desks. length desks.items ≡ (T.service texts.now).setup.workers) }
-    ensures each { IfOk result (λ desks. All (λ d. IsDeskOf (T.service texts.now) (T.service d.replies.texts.now) d.replies.frames.width d.reader) desks.items) }
+    ensures
+        each { IfOk result (λ desks. All (λ d. IsDeskOf (T.service texts.now) (T.service d.replies.texts.now)
+        d.replies.frames.width d.reader) desks.items) }
 {
     let mut desks = Vec::with_capacity(alloc, texts.setup().workers() as usize)?;
     for _ in 0..texts.setup().workers() {
@@ -63,7 +68,10 @@ fn cell_of<K: Sink>(
     setup: &Setup,
     log: K,
 ) -> Result<(TurnCell<Book<K>>, Vec<Pass<Book<K>>>), K>
-    ensures cell { IfOk result (λ r. IsCellOf r.0 (Some (record { setup = setup.now; held = K.held log; faults = K.faults log })) setup.now.workers (quota_of setup.now)) }
+    ensures
+        cell { IfOk result
+        (λ r. IsCellOf r.0 (Some (record { setup = setup.now; held = K.held log; faults = K.faults log }))
+        setup.now.workers (quota_of setup.now)) }
     ensures new { IfOk result (λ r. AreNewPasses r.0 r.1.items) }
     ensures back { IfErr result (λ back. LogStays (K.held log) (K.held back) (K.faults log) (K.faults back)) }
 {
@@ -108,7 +116,9 @@ pub fn prepare<'a, T: Texts + Sync, P: Post, K: Sink>(
     log: K,
 ) -> Result<Prepared<'a, T, P, K>, K>
     ensures service { IfOk result (λ p. p.service ≡ T.service texts.now) }
-    ensures opened { IfOk result (λ p. p.opened ≡ Some (record { setup = (T.service texts.now).setup; held = K.held log; faults = K.faults log })) }
+    ensures
+        opened { IfOk result (λ p. p.opened ≡ Some (record { setup = (T.service texts.now).setup; held = K.held log;
+        faults = K.faults log })) }
     ensures back { IfErr result (λ back. LogStays (K.held log) (K.held back) (K.faults log) (K.faults back)) }
 {
     let Ok(desks) = desks_of(alloc, texts) else {
@@ -130,7 +140,8 @@ pub fn prepare<'a, T: Texts + Sync, P: Post, K: Sink>(
 impl<'a, T: Texts + Sync, P: Post, K: Sink> Prepared<'a, T, P, K> {
     /// Gives a run up that nobody was served by: its log, as it was.
     pub fn give_up(self) -> K
-        ensures { (held : Option (List ℕ)) (faults : ℕ) → self.entry.opened ≡ Some (record { setup = self.entry.service.setup; held = held; faults = faults })
+        ensures { (held : Option (List ℕ)) (faults : ℕ) → self.entry.opened
+            ≡ Some (record { setup = self.entry.service.setup; held = held; faults = faults })
             → LogStays held (K.held result) faults (K.faults result) }
     {
         let Prepared { cell, passes, .. } = self;

@@ -30,8 +30,10 @@ pub(crate) fn serve_at_cell<'a, T: Texts + Sync, P: Post, K: Sink, W: Wait>(
 )
     requires desk { let service = T.service worker.old.desk.replies.texts.now in
         IsDeskOf service service worker.old.desk.replies.frames.width worker.old.desk.reader }
-    requires ready { IsReady (T.service worker.old.desk.replies.texts.now).setup cell.now worker.old.pass (P.scene worker.old.post) (P.faults worker.old.post) }
-    ensures served { HasServed (T.service worker.old.desk.replies.texts.now) cell.now worker.old.pass worker.new.pass worker.new.end
+    requires ready { IsReady (T.service worker.old.desk.replies.texts.now).setup cell.now worker.old.pass
+        (P.scene worker.old.post) (P.faults worker.old.post) }
+    ensures served { HasServed (T.service worker.old.desk.replies.texts.now) cell.now worker.old.pass worker.new.pass
+        worker.new.end
         (P.scene worker.old.post) (P.scene worker.new.post) (P.faults worker.old.post) (P.faults worker.new.post) }
 {
     let call = |pass: &mut Pass<Book<K>>, ask: Ask|

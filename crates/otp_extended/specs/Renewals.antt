@@ -1,5 +1,6 @@
 -- Believed: what a response makes of an account, and what follows of a renewal.
-use Rattle.std.specs.Prelude.{ℕ, zero, suc, ◌≡◌, ◌≢◌, ◌≤◌, Bool, false, not, ◌==◌, ◌||◌, List, [], ◌∷◌, ◌++◌, take, slice_get, Option, Some, None, Result, Ok, Err, if◌then◌else◌}
+use Rattle.std.specs.Prelude.{ℕ, zero, suc, ◌≡◌, ◌≢◌, ◌≤◌, Bool, false, not, ◌==◌, ◌||◌, List, [], ◌∷◌, ◌++◌, take}
+use Rattle.std.specs.Prelude.{slice_get, Option, Some, None, Result, Ok, Err, if◌then◌else◌}
 use Rattle.std.specs.Str.{bytes_eq}
 use Rattle.otp_hash.specs.Hashing.{hash_of}
 use Rattle.otp_hash.specs.SeedBytes.{seed_bytes}
@@ -13,7 +14,8 @@ use Rattle.otp_extended.specs.declared.response.Response.{Response}
 use Rattle.otp_extended.specs.declared.response.Response.TheVariants.{Plain, Init}
 use Rattle.otp_extended.specs.declared.renewal.Renewed.{Renewed}
 use Rattle.otp_extended.specs.declared.renewal.RenewFault.{RenewFault}
-use Rattle.otp_extended.specs.declared.renewal.RenewFault.TheVariants.{Unknown, Disabled, Exhausted, NotInit, SameSeed, Replayed, NoMatch, Loop}
+use Rattle.otp_extended.specs.declared.renewal.RenewFault.TheVariants.{Unknown, Disabled, Exhausted, NotInit, SameSeed}
+use Rattle.otp_extended.specs.declared.renewal.RenewFault.TheVariants.{Replayed, NoMatch, Loop}
 
 -- the sequence of a response that begins a new chain is 1 to 9,999
 abbrev pub IsSequenced : Response → Type 0
@@ -47,7 +49,8 @@ chain_faults account (Init current algo sequence seed password) =
 -- all faults of a response for an account, in their order
 abbrev pub faults_of : Account → Response → List RenewFault
 faults_of account response =
-    fault_if (not account.enabled) Disabled ++ (fault_if (account.sequence == 0) Exhausted ++ chain_faults account response)
+    fault_if (not account.enabled) Disabled ++ (fault_if (account.sequence == 0) Exhausted ++ chain_faults account
+        response)
 
 -- the first of some faults, if there is one
 abbrev pub first_of : List RenewFault → Option RenewFault
@@ -76,7 +79,8 @@ renewal_of setup user response = renewal_by (account_number setup user) (account
 
 -- an account with a new chain
 abbrev pub account_with : Account → Renewed → Account
-account_with account new = record account { algo = new.algo; seed = new.seed; sequence = new.sequence; password = new.password }
+account_with account new =
+    record account { algo = new.algo; seed = new.seed; sequence = new.sequence; password = new.password }
 
 -- accounts of which the one at a place has a new chain
 abbrev pub accounts_with : List Account → ℕ → Renewed → List Account
@@ -90,7 +94,8 @@ renewed_setup setup new = record setup { accounts = accounts_with setup.accounts
 
 -- no permitted REPLY for the user has this password, unless an earlier permitted one for the user stands before it
 pub record IsNotNext (journal : List Event) (user : Name) (password : ℕ) : Type 0 where
-  pub refused : (k : ℕ) (e : Event) → slice_get journal k ≡ Some e → replies_of (take k journal) user ≡ [] → reply_for user (record { before = take k journal; event = e }) ≢ Some password
+  pub refused : (k : ℕ) (e : Event) → slice_get journal k ≡ Some e → replies_of (take k journal) user ≡ []
+      → reply_for user (record { before = take k journal; event = e }) ≢ Some password
 
 -- the user's account has the new chain, all else is as before, and no legal journal of the new setup first accepts the
 -- spent password

@@ -1,5 +1,6 @@
 -- Believed: the responses of RFC 2243 in the profile that this program reads.
-use Rattle.std.specs.Prelude.{ℕ, ◌≡◌, ◌≤◌, ◌<◌, ◌^◌, true, List, [], ◌∷◌, ◌++◌, map, codes, Option, Some, None, Result, Ok, Err, if◌then◌else◌}
+use Rattle.std.specs.Prelude.{ℕ, ◌≡◌, ◌≤◌, ◌<◌, ◌^◌, true, List, [], ◌∷◌, ◌++◌, map, codes, Option, Some, None, Result}
+use Rattle.std.specs.Prelude.{Ok, Err, if◌then◌else◌}
 use Rattle.std.specs.Char.{to_ascii_lowercase}
 use Rattle.std.specs.Str.{bytes_eq}
 use Rattle.otp_hash.specs.declared.chain.Algo.{Algo}
@@ -73,10 +74,12 @@ IsPlainOf dictionary form current _ = ⊥
 -- those three parts: a password, the parameters of the new chain, and its password; or the first that doesn't read
 abbrev pub IsInitOf : List (List ℕ) → Form → List ℕ → List ℕ → List ℕ → Result Response ResponseFault → Type 0
 IsInitOf dictionary form current params new (Ok (Init spent algo sequence seed password)) =
-    Spells dictionary form current spent × AreParams params algo sequence (seed_bytes seed) × Spells dictionary form new password
+    Spells dictionary form current spent × AreParams params algo sequence (seed_bytes seed)
+        × Spells dictionary form new password
 IsInitOf dictionary form current params new (Err faults.Current) = SpellsNone dictionary form current
 IsInitOf dictionary form current params new (Err faults.Params) = SpellsSome dictionary form current × IsNoParams params
-IsInitOf dictionary form current params new (Err faults.New) = SpellsSome dictionary form current × IsSomeParams params × SpellsNone dictionary form new
+IsInitOf dictionary form current params new (Err faults.New) =
+    SpellsSome dictionary form current × IsSomeParams params × SpellsNone dictionary form new
 IsInitOf dictionary form current params new _ = ⊥
 
 -- a plain response has one part after the kind's word

@@ -1,5 +1,6 @@
 -- Believed: a ledger as contracts see it, and what each call makes of it.
-use Rattle.std.specs.Prelude.{ℕ, ◌≡◌, Bool, false, ◌+◌, ◌-◌, List, [], ◌∷◌, ◌++◌, map, slice_index_or, slice_set, Option, Some, None, nat_eq, unwrap_or, if◌then◌else◌}
+use Rattle.std.specs.Prelude.{ℕ, ◌≡◌, Bool, false, ◌+◌, ◌-◌, List, [], ◌∷◌, ◌++◌, map, slice_index_or, slice_set}
+use Rattle.std.specs.Prelude.{Option, Some, None, nat_eq, unwrap_or, if◌then◌else◌}
 use Rattle.std.specs.List.{last_or, list_any}
 use Rattle.otp_hash.specs.declared.chain.Algo.{Algo}
 use Rattle.otp_hash.specs.declared.chain.Algo.TheVariants as algos
@@ -28,7 +29,8 @@ pub record LedgerParts : Type 0 where
 
 -- what stands for an account that isn't there
 abbrev pub no_state : AccountState
-no_state = record { algo = algos.Md5; enabled = false; accepted = []; sequence = 0; taker = 0; moment = 0; holder = None }
+no_state = record { algo = algos.Md5; enabled = false; accepted = []; sequence = 0; taker = 0; moment = 0;
+    holder = None }
 
 -- what a ledger knows of the account of this number
 abbrev pub state_at : LedgerParts → ℕ → AccountState
@@ -77,10 +79,13 @@ releasing state session = record state { holder = if is_holder session state.hol
 
 -- the ledger after each of these
 abbrev pub ledger_holding : LedgerParts → ℕ → ℕ → ℕ → LedgerParts
-ledger_holding l account session now = record l { accounts = slice_set l.accounts account (holding (state_at l account) session now) }
+ledger_holding l account session now =
+    record l { accounts = slice_set l.accounts account (holding (state_at l account) session now) }
 
 abbrev pub ledger_spending : LedgerParts → ℕ → ℕ → LedgerParts
-ledger_spending l account password = record l { accounts = slice_set l.accounts account (accepting (state_at l account) password); spent = l.spent + 1 }
+ledger_spending l account password =
+    record l { accounts = slice_set l.accounts account (accepting (state_at l account) password); spent = l.spent + 1 }
 
 abbrev pub ledger_releasing : LedgerParts → ℕ → ℕ → LedgerParts
-ledger_releasing l account session = record l { accounts = slice_set l.accounts account (releasing (state_at l account) session) }
+ledger_releasing l account session =
+    record l { accounts = slice_set l.accounts account (releasing (state_at l account) session) }

@@ -1,9 +1,11 @@
 -- Inner: what a ledger decides on CHALLENGE and REPLY.
-use Rattle.std.specs.Prelude.{ℕ, ◌+◌, ◌-◌, nat_lt, Bool, not, ◌&&◌, ◌==◌, List, length, Option, Some, None, if◌then◌else◌}
+use Rattle.std.specs.Prelude.{ℕ, ◌+◌, ◌-◌, nat_lt, Bool, not, ◌&&◌, ◌==◌, List, length, Option, Some, None}
+use Rattle.std.specs.Prelude.{if◌then◌else◌}
 use Rattle.std.specs.List.{find, list_any}
 use Rattle.std.specs.Option.{option_map_or}
 use Rattle.otp_hash.specs.Hashing.{hash_of}
-use Rattle.request_catalogue.specs.declared.rules.TheConstants.{USER_HELD, HOLD_LOST, NO_READING, PASSWORD_USED, NO_MATCH}
+use Rattle.request_catalogue.specs.declared.rules.TheConstants.{USER_HELD, HOLD_LOST, NO_READING, PASSWORD_USED}
+use Rattle.request_catalogue.specs.declared.rules.TheConstants.{NO_MATCH}
 use Rattle.request_catalogue.specs.declared.texts.Name.{Name}
 use Rattle.policy_model.specs.declared.event.Decision.{Decision}
 use Rattle.policy_model.specs.declared.event.Decision.TheVariants.{Permit, Deny}

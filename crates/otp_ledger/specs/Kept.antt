@@ -1,5 +1,6 @@
 -- Inner: rising arrays of accepted passwords.
-use Rattle.std.specs.Prelude.{ℕ, ◌≡◌, ◌≤◌, ◌<◌, ◌+◌, ◌-◌, ◌==◌, ◌&&◌, ◌||◌, Bool, true, false, List, ◌∷◌, ◌++◌, take, drop, length, slice_index_or, nat_lt}
+use Rattle.std.specs.Prelude.{ℕ, ◌≡◌, ◌≤◌, ◌<◌, ◌+◌, ◌-◌, ◌==◌, ◌&&◌, ◌||◌, Bool, true, false, List, ◌∷◌, ◌++◌, take}
+use Rattle.std.specs.Prelude.{drop, length, slice_index_or, nat_lt}
 use Rattle.std.specs.List.{list_any}
 use Rattle.std.specs.Ordering.{nat_cmp, ordering_then}
 use Rattle.std.specs.declared.cmp.Ordering.{Ordering}
@@ -13,7 +14,8 @@ kept_cmp a b = ordering_then (nat_cmp a.account b.account) (nat_cmp a.password b
 
 -- the entries rise strictly, first by account and then by password
 pub record IsRising (kept : List Kept) : Type 0 where
-  pub rises : (i j : ℕ) (d : Kept) → i < j → j < length kept → kept_cmp (slice_index_or kept i d) (slice_index_or kept j d) ≡ Less
+  pub rises : (i j : ℕ) (d : Kept) → i < j → j < length kept → kept_cmp (slice_index_or kept i d)
+      (slice_index_or kept j d) ≡ Less
 
 -- the entry is at this place
 pub record IsHere (kept : List Kept) (entry : Kept) (i : ℕ) : Type 0 where
@@ -43,20 +45,25 @@ has_entry account password kept = list_any (is_entry account password) kept
 
 -- an array has the entries of another, and this one
 abbrev pub AddsEntry : List Kept → Kept → List Kept → Type 0
-AddsEntry old entry new = (account password : ℕ) → has_entry account password new ≡ (is_entry account password entry || has_entry account password old)
+AddsEntry old entry new =
+    (account password : ℕ) → has_entry account password new ≡ (is_entry account password entry
+    || has_entry account password old)
 
 -- two rising arrays with no entry in common
 pub record AreSplit (settled recent : List Kept) : Type 0 where
   pub settled_rises : IsRising settled
   pub recent_rises : IsRising recent
-  pub apart : (account password : ℕ) → has_entry account password recent ≡ true → has_entry account password settled ≡ false
+  pub apart : (account password : ℕ) → has_entry account password recent ≡ true → has_entry account password settled
+      ≡ false
 
 -- a rising array has the entries of two
 pub record IsMerged (settled recent merged : List Kept) : Type 0 where
   pub rising : IsRising merged
-  pub entries : (account password : ℕ) → has_entry account password merged ≡ (has_entry account password settled || has_entry account password recent)
+  pub entries : (account password : ℕ) → has_entry account password merged ≡ (has_entry account password settled
+      || has_entry account password recent)
 
--- an entry comes to its place among those before the end, and those from there on move up past it, and past as many places as are left
+-- an entry comes to its place among those before the end, and those from
+-- there on move up past it, and past as many places as are left
 pub record IsMovedUp (old : List Kept) (end left : ℕ) (entry : Kept) (place : ℕ) (new : List Kept) : Type 0 where
   pub gap : IsGap (take end old) entry place
   pub front : take place new ≡ take place old
@@ -64,4 +71,5 @@ pub record IsMovedUp (old : List Kept) (end left : ℕ) (entry : Kept) (place : 
 
 -- the array has the accepted passwords of each account and nothing else
 pub record AreEntries (kept : List Kept) (accounts : List AccountState) : Type 0 where
-  pub entries : (account password : ℕ) (d : AccountState) → has_entry account password kept ≡ (nat_lt account (length accounts) && was_accepted (slice_index_or accounts account d) password)
+  pub entries : (account password : ℕ) (d : AccountState) → has_entry account password kept
+      ≡ (nat_lt account (length accounts) && was_accepted (slice_index_or accounts account d) password)

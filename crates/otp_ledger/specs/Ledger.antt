@@ -13,13 +13,16 @@ use Rattle.otp_ledger.specs.Rows.{state_of}
 abbrev pub parts_of : Inside → LedgerParts
 parts_of l = record { setup = l.setup; accounts = map state_of l.rows.items; spent = l.spent; cap = l.cap }
 
--- the arrays rise, have just the accepted passwords, and have room for those that are still to come; no sequence is above its first one, nor that above 9,999; the names rise, and are those of the setup's accounts
+-- the arrays rise, have just the accepted passwords, and have room for those that are still to come; no sequence is
+-- above its first one, nor that above 9,999; the names rise, and are those of the setup's accounts
 pub record IsLedger (l : Inside) : Type 0 where
   pub in_range : IsInRange l.setup
   pub passwords : ArePasswords l.passwords
   pub entries : AreEntries (all_of l.passwords) (map state_of l.rows.items)
-  pub few : (account : ℕ) (d : AccountRow) → account < length l.rows.items → (slice_index_or l.rows.items account d).sequence ≤ (slice_index_or l.rows.items account d).start
-  pub short : (account : ℕ) (d : AccountRow) → account < length l.rows.items → (slice_index_or l.rows.items account d).start ≤ 9999
+  pub few : (account : ℕ) (d : AccountRow) → account < length l.rows.items
+      → (slice_index_or l.rows.items account d).sequence ≤ (slice_index_or l.rows.items account d).start
+  pub short : (account : ℕ) (d : AccountRow) → account < length l.rows.items
+      → (slice_index_or l.rows.items account d).start ≤ 9999
   pub room : l.cap ≤ room_of l.passwords + l.spent
   pub accounts : length l.rows.items ≡ length l.setup.accounts
   pub named : AreNamed l.names.items

@@ -1,5 +1,6 @@
 -- Inner: the rising array of names.
-use Rattle.std.specs.Prelude.{ℕ, ◌≡◌, ◌<◌, ◌≤◌, List, length, slice_index_or, Option, Some, None, option_map, position, if◌then◌else◌}
+use Rattle.std.specs.Prelude.{ℕ, ◌≡◌, ◌<◌, ◌≤◌, List, length, slice_index_or, Option, Some, None, option_map, position}
+use Rattle.std.specs.Prelude.{if◌then◌else◌}
 use Rattle.std.specs.List.{find}
 use Rattle.std.specs.Ordering.{nat_cmp}
 use Rattle.std.specs.Cmp.Lexicographic.{slice_cmp}
@@ -17,7 +18,8 @@ name_cmp a b = slice_cmp nat_cmp (name_bytes a) (name_bytes b)
 
 -- the names rise strictly
 pub record AreNamed (names : List Named) : Type 0 where
-  pub rises : (i j : ℕ) (d : Named) → i < j → j < length names → name_cmp (slice_index_or names i d).name (slice_index_or names j d).name ≡ Less
+  pub rises : (i j : ℕ) (d : Named) → i < j → j < length names → name_cmp (slice_index_or names i d).name
+      (slice_index_or names j d).name ≡ Less
 
 -- the name is at this place
 pub record IsNamedHere (names : List Named) (user : Name) (i : ℕ) : Type 0 where

@@ -12,7 +12,8 @@ all_of p = p.settled.items ++ p.recent.items
 abbrev pub room_of : Passwords → ℕ
 room_of p = vec_capacity p.settled - (vec_len p.settled + vec_len p.recent)
 
--- both rise and have no entry in common; the large one has room for the entries of the small one, and this has room at all
+-- both rise and have no entry in common; the large one has room for
+-- the entries of the small one, and this has room at all
 pub record ArePasswords (p : Passwords) : Type 0 where
   pub split : AreSplit p.settled.items p.recent.items
   pub fits : vec_len p.settled + vec_len p.recent ≤ vec_capacity p.settled

@@ -1,5 +1,6 @@
 -- Inner: what is kept of an account, and what it stands for.
-use Rattle.std.specs.Prelude.{ℕ, zero, suc, false, ◌-◌, List, [], ◌∷◌, reverse, slice_index_or, slice_set, Some, None, if◌then◌else◌}
+use Rattle.std.specs.Prelude.{ℕ, zero, suc, false, ◌-◌, List, [], ◌∷◌, reverse, slice_index_or, slice_set, Some, None}
+use Rattle.std.specs.Prelude.{if◌then◌else◌}
 use Rattle.otp_hash.specs.declared.chain.Algo.{Algo}
 use Rattle.otp_hash.specs.declared.chain.Algo.TheVariants as algos
 use Rattle.otp_hash.specs.Hashing.{hash_of}
@@ -31,7 +32,8 @@ state_of row = record {
 
 -- any row
 abbrev pub no_row : AccountRow
-no_row = record { algo = algos.Md5; enabled = false; start = 0; sequence = 0; password = 0; taker = 0; moment = 0; holder = None }
+no_row = record { algo = algos.Md5; enabled = false; start = 0; sequence = 0; password = 0; taker = 0; moment = 0;
+    holder = None }
 
 -- the row of a number
 abbrev pub row_at : List AccountRow → ℕ → AccountRow

@@ -5,7 +5,8 @@ ghost use Rattle.std.specs.List.{find, list_any};
 ghost use Rattle.std.specs.Option.{option_to_list};
 ghost use Rattle.policy_model.specs.Verdict.{readings};
 ghost use Rattle.otp_ledger.specs.Accounts.{state_at, was_accepted};
-ghost use Rattle.otp_ledger.specs.Decisions.{PermitsNext, challenge_decision, is_next, readings_decision, refused, reply_decision, state_decision};
+ghost use Rattle.otp_ledger.specs.Decisions.{PermitsNext, challenge_decision, is_next, readings_decision, refused};
+ghost use Rattle.otp_ledger.specs.Decisions.{reply_decision, state_decision};
 ghost use Rattle.otp_ledger.specs.Standing.{IsChallengeVerdict, IsReplyVerdict};
 
 use crate::ledger::Ledger;

@@ -3,7 +3,8 @@
 ghost use Rattle.std.specs.Prelude.{◌≡◌, ◌<◌, ◌≤◌, ◌+◌, [], IfOk, IfSome, length, map, nat_le};
 ghost use Rattle.std.specs.Borrow.{sem};
 ghost use Rattle.policy_model.specs.Settings.{account_number};
-ghost use Rattle.otp_ledger.specs.Accounts.{IsNextPassword, current_of, ledger_holding, ledger_releasing, ledger_spending, new_ledger, state_at, was_accepted};
+ghost use Rattle.otp_ledger.specs.Accounts.{IsNextPassword, current_of, ledger_holding, ledger_releasing};
+ghost use Rattle.otp_ledger.specs.Accounts.{ledger_spending, new_ledger, state_at, was_accepted};
 ghost use Rattle.otp_ledger.specs.Kept.{AreEntries, IsRising};
 ghost use Rattle.otp_ledger.specs.Lending.{StaysSame};
 ghost use Rattle.otp_ledger.specs.Rows.{new_row, state_of};

@@ -1,7 +1,8 @@
 //! The accounts by name.
 
 ghost use Rattle.std.specs.Prelude.{◌≡◌, ◌≤◌, IfErr, IfOk, length};
-ghost use Rattle.otp_ledger.specs.Names.{AddsName, AreNamed, AreNumbersOf, IsNameGap, IsNamedHere, name_cmp, number_named};
+ghost use Rattle.otp_ledger.specs.Names.{AddsName, AreNamed, AreNumbersOf, IsNameGap, IsNamedHere, name_cmp};
+ghost use Rattle.otp_ledger.specs.Names.{number_named};
 
 use policy_model::Account;
 use request_catalogue::Name;

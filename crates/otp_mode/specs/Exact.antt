@@ -12,7 +12,8 @@ use Rattle.otp_mode.specs.Phrase.{phrase_of}
 use Rattle.otp_mode.specs.Words.{OtpParts}
 
 -- the files report, and the named word list is judged so
-pub record IsJudged (contents : Option Contents) (name : List ℕ) (judgement : Result (List (List ℕ)) DictFault) : Type 0 where
+pub record IsJudged (contents : Option Contents) (name : List ℕ) (judgement : Result (List (List ℕ)) DictFault) : Type
+    0 where
   pub files : Contents
   pub told : contents ≡ Some files
   pub text : List ℕ
@@ -34,7 +35,11 @@ ListIsGood contents (Some name) = (words : List (List ℕ)) × IsJudged contents
 
 -- a bad list or a missing phrase is refused, unless something fails first; otherwise `otp` succeeds, unless something
 -- fails or memory runs out
-pub record IsExact (parts : OtpParts) (contents : Option Contents) (before after : Option Link) (ReadFailed EndsFailed : Type 0) (result : Result (Unit {0}) OtpFault) : Type 0 where
-  pub list_refused : (name : List ℕ) (fault : DictFault) → parts.list ≡ Some name → IsJudged contents name (Err fault) → (result ≡ Err (faults.ListRefused fault)) ⊎ (result ≡ Err faults.ReadFailed) ⊎ (result ≡ Err faults.OutOfMemory)
-  pub phrase_refused : HasPhrase before after None → (result ≡ Err faults.PhraseRefused) ⊎ (result ≡ Err faults.EndsFailed) ⊎ (ends_at_list result ≡ true)
-  pub complete : (phrase : List ℕ) → ListIsGood contents parts.list → HasPhrase before after (Some phrase) → (ReadFailed → ⊥) → (EndsFailed → ⊥) → (result ≡ Ok tt) ⊎ (result ≡ Err faults.OutOfMemory)
+pub record IsExact (parts : OtpParts) (contents : Option Contents) (before after : Option Link)
+    (ReadFailed EndsFailed : Type 0) (result : Result (Unit {0}) OtpFault) : Type 0 where
+  pub list_refused : (name : List ℕ) (fault : DictFault) → parts.list ≡ Some name → IsJudged contents name (Err fault)
+      → (result ≡ Err (faults.ListRefused fault)) ⊎ (result ≡ Err faults.ReadFailed) ⊎ (result ≡ Err faults.OutOfMemory)
+  pub phrase_refused : HasPhrase before after None → (result ≡ Err faults.PhraseRefused)
+      ⊎ (result ≡ Err faults.EndsFailed) ⊎ (ends_at_list result ≡ true)
+  pub complete : (phrase : List ℕ) → ListIsGood contents parts.list → HasPhrase before after (Some phrase)
+      → (ReadFailed → ⊥) → (EndsFailed → ⊥) → (result ≡ Ok tt) ⊎ (result ≡ Err faults.OutOfMemory)

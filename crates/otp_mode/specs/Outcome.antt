@@ -1,5 +1,6 @@
 -- Believed: what the mode `otp` came to, and why.
-use Rattle.std.specs.Prelude.{◌≡◌, ◌⊎◌, ℕ, ◌≤◌, Bool, true, false, List, [], length, take, Option, Some, None, Result, Ok, Err, IsSome}
+use Rattle.std.specs.Prelude.{◌≡◌, ◌⊎◌, ℕ, ◌≤◌, Bool, true, false, List, [], length, take, Option, Some, None, Result}
+use Rattle.std.specs.Prelude.{Ok, Err, IsSome}
 use Rattle.outside.specs.Files.{Contents}
 use Rattle.outside.specs.Link.{Exchanged, Link}
 use Rattle.outside.specs.Told.{Goes}
@@ -58,7 +59,8 @@ pub record PrintedPart (parts : OtpParts) (words : Option (List (List ℕ))) (be
   pub passed : Exchanged received (take count (otp_text parts words phrase)) before after
 
 -- what came of a phrase and its password, with these words of a list
-abbrev pub IsPrinting : OtpParts → Option (List (List ℕ)) → Option Link → Option Link → Type 0 → Result (Unit {0}) OtpFault → Type 0
+abbrev pub IsPrinting : OtpParts → Option (List (List ℕ)) → Option Link → Option Link → Type 0
+    → Result (Unit {0}) OtpFault → Type 0
 IsPrinting parts words before after EndsFailed (Ok _) = Goes (Printed parts words) before after
 IsPrinting parts words before after EndsFailed (Err faults.EndsFailed) =
     EndsFailed × (Goes OnlyReceived before after ⊎ Goes (PrintedPart parts words) before after)
@@ -68,7 +70,8 @@ IsPrinting parts words before after EndsFailed (Err _) = ⊥
 
 -- what each end of `otp` means: the password was printed, whole or in part, or why not; at a bad list nothing is
 -- received
-abbrev pub IsOutcome : OtpParts → Option Contents → Option Link → Option Link → Type 0 → Type 0 → Result (Unit {0}) OtpFault → Type 0
+abbrev pub IsOutcome : OtpParts → Option Contents → Option Link → Option Link → Type 0 → Type 0
+    → Result (Unit {0}) OtpFault → Type 0
 IsOutcome parts contents before after ReadFailed EndsFailed (Ok _) =
     (words : Option (List (List ℕ))) × HasWords contents parts.list words × Goes (Printed parts words) before after
 IsOutcome parts contents before after ReadFailed EndsFailed (Err faults.ReadFailed) =
@@ -80,7 +83,8 @@ IsOutcome parts contents before after ReadFailed EndsFailed (Err (faults.ListRef
 IsOutcome parts contents before after ReadFailed EndsFailed (Err faults.OutOfMemory) =
     IsSome parts.list × (after ≡ before)
 IsOutcome parts contents before after ReadFailed EndsFailed (Err faults.EndsFailed) =
-    EndsFailed × ((words : Option (List (List ℕ))) × HasWords contents parts.list words × (Goes OnlyReceived before after ⊎ Goes (PrintedPart parts words) before after))
+    EndsFailed × ((words : Option (List (List ℕ))) × HasWords contents parts.list words
+        × (Goes OnlyReceived before after ⊎ Goes (PrintedPart parts words) before after))
 IsOutcome parts contents before after ReadFailed EndsFailed (Err faults.PhraseRefused) =
     ((words : Option (List (List ℕ))) × HasWords contents parts.list words) × Goes RefusedPhrase before after
 

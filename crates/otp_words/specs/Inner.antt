@@ -1,5 +1,6 @@
 -- Inner: what the clauses of functions inside the crate cite; no promise to a caller stands on it.
-use Rattle.std.specs.Prelude.{◌≡◌, ℕ, ◌+◌, ◌-◌, ◌/◌, ◌%◌, Bool, true, false, List, [], ◌∷◌, ◌++◌, Option, Some, slice_get, slice_index, nat_lt, ◌==◌, if◌then◌else◌}
+use Rattle.std.specs.Prelude.{◌≡◌, ℕ, ◌+◌, ◌-◌, ◌/◌, ◌%◌, Bool, true, false, List, [], ◌∷◌, ◌++◌, Option, Some}
+use Rattle.std.specs.Prelude.{slice_get, slice_index, nat_lt, ◌==◌, if◌then◌else◌}
 use Rattle.std.specs.Char.{is_ascii_digit, is_ascii_alphanumeric}
 use Rattle.std.specs.List.{list_all, prefix_len}
 use Rattle.otp_words.specs.Blanks.{is_blank}
@@ -42,7 +43,8 @@ grouped digits place = if place % 5 == 4 then 32 else slice_index digits (place 
 
 -- a look-up by words as numbers gives their places
 pub record IsPlaced (words : List (List ℕ)) (place : ℕ → Option ℕ) : Type 0 where
-  pub found : (number i : ℕ) → place number ≡ Some i → (word : List ℕ) × (slice_get words i ≡ Some word) × (number_of 8 word ≡ number)
+  pub found : (number i : ℕ) → place number ≡ Some i → (word : List ℕ) × (slice_get words i ≡ Some word)
+      × (number_of 8 word ≡ number)
   pub only : (i : ℕ) (word : List ℕ) → slice_get words i ≡ Some word → place (number_of 8 word) ≡ Some i
 
 -- words of letters in upper case

@@ -1,5 +1,6 @@
 -- Believed: the words that a text lists, or its first fault.
-use Rattle.std.specs.Prelude.{ℕ, ◌+◌, List, [], ◌∷◌, length, map, take, slice_index_or, Option, Some, None, Result, Ok, Err, min, nat_le, not, ◌==◌, ◌&&◌, if◌then◌else◌}
+use Rattle.std.specs.Prelude.{ℕ, ◌+◌, List, [], ◌∷◌, length, map, take, slice_index_or, Option, Some, None, Result, Ok}
+use Rattle.std.specs.Prelude.{Err, min, nat_le, not, ◌==◌, ◌&&◌, if◌then◌else◌}
 use Rattle.std.specs.Option.{option_map}
 use Rattle.std.specs.Char.{is_ascii_alphabetic}
 use Rattle.std.specs.List.{list_all, list_any, filter_map, range_with_len}
@@ -23,7 +24,8 @@ fault_at number rule = record { line = min number 4294967295; rule = rule }
 
 -- the fault of the line at a place, given the lines before it, if it has one
 abbrev pub fault_of : List (List ℕ) → ℕ → Option DictFault
-fault_of lines i = option_map (fault_at (i + 1)) (rule_of (map str_to_ascii_uppercase (take i lines)) (slice_index_or lines i []))
+fault_of lines i =
+    option_map (fault_at (i + 1)) (rule_of (map str_to_ascii_uppercase (take i lines)) (slice_index_or lines i []))
 
 -- the faults of all lines, in their order
 abbrev pub faults_of : List (List ℕ) → List DictFault
@@ -32,7 +34,8 @@ faults_of lines = filter_map (fault_of lines) (range_with_len 0 (length lines))
 -- the first of these faults; without one the words of the lines, if they are 2,048
 abbrev pub judged : List (List ℕ) → List DictFault → Result (List (List ℕ)) DictFault
 judged lines (fault ∷ faults) = Err fault
-judged lines [] = if length lines == 2048 then Ok (map str_to_ascii_uppercase lines) else Err (fault_at (length lines) rules_of.Count)
+judged lines [] =
+    if length lines == 2048 then Ok (map str_to_ascii_uppercase lines) else Err (fault_at (length lines) rules_of.Count)
 
 -- the words of a list's lines, or its first fault
 unfoldable pub dictionary_of : List ℕ → Result (List (List ℕ)) DictFault

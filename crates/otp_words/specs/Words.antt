@@ -1,5 +1,6 @@
 -- Believed: passwords in six words (RFC 2289).
-use Rattle.std.specs.Prelude.{◌≡◌, ℕ, ◌+◌, ◌*◌, ◌%◌, ◌≤◌, true, List, [], ◌∷◌, ◌++◌, length, map, sum, Some, slice_get, slice_index_or}
+use Rattle.std.specs.Prelude.{◌≡◌, ℕ, ◌+◌, ◌*◌, ◌%◌, ◌≤◌, true, List, [], ◌∷◌, ◌++◌, length, map, sum, Some, slice_get}
+use Rattle.std.specs.Prelude.{slice_index_or}
 use Rattle.std.specs.List.{list_all}
 use Rattle.std.specs.Str.{str_to_ascii_uppercase}
 use Rattle.otp_words.specs.Digits.{digits_of, number_of}
@@ -32,7 +33,8 @@ abbrev pub IsWords : List (List ℕ) → List ℕ → List ℕ → Type 0
 IsWords words [] text = ⊥
 IsWords words (i ∷ []) text = slice_get words i ≡ Some (str_to_ascii_uppercase text)
 IsWords words (i ∷ j ∷ places) text =
-    (front : List ℕ) × (gap : List ℕ) × (rest : List ℕ) × (text ≡ front ++ (gap ++ rest)) × (slice_get words i ≡ Some (str_to_ascii_uppercase front))
+    (front : List ℕ) × (gap : List ℕ) × (rest : List ℕ) × (text ≡ front ++ (gap ++ rest))
+        × (slice_get words i ≡ Some (str_to_ascii_uppercase front))
     × (1 ≤ length gap) × (list_all is_blank gap ≡ true) × IsWords words (j ∷ places) rest
 
 -- a text spells this password in six words of the list, with right check bits

@@ -17,7 +17,8 @@ pub fn challenge_text(algo: Algo, n: u16, seed: &Seed, out: &mut [u8]) -> usize
     ensures len { result ≡ length (challenge_of algo n (seed_bytes seed.now)) }
     ensures within { result ≤ 32 }
     ensures written { out.new ≡ challenge_of algo n (seed_bytes seed.now) ++ drop result out.old }
-    ensures read_back { (unread : List ℕ) → BeginsWithChallenge (challenge_of algo n (seed_bytes seed.now) ++ unread) algo n (seed_bytes seed.now) result }
+    ensures read_back { (unread : List ℕ) → BeginsWithChallenge (challenge_of algo n (seed_bytes seed.now) ++ unread)
+        algo n (seed_bytes seed.now) result }
 {
     let at = put(out, 0, challenge_word(algo));
     let at = put(out, at, b" ");

@@ -46,7 +46,8 @@ struct Parts<'a> {
 /// begins with no challenge.
 pub fn read_challenge(text: &[u8]) -> Result<Challenge, Unreadable>
     ensures found { IfOk result (λ c. BeginsWithChallenge text.now c.algo c.n (seed_bytes c.seed) c.used) }
-    ensures only { (algo : Algo) (n : ℕ) (seed : List ℕ) (used : ℕ) → BeginsWithChallenge text.now algo n seed used → IsOkAnd result (HasParts algo n seed used) }
+    ensures only { (algo : Algo) (n : ℕ) (seed : List ℕ) (used : ℕ) → BeginsWithChallenge text.now algo n seed used
+        → IsOkAnd result (HasParts algo n seed used) }
 {
     let algo = front_algo(text).ok_or(Unreadable)?;
     let parts = parts_of(&text[challenge_word(algo).len()..]);
@@ -90,7 +91,8 @@ fn front_algo(text: &[u8]) -> Option<Algo>
 
 /// Cuts a text after its blanks, digits, blanks, and letters and digits.
 fn parts_of(text: &[u8]) -> Parts<'_>
-    ensures parts { ArePieces text.now result.gap.now result.digits.now result.second_gap.now result.name.now result.rest.now }
+    ensures parts { ArePieces text.now result.gap.now result.digits.now result.second_gap.now result.name.now
+        result.rest.now }
     ensures within { length result.rest.now ≤ length text.now }
 {
     let (gap, rest) = text.split_at(gap_len(text));

@@ -1,6 +1,7 @@
 //! Dictionaries of 2,048 words.
 
-ghost use Rattle.std.specs.Prelude.{◌≡◌, ℕ, ◌<◌, ◌≤◌, [], ◌∷◌, ◌++◌, Some, IfSome, IfOk, OnOk, is_some, true, false, length, map, not, nat_le, ◌==◌, ◌&&◌, slice_get};
+ghost use Rattle.std.specs.Prelude.{◌≡◌, ℕ, ◌<◌, ◌≤◌, [], ◌∷◌, ◌++◌, Some, IfSome, IfOk, OnOk, is_some, true, false};
+ghost use Rattle.std.specs.Prelude.{length, map, not, nat_le, ◌==◌, ◌&&◌, slice_get};
 ghost use Rattle.std.specs.BTreeMap.{get};
 ghost use Rattle.std.specs.Ordering.{nat_cmp};
 ghost use Rattle.std.specs.Str.Lines.{lines, strip_carriage_return};
@@ -47,7 +48,8 @@ impl Model for Dictionary {
 
     ghost view = { λ d. map list_of d.words.items };
 
-    ghost invariant = { λ d. IsPlaced (map list_of d.words.items) (get nat_cmp d.places) × IsDictionary (map list_of d.words.items) };
+    ghost invariant =
+        { λ d. IsPlaced (map list_of d.words.items) (get nat_cmp d.places) × IsDictionary (map list_of d.words.items) };
 }
 
 impl Dictionary {
@@ -133,7 +135,8 @@ fn add(
     requires legal { AreWords (map list_of words.old.items) }
     ensures rule { IfOk result (λ r. r ≡ rule_of (map list_of words.old.items) line.now) }
     ensures kept { (rule : DictRule) → result ≡ Ok (Some rule) → words.new.items ≡ words.old.items }
-    ensures added { result ≡ Ok None → map list_of words.new.items ≡ map list_of words.old.items ++ str_to_ascii_uppercase line.now ∷ [] }
+    ensures added { result ≡ Ok None → map list_of words.new.items ≡ map list_of words.old.items
+        ++ str_to_ascii_uppercase line.now ∷ [] }
     ensures placed { result ≡ Ok None → IsPlaced (map list_of words.new.items) (get nat_cmp places.new) }
     ensures legal { result ≡ Ok None → AreWords (map list_of words.new.items) }
 {
@@ -162,7 +165,8 @@ fn place_word(
     requires word { is_word (str_to_ascii_uppercase word.now) ≡ true }
     requires short { length word.now ≤ 4 }
     requires new { is_some (get nat_cmp places.old (number_of 8 (str_to_ascii_uppercase word.now))) ≡ false }
-    ensures added { OnOk result (map list_of words.new.items ≡ map list_of words.old.items ++ str_to_ascii_uppercase word.now ∷ []) }
+    ensures added { OnOk result (map list_of words.new.items ≡ map list_of words.old.items ++ str_to_ascii_uppercase
+        word.now ∷ []) }
     ensures placed { OnOk result (IsPlaced (map list_of words.new.items) (get nat_cmp places.new)) }
     ensures legal { OnOk result (AreWords (map list_of words.new.items)) }
 {
@@ -229,7 +233,8 @@ fn line_len(text: &[u8]) -> usize
 
 /// Whether bytes are 1 to 4 ASCII letters of any case.
 fn is_word(bytes: &[u8]) -> bool
-    ensures { result ≡ (nat_le 1 (length bytes.now) && nat_le (length bytes.now) 4 && list_all is_ascii_alphabetic bytes.now) }
+    ensures { result ≡ (nat_le 1 (length bytes.now) && nat_le (length bytes.now) 4
+        && list_all is_ascii_alphabetic bytes.now) }
 {
     has_word_length(bytes) && are_letters(bytes)
 }

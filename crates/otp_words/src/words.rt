@@ -1,6 +1,7 @@
 //! Passwords in six words of a dictionary.
 
-ghost use Rattle.std.specs.Prelude.{◌≡◌, ℕ, ◌+◌, ◌-◌, ◌*◌, ◌^◌, ◌<◌, ◌≤◌, ◌++◌, List, Some, IfSome, length, take, drop, fold};
+ghost use Rattle.std.specs.Prelude.{◌≡◌, ℕ, ◌+◌, ◌-◌, ◌*◌, ◌^◌, ◌<◌, ◌≤◌, ◌++◌, List, Some, IfSome, length, take, drop};
+ghost use Rattle.std.specs.Prelude.{fold};
 ghost use Rattle.otp_words.specs.Digits.{digits_of, number_of};
 ghost use Rattle.otp_words.specs.Dictionaries.{IsDictionary};
 ghost use Rattle.otp_words.specs.Words.{check_bits, checked, spaced, words_at, words_text, IsWords, IsSixWords};
@@ -40,7 +41,8 @@ fn checked(password: u64) -> u128
 /// spaces and tabs, with right check bits.
 pub fn words_reading(dictionary: &Dictionary, text: &[u8]) -> Option<u64>
     ensures found { IfSome result (IsSixWords dictionary.now text.now) }
-    ensures only { (password : ℕ) → password < 2 ^ 64 → IsSixWords dictionary.now text.now password → result ≡ Some password }
+    ensures only { (password : ℕ) → password < 2 ^ 64 → IsSixWords dictionary.now text.now password
+        → result ≡ Some password }
 {
     let number = number_behind(dictionary, text, WORDS, 0)?;
     let password = (number / 4) as u64;
@@ -84,8 +86,10 @@ fn number_behind(dictionary: &Dictionary, text: &[u8], count: u32, front: u128) 
     requires some { 1 ≤ count }
     requires few { count ≤ 6 }
     requires small { front < 2 ^ (11 * (6 - count)) }
-    ensures found { IfSome result (λ n. (places : List ℕ) × (length places ≡ count) × IsWords dictionary.now places text.now × (n ≡ fold (λ number digit. number * 2 ^ 11 + digit) front places)) }
-    ensures only { (places : List ℕ) → length places ≡ count → IsWords dictionary.now places text.now → result ≡ Some (fold (λ number digit. number * 2 ^ 11 + digit) front places) }
+    ensures found { IfSome result (λ n. (places : List ℕ) × (length places ≡ count)
+        × IsWords dictionary.now places text.now × (n ≡ fold (λ number digit. number * 2 ^ 11 + digit) front places)) }
+    ensures only { (places : List ℕ) → length places ≡ count → IsWords dictionary.now places text.now
+        → result ≡ Some (fold (λ number digit. number * 2 ^ 11 + digit) front places) }
     ensures small { IfSome result (λ n. n < 2 ^ 66) }
 {
     let (word, rest) = text.split_at(word_len(text));

@@ -1,7 +1,8 @@
 -- Inner: which calls of an object in memory are to fail.
 use Rattle.std.specs.Prelude.{ℕ, ◌==◌, ◌&&◌, Bool, true, false, List, find, take, Option, Some, None, option_map}
 use Rattle.outside.specs.declared.memory.fail.CallKind.{CallKind}
-use Rattle.outside.specs.declared.memory.fail.CallKind.TheVariants.{Recv, Send, Append, Read, Replace, Accept, Start, ConnRecv, ConnSend, VaultRead, VaultWrite}
+use Rattle.outside.specs.declared.memory.fail.CallKind.TheVariants.{Recv, Send, Append, Read, Replace, Accept, Start}
+use Rattle.outside.specs.declared.memory.fail.CallKind.TheVariants.{ConnRecv, ConnSend, VaultRead, VaultWrite}
 use Rattle.outside.specs.declared.memory.fail.Fail.{Fail}
 
 -- whether two calls are of one kind

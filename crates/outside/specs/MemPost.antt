@@ -1,8 +1,10 @@
 -- Inner: what contracts see of a post in memory.
-use Rattle.std.specs.Prelude.{◌≡◌, ℕ, ◌+◌, ◌-◌, ◌^◌, min, List, [], drop, get_or, length, slice_get, Option, option_map, unwrap_or}
+use Rattle.std.specs.Prelude.{◌≡◌, ℕ, ◌+◌, ◌-◌, ◌^◌, min, List, [], drop, get_or, length, slice_get, Option, option_map}
+use Rattle.std.specs.Prelude.{unwrap_or}
 use Rattle.outside.specs.declared.faults.Faults.{Faults}
 use Rattle.outside.specs.declared.memory.conn.MemConn.{MemConn}
-use Rattle.outside.specs.declared.memory.fail.CallKind.TheVariants.{Accept, Start, ConnRecv, ConnSend, VaultRead, VaultWrite}
+use Rattle.outside.specs.declared.memory.fail.CallKind.TheVariants.{Accept, Start, ConnRecv, ConnSend, VaultRead}
+use Rattle.outside.specs.declared.memory.fail.CallKind.TheVariants.{VaultWrite}
 use Rattle.outside.specs.declared.memory.fail.Fail.{Fail}
 use Rattle.outside.specs.declared.memory.script.Script.{Script}
 use Rattle.outside.specs.declared.memory.post.MemPost.{MemPost}

@@ -1,5 +1,6 @@
 -- Believed: what a post reports, and what each call adds to that.
-use Rattle.std.specs.Prelude.{◌≡◌, ℕ, ◌-◌, ◌^◌, min, Bool, true, false, List, [], ◌∷◌, ◌++◌, count_by, slice_get, take, zero, suc, unwrap_or, Option, Some, None, option_map, Result, Ok, Err, IfSome}
+use Rattle.std.specs.Prelude.{◌≡◌, ℕ, ◌-◌, ◌^◌, min, Bool, true, false, List, [], ◌∷◌, ◌++◌, count_by, slice_get, take}
+use Rattle.std.specs.Prelude.{zero, suc, unwrap_or, Option, Some, None, option_map, Result, Ok, Err, IfSome}
 use Rattle.outside.specs.declared.act.Failed.{Failed}
 use Rattle.outside.specs.declared.act.Role.{Role}
 use Rattle.outside.specs.declared.act.Role.TheVariants.{Pre, User}
@@ -22,7 +23,8 @@ pub record Scene : Type 0 where
   pub plan : List (List ℕ × List ℕ)
 
 -- these operations were done, these children given back and these bytes left unread; the plan stays
-pub record Played (done : List Act) (finished : List Talk) (remains : List (List ℕ)) (before after : Scene) : Type 0 where
+pub record Played (done : List Act) (finished : List Talk) (remains : List (List ℕ))
+    (before after : Scene) : Type 0 where
   pub acts : after.acts ≡ before.acts ++ done
   pub talks : after.talks ≡ before.talks ++ finished
   pub unread : after.unread ≡ before.unread ++ remains
@@ -80,7 +82,9 @@ pub record IsUnused (link : Link) : Type 0 where
 -- doesn't tell any more
 abbrev pub GivenBack : Role → Option Link → Option Scene → Option Scene → Type 0
 GivenBack role None before after = after ≡ None
-GivenBack role (Some link) before after = Goes (Played (Finish role ∷ []) (record { role = role; taken = link.taken; sent = link.sent } ∷ []) (link.left ∷ [])) before after
+GivenBack role (Some link) before after =
+    Goes (Played (Finish role ∷ []) (record { role = role; taken = link.taken; sent = link.sent } ∷ [])
+        (link.left ∷ [])) before after
 
 -- nothing was asked of a post yet
 pub record IsUnplayed (scene : Scene) : Type 0 where

@@ -1,5 +1,6 @@
 -- Inner: what stands in the users' files of a post in memory.
-use Rattle.std.specs.Prelude.{◌≡◌, ◌≢◌, ◌⊎◌, ℕ, ◌+◌, ◌-◌, ◌==◌, ◌&&◌, Bool, List, [], ◌∷◌, ◌++◌, find, length, take, drop, replicate, Option, Some, option_map, unwrap_or}
+use Rattle.std.specs.Prelude.{◌≡◌, ◌≢◌, ◌⊎◌, ℕ, ◌+◌, ◌-◌, ◌==◌, ◌&&◌, Bool, List, [], ◌∷◌, ◌++◌, find, length, take}
+use Rattle.std.specs.Prelude.{drop, replicate, Option, Some, option_map, unwrap_or}
 use Rattle.std.specs.Str.{bytes_eq}
 use Rattle.request_catalogue.specs.TextBytes.{label_bytes}
 use Rattle.outside.specs.declared.memory.vault.UserFile.{UserFile}
@@ -36,7 +37,8 @@ overwritten old offset (b ∷ bytes) =
 -- the user's file of this name has these bytes, and each other file is as it was
 pub record FileSet (uid : ℕ) (name bytes : List ℕ) (before after : Vault) : Type 0 where
   pub file : after uid name ≡ Some bytes
-  pub others : (other_uid : ℕ) (other : List ℕ) → (other_uid ≢ uid) ⊎ (other ≢ name) → after other_uid other ≡ before other_uid other
+  pub others : (other_uid : ℕ) (other : List ℕ) → (other_uid ≢ uid) ⊎ (other ≢ name) → after other_uid other
+      ≡ before other_uid other
 
 -- the user's file of this name was written from a place on, and each other file is as it was
 pub record FileWritten (uid : ℕ) (name : List ℕ) (offset : ℕ) (bytes : List ℕ) (before after : Vault) : Type 0 where

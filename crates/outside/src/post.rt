@@ -1,8 +1,10 @@
 ghost use Rattle.std.specs.Prelude.{◌≡◌, ◌<◌, ◌≤◌, length, Option, IfOk, IfSome};
 ghost use Rattle.outside.specs.declared.act.Act.{Act};
 ghost use Rattle.outside.specs.declared.faults.Faults.{Faults};
-ghost use Rattle.outside.specs.Faults.{AcceptCounts, ConnCounts, CountNothing, FinishCounts, NoneFell, StartCounts, VaultCounts};
-ghost use Rattle.outside.specs.Scene.{CountsAsTold, Did, GivenBack, IsUnused, Scene, accepted_outcome, came_count, planned_bytes, received_outcome, started_outcome};
+ghost use Rattle.outside.specs.Faults.{AcceptCounts, ConnCounts, CountNothing, FinishCounts, NoneFell, StartCounts};
+ghost use Rattle.outside.specs.Faults.{VaultCounts};
+ghost use Rattle.outside.specs.Scene.{CountsAsTold, Did, GivenBack, IsUnused, Scene, accepted_outcome, came_count};
+ghost use Rattle.outside.specs.Scene.{planned_bytes, received_outcome, started_outcome};
 
 use crate::act::{Failed, Role};
 use crate::stream::Stream;

@@ -1,5 +1,6 @@
 ghost use Rattle.std.specs.Prelude.{◌≡◌, ◌<◌, ◌≤◌, IfOk, IsSome, None, length};
-ghost use Rattle.outside.specs.Faults.{AcceptCounts, ConnCounts, CountNothing, FinishCounts, NoneFell, StartCounts, VaultCounts};
+ghost use Rattle.outside.specs.Faults.{AcceptCounts, ConnCounts, CountNothing, FinishCounts, NoneFell, StartCounts};
+ghost use Rattle.outside.specs.Faults.{VaultCounts};
 ghost use Rattle.outside_real.specs.RealStream.{faults_of as stream_faults, role_of};
 
 use crate::clock::PostClock;

@@ -120,7 +120,8 @@ fn give_words(alloc: Global, command: &mut Command, role: &Role) -> io::Result<(
 fn give_user(command: &mut Command, session: &str, uid: &str, user: &[u8]) -> io::Result<()>
     requires { command_args command.now ≡ [] }
     ensures program { OnOk result (command_program command.new ≡ command_program command.old) }
-    ensures words { OnOk result (command_args command.new ≡ codes "child-user" ∷ session.now ∷ uid.now ∷ user.now ∷ []) }
+    ensures words { OnOk result (command_args command.new ≡ codes "child-user" ∷ session.now ∷ uid.now ∷ user.now
+        ∷ []) }
 {
     command.arg(USER_MODE)?.arg(session)?;
     let Ok(user) = str::from_utf8(user) else {

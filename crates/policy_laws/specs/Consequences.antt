@@ -21,13 +21,17 @@ pub record RepliesAt (journal : List Event) (user : Name) (place : ℕ) (e : Eve
 
 -- no password of a user is accepted twice: all its accepted passwords are different
 pub record NoPasswordTwice (setup : Settings) (journal : List Event) : Type 0 where
-  pub distinct : (user : Name) (account : Account) → account_of setup user ≡ Some account → are_distinct ◌==◌ (accepted_of journal account) ≡ true
+  pub distinct : (user : Name) (account : Account) → account_of setup user ≡ Some account
+      → are_distinct ◌==◌ (accepted_of journal account) ≡ true
 
 -- a user has at most as many permitted replies as passwords in the setup, and each of them lowers the number that later
 -- challenges name, decoys aside
 pub record SequenceFalls (setup : Settings) (journal : List Event) : Type 0 where
-  pub few : (user : Name) (account : Account) → account_of setup user ≡ Some account → length (replies_of journal user) ≤ account.sequence
-  pub falls : (user : Name) (i k j : ℕ) (earlier reply later : Event) → i < k → k < j → StandsAt journal (reserves user) i earlier → RepliesAt journal user k reply → StandsAt journal (reserves user) j later → value_of later.decision < value_of earlier.decision
+  pub few : (user : Name) (account : Account) → account_of setup user ≡ Some account → length (replies_of journal user)
+      ≤ account.sequence
+  pub falls : (user : Name) (i k j : ℕ) (earlier reply later : Event) → i < k → k < j → StandsAt journal (reserves user)
+      i earlier → RepliesAt journal user k reply → StandsAt journal (reserves user) j later → value_of later.decision
+      < value_of earlier.decision
 
 -- at place i stands a permitted CHALLENGE for the user, the last one of its session before place k
 pub record IsLastTaking (journal : List Event) (user : Name) (i k : ℕ) (taking : Event) : Type 0 where
@@ -37,7 +41,9 @@ pub record IsLastTaking (journal : List Event) (user : Name) (i k : ℕ) (taking
 -- between a session's last permitted CHALLENGE for a user and its permitted REPLY, no session has another permitted
 -- CHALLENGE for that user, decoys included
 pub record OneTakerAtATime (setup : Settings) (journal : List Event) : Type 0 where
-  pub alone : (user : Name) (i k : ℕ) (taking reply : Event) → RepliesAt journal user k reply → IsLastTaking journal user i k taking → taking.session ≡ reply.session → (m : ℕ) (e : Event) → i < m → m < k → StandsAt journal (takes_user user) m e → ⊥
+  pub alone : (user : Name) (i k : ℕ) (taking reply : Event) → RepliesAt journal user k reply
+      → IsLastTaking journal user i k taking → taking.session ≡ reply.session → (m : ℕ) (e : Event) → i < m → m < k
+      → StandsAt journal (takes_user user) m e → ⊥
 
 -- before place k the session has a permitted REPLY for the account of this number, whose password hashed to the current
 -- one
@@ -56,7 +62,8 @@ pub record IsVerifiedBefore (setup : Settings) (journal : List Event) (k session
 
 -- before each permitted EXPORT its own session has a permitted REPLY for the account that the EXPORT names
 pub record VerifiedBeforeExport (setup : Settings) (journal : List Event) : Type 0 where
-  pub verified : (k : ℕ) (e : Event) → slice_get journal k ≡ Some e → exports e ≡ true → IsVerifiedBefore setup journal k e.session (value_of e.decision)
+  pub verified : (k : ℕ) (e : Event) → slice_get journal k ≡ Some e → exports e ≡ true
+      → IsVerifiedBefore setup journal k e.session (value_of e.decision)
 
 -- what every legal journal ensures: a login before each export, no password accepted twice, a sequence that falls, one
 -- taker at a time

@@ -1,5 +1,6 @@
 -- Believed: what a session is shown before a login: it depends only on the session's own dialogue.
-use Rattle.std.specs.Prelude.{ℕ, ◌≡◌, ◌+◌, Bool, true, false, not, ◌&&◌, List, filter, map, take, Option, Some, None, slice_get}
+use Rattle.std.specs.Prelude.{ℕ, ◌≡◌, ◌+◌, Bool, true, false, not, ◌&&◌, List, filter, map, take, Option, Some, None}
+use Rattle.std.specs.Prelude.{slice_get}
 use Rattle.request_catalogue.specs.declared.kind.Kind.{Kind}
 use Rattle.policy_model.specs.declared.event.Ask.{Ask}
 use Rattle.policy_model.specs.declared.event.Ask.TheVariants as asks
@@ -59,4 +60,7 @@ pub record IsStrangersAsk (journal : List Event) (place : ℕ) (e : Event) : Typ
 pub record ShowsNoAccounts (setup : Settings) (journal : List Event) : Type 0 where
   -- the readings of a reply may differ; dialogues are the same where the kinds of requests and what was told of each
   -- are
-  pub alike : (other_setup : Settings) (other : List Event) → other_setup.requests ≡ setup.requests → IsLegal other_setup other → (k j : ℕ) (e f : Event) → IsStrangersAsk journal k e → IsStrangersAsk other j f → told_in (take k journal) e.session ≡ told_in (take j other) f.session → without_readings e.ask ≡ without_readings f.ask → shown_of e.decision ≡ shown_of f.decision
+  pub alike : (other_setup : Settings) (other : List Event) → other_setup.requests ≡ setup.requests
+      → IsLegal other_setup other → (k j : ℕ) (e f : Event) → IsStrangersAsk journal k e → IsStrangersAsk other j f
+      → told_in (take k journal) e.session ≡ told_in (take j other) f.session → without_readings e.ask
+      ≡ without_readings f.ask → shown_of e.decision ≡ shown_of f.decision

@@ -1,9 +1,11 @@
 -- Inner: what a stranger is shown, by what the session was told before.
-use Rattle.std.specs.Prelude.{ℕ, ◌≡◌, Bool, true, false, ◌&&◌, ◌||◌, ◌==◌, List, filter, length, take, Option, Some, None, if◌then◌else◌}
+use Rattle.std.specs.Prelude.{ℕ, ◌≡◌, Bool, true, false, ◌&&◌, ◌||◌, ◌==◌, List, filter, length, take, Option, Some}
+use Rattle.std.specs.Prelude.{None, if◌then◌else◌}
 use Rattle.std.specs.List.{last_or, list_any}
 use Rattle.request_catalogue.specs.declared.kind.Kind.{Kind}
 use Rattle.request_catalogue.specs.declared.kind.Kind.TheVariants as kinds
-use Rattle.request_catalogue.specs.declared.rules.TheConstants.{ASKS_SPENT, NOT_IN_PHASE, ONCE_ONLY, NO_MATCH, NO_HANDLE}
+use Rattle.request_catalogue.specs.declared.rules.TheConstants.{ASKS_SPENT, NOT_IN_PHASE, ONCE_ONLY, NO_MATCH}
+use Rattle.request_catalogue.specs.declared.rules.TheConstants.{NO_HANDLE}
 use Rattle.request_catalogue.specs.Kinds.{kind_number}
 use Rattle.policy_model.specs.declared.event.Ask.{Ask}
 use Rattle.policy_model.specs.declared.event.Ask.TheVariants as asks
@@ -54,7 +56,8 @@ stranger_kind told (asks.Info number) = Deny NOT_IN_PHASE 11
 stranger_kind told (asks.Bad rule detail) = Deny rule detail
 stranger_kind told _ = Permit 0
 
--- what a stranger is told of an ask other than an opening, an end and a CHALLENGE, by what the session was told before: it looks at no account, no password, no reading and no moment
+-- what a stranger is told of an ask other than an opening, an end and a CHALLENGE, by what the
+-- session was told before: it looks at no account, no password, no reading and no moment
 unfoldable pub stranger_verdict : ℕ → List Told → Ask → Decision
 stranger_verdict requests told ask =
     if list_any told_end told then Deny NOT_IN_PHASE (request_number ask)
@@ -63,4 +66,5 @@ stranger_verdict requests told ask =
 
 -- strangers are told alike: what is shown of each ask of a stranger that came by a frame is the stranger's verdict
 pub record StrangersAreToldAlike (setup : Settings) (journal : List Event) : Type 0 where
-  pub told : (k : ℕ) (e : Event) → IsStrangersAsk journal k e → came_by_frame e.ask ≡ true → is_proper e.ask ≡ true → shown_of e.decision ≡ stranger_verdict setup.requests (told_in (take k journal) e.session) e.ask
+  pub told : (k : ℕ) (e : Event) → IsStrangersAsk journal k e → came_by_frame e.ask ≡ true → is_proper e.ask ≡ true
+      → shown_of e.decision ≡ stranger_verdict setup.requests (told_in (take k journal) e.session) e.ask

@@ -2,7 +2,8 @@
 -- requests, a frame that is no request, or an end. An event is an ask of a worker in a session, with its decision: a
 -- permit with a value, a denial by a rule with a detail, or lost. The 22 rules are constants of the code
 -- (`crates/request_catalogue/src/rules.rt`).
-use Rattle.std.specs.Prelude.{ℕ, Bool, true, false, not, ◌&&◌, ◌||◌, ◌==◌, nat_le, nat_lt, is_some, Option, Some, None, if◌then◌else◌}
+use Rattle.std.specs.Prelude.{ℕ, Bool, true, false, not, ◌&&◌, ◌||◌, ◌==◌, nat_le, nat_lt, is_some, Option, Some, None}
+use Rattle.std.specs.Prelude.{if◌then◌else◌}
 use Rattle.std.specs.Option.{option_map_or}
 use Rattle.request_catalogue.specs.declared.rules.TheConstants.{HOLD_LOST, NO_MATCH}
 use Rattle.request_catalogue.specs.declared.texts.Label.{Label}

@@ -1,10 +1,12 @@
 -- Inner: names for the lemmas, of single requests and of what may be missing.
-use Rattle.std.specs.Prelude.{ℕ, Bool, false, not, ◌||◌, ◌==◌, List, [], Option, Some, None, nat_le, unwrap_or, if◌then◌else◌}
+use Rattle.std.specs.Prelude.{ℕ, Bool, false, not, ◌||◌, ◌==◌, List, [], Option, Some, None, nat_le, unwrap_or}
+use Rattle.std.specs.Prelude.{if◌then◌else◌}
 use Rattle.std.specs.List.{list_any}
 use Rattle.std.specs.Option.{option_and_then, option_map_or}
 use Rattle.request_catalogue.specs.declared.kind.Kind.{Kind}
 use Rattle.request_catalogue.specs.declared.kind.Kind.TheVariants as kinds
-use Rattle.request_catalogue.specs.declared.rules.TheConstants.{HOLD_LOST, PASSWORD_USED, NO_MATCH, NO_HANDLE, MODE_LACKING, NOT_GRANTED, MODE_NOT_GRANTED}
+use Rattle.request_catalogue.specs.declared.rules.TheConstants.{HOLD_LOST, PASSWORD_USED, NO_MATCH, NO_HANDLE}
+use Rattle.request_catalogue.specs.declared.rules.TheConstants.{MODE_LACKING, NOT_GRANTED, MODE_NOT_GRANTED}
 use Rattle.request_catalogue.specs.declared.texts.Name.{Name}
 use Rattle.request_catalogue.specs.Kinds.{kind_number}
 use Rattle.policy_model.specs.declared.account.Account.{Account}
@@ -16,7 +18,8 @@ use Rattle.policy_model.specs.declared.event.Decision.TheVariants.{Permit, Deny}
 use Rattle.policy_model.specs.declared.event.Event.{Event}
 use Rattle.policy_model.specs.declared.event.Why.{Why}
 use Rattle.policy_model.specs.declared.reading.TheConstants.{DECOYS_FROM}
-use Rattle.policy_model.specs.Asks.{challenge_name, is_begin, is_kind, is_proper, is_user, mode_of, moment_of, takes, value_of}
+use Rattle.policy_model.specs.Asks.{challenge_name, is_begin, is_kind, is_proper, is_user, mode_of, moment_of, takes}
+use Rattle.policy_model.specs.Asks.{value_of}
 use Rattle.policy_model.specs.Journal.{Place, is_turn_of}
 use Rattle.policy_model.specs.Logins.{account_of, challenged_user, current_sequence, was_accepted}
 use Rattle.policy_model.specs.Phases.{is_over, phase_of, table_row}
@@ -70,7 +73,8 @@ abbrev pub user_before : ℕ → Option Place → Option Name
 user_before session found = option_and_then (λ place. challenged_user place.before session) found
 
 abbrev pub holder_by : List Event → Bool → Option Event → Option ℕ
-holder_by journal given_up taking = option_and_then (λ e. if given_up || is_over journal e.session then None else Some e.session) taking
+holder_by journal given_up taking =
+    option_and_then (λ e. if given_up || is_over journal e.session then None else Some e.session) taking
 
 abbrev pub is_holder : ℕ → Option ℕ → Bool
 is_holder session found = option_map_or (λ holder. holder == session) found false
@@ -94,22 +98,32 @@ abbrev pub sequence_of : List Event → Option Account → ℕ
 sequence_of journal account = option_map_or (current_sequence journal) account 0
 
 abbrev pub refused_verdict : List Event → Account → List ℕ → Decision
-refused_verdict journal account passwords = if list_any (was_accepted journal account) passwords then Deny PASSWORD_USED 0 else Deny NO_MATCH 0
+refused_verdict journal account passwords =
+    if list_any (was_accepted journal account) passwords then Deny PASSWORD_USED 0 else Deny NO_MATCH 0
 
 abbrev pub matching_verdict : List Event → Account → List ℕ → Option ℕ → Decision
-matching_verdict journal account passwords found = option_map_or Permit found (refused_verdict journal account passwords)
+matching_verdict journal account passwords found =
+    option_map_or Permit found (refused_verdict journal account passwords)
 
 abbrev pub readings_verdict : List Event → List ℕ → Option Account → Decision
-readings_verdict journal passwords account = option_map_or (passwords_verdict journal passwords) account (Deny NO_MATCH 0)
+readings_verdict journal passwords account =
+    option_map_or (passwords_verdict journal passwords) account (Deny NO_MATCH 0)
 
 abbrev pub login_verdict : Settings → List Event → ℕ → List ℕ → Option Name → Decision
-login_verdict setup journal session passwords user = option_map_or (user_verdict setup journal session passwords) user (Deny HOLD_LOST 0)
+login_verdict setup journal session passwords user =
+    option_map_or (user_verdict setup journal session passwords) user (Deny HOLD_LOST 0)
 
 abbrev pub use_verdict : ℕ → ℕ → Option Event → Decision
-use_verdict handle needed opening = option_map_or (λ e. if allows (mode_of e.ask) needed then Permit 0 else Deny MODE_LACKING handle) opening (Deny NO_HANDLE handle)
+use_verdict handle needed opening =
+    option_map_or (λ e. if allows (mode_of e.ask) needed then Permit 0 else Deny MODE_LACKING handle) opening
+        (Deny NO_HANDLE handle)
 
 abbrev pub grant_verdict : ℕ → ℕ → Option Grant → Decision
-grant_verdict free mode found = option_map_or (λ grant. if allows grant.mode mode then Permit free else Deny MODE_NOT_GRANTED mode) found (Deny NOT_GRANTED 0)
+grant_verdict free mode found =
+    option_map_or (λ grant. if allows grant.mode mode then Permit free else Deny MODE_NOT_GRANTED mode) found
+        (Deny NOT_GRANTED 0)
 
 abbrev pub table_verdict : Settings → List Event → ℕ → Ask → Option Kind → Decision
-table_verdict setup journal session ask kind = option_map_or (λ k. row_verdict setup journal session ask k (table_row (phase_of journal session) k)) kind (Permit 0)
+table_verdict setup journal session ask kind =
+    option_map_or (λ k. row_verdict setup journal session ask k (table_row (phase_of journal session) k)) kind
+        (Permit 0)

@@ -9,7 +9,9 @@ use Rattle.policy_model.specs.Journal.{events_of}
 -- the permitted OPENs whose handle no later permitted CLOSE closes
 abbrev pub live_opens : List Event → List Event
 live_opens [] = []
-live_opens (e ∷ events) = if opens_file e && not (list_any (closes_file (value_of e.decision)) events) then e ∷ live_opens events else live_opens events
+live_opens (e ∷ events) =
+    if opens_file e && not (list_any (closes_file (value_of e.decision)) events) then e ∷ live_opens events
+    else live_opens events
 
 -- the open handles of a session, as the permitted OPENs that gave them
 unfoldable pub live_handles_of : List Event → ℕ → List Event

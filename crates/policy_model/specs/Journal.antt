@@ -1,5 +1,6 @@
 -- Believed: what can be read off the journal, the one list of all events of all sessions.
-use Rattle.std.specs.Prelude.{ℕ, Bool, ◌&&◌, ◌||◌, ◌==◌, not, List, [], ◌∷◌, ◌++◌, filter, count_by, Option, None, if◌then◌else◌}
+use Rattle.std.specs.Prelude.{ℕ, Bool, ◌&&◌, ◌||◌, ◌==◌, not, List, [], ◌∷◌, ◌++◌, filter, count_by, Option, None}
+use Rattle.std.specs.Prelude.{if◌then◌else◌}
 use Rattle.std.specs.List.{last_or, list_any}
 use Rattle.std.specs.Option.{option_map_or}
 use Rattle.policy_model.specs.declared.event.Event.{Event}
@@ -15,7 +16,8 @@ is_turn_of worker e = e.worker == worker && (is_begin e.ask || is_end e.ask) && 
 
 -- a worker's open session: that of its last permitted opening, if no permitted end follows, otherwise 0
 abbrev pub open_session_of : List Event → ℕ → ℕ
-open_session_of journal worker = option_map_or (λ e. if is_begin e.ask then e.session else 0) (last_or None (filter (is_turn_of worker) journal)) 0
+open_session_of journal worker =
+    option_map_or (λ e. if is_begin e.ask then e.session else 0) (last_or None (filter (is_turn_of worker) journal)) 0
 
 -- how many asks a session has made, apart from its opening and its end
 abbrev pub ask_count : List Event → ℕ → ℕ

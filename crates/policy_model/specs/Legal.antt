@@ -23,7 +23,8 @@ session_of journal worker _ decision = open_session_of journal worker
 
 -- a worker's event with this ask and this decision, and the session that follows from them
 abbrev pub event_with : List Event → ℕ → Ask → Decision → Event
-event_with journal worker ask decision = record { worker = worker; session = session_of journal worker ask decision; ask = ask; decision = decision }
+event_with journal worker ask decision =
+    record { worker = worker; session = session_of journal worker ask decision; ask = ask; decision = decision }
 
 -- the event that the policy gives for a worker's ask after this journal
 abbrev pub next_event : Settings → List Event → ℕ → Ask → Event
@@ -31,9 +32,11 @@ next_event setup journal worker ask = event_with journal worker ask (verdict_of 
 
 -- an event may follow a journal: its decision is the policy's, or lost; after a lost one all are lost
 pub record IsNext (setup : Settings) (before : List Event) (e : Event) : Type 0 where
-  pub decided : e ≡ event_with before e.worker e.ask (if is_lost e.decision then Lost else verdict_of setup before e.worker e.ask)
+  pub decided : e ≡ event_with before e.worker e.ask (if is_lost e.decision then Lost
+      else verdict_of setup before e.worker e.ask)
   pub lost : has_lost before ≡ true → is_lost e.decision ≡ true
 
 -- a legal journal: each event may follow those before it
 abbrev pub IsLegal : Settings → List Event → Type 0
-IsLegal setup journal = (k : ℕ) (d : Event) → k < length journal → IsNext setup (take k journal) (slice_index_or journal k d)
+IsLegal setup journal =
+    (k : ℕ) (d : Event) → k < length journal → IsNext setup (take k journal) (slice_index_or journal k d)

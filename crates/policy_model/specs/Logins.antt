@@ -1,5 +1,6 @@
 -- Believed: who takes and holds a user, and which passwords were accepted.
-use Rattle.std.specs.Prelude.{ℕ, Bool, false, ◌||◌, ◌&&◌, ◌-◌, List, ◌∷◌, length, filter, Option, Some, None, nat_eq, nat_le, not, ◌==◌, unwrap_or, if◌then◌else◌}
+use Rattle.std.specs.Prelude.{ℕ, Bool, false, ◌||◌, ◌&&◌, ◌-◌, List, ◌∷◌, length, filter, Option, Some, None, nat_eq}
+use Rattle.std.specs.Prelude.{nat_le, not, ◌==◌, unwrap_or, if◌then◌else◌}
 use Rattle.std.specs.List.{after_last, filter_map, find, last_or, list_any}
 use Rattle.std.specs.Option.{option_and_then, option_map_or}
 use Rattle.request_catalogue.specs.declared.texts.Name.{Name}
@@ -21,11 +22,14 @@ challenged_user journal session = option_and_then (λ e. challenge_name e.ask) (
 
 -- the session's last permitted CHALLENGE names a decoy
 unfoldable pub was_decoyed : List Event → ℕ → Bool
-was_decoyed journal session = option_map_or (λ e. nat_le DECOYS_FROM (value_of e.decision)) (last_event journal session takes) false
+was_decoyed journal session =
+    option_map_or (λ e. nat_le DECOYS_FROM (value_of e.decision)) (last_event journal session takes) false
 
 -- the user that a session is logged in as: that of its last permitted CHALLENGE before its permitted REPLY
 unfoldable pub verified_user : List Event → ℕ → Option Name
-verified_user journal session = option_and_then (λ place. challenged_user place.before session) (last_or None (filter (λ place. is_own session accepts place.event) (places_of journal)))
+verified_user journal session =
+    option_and_then (λ place. challenged_user place.before session)
+        (last_or None (filter (λ place. is_own session accepts place.event) (places_of journal)))
 
 -- the account that a session is logged in as
 abbrev pub verified_account : Settings → List Event → ℕ → Option Account
@@ -41,12 +45,15 @@ session_taking taking = option_map_or (λ e. e.session) taking 0
 
 -- since a user's last taking, the session that took it has sent a REPLY or had an ABANDON permitted
 unfoldable pub was_given_up : List Event → Name → Bool
-was_given_up journal user = list_any (is_own (session_taking (last_taking_of journal user)) gives_up) (after_last (reserves user) journal)
+was_given_up journal user =
+    list_any (is_own (session_taking (last_taking_of journal user)) gives_up) (after_last (reserves user) journal)
 
 -- the session that holds a user: the last to take it, unless that session has since sent a REPLY, had an ABANDON
 -- permitted, or is over
 unfoldable pub holder_of : List Event → Name → Option ℕ
-holder_of journal user = option_and_then (λ e. if was_given_up journal user || is_over journal e.session then None else Some e.session) (last_taking_of journal user)
+holder_of journal user =
+    option_and_then (λ e. if was_given_up journal user || is_over journal e.session then None else Some e.session)
+        (last_taking_of journal user)
 
 -- the password of a permitted REPLY, if its session's last permitted CHALLENGE before it was for this user
 abbrev pub reply_for : Name → Place → Option ℕ
@@ -72,7 +79,8 @@ current_sequence journal account = account.sequence - length (replies_of journal
 
 -- an account with the sequence and the password that a journal leaves it
 abbrev pub account_after : List Event → Account → Account
-account_after journal account = record account { sequence = current_sequence journal account; password = current_password journal account }
+account_after journal account =
+    record account { sequence = current_sequence journal account; password = current_password journal account }
 
 -- a password of this account was accepted before, or is the one in the setup
 abbrev pub was_accepted : List Event → Account → ℕ → Bool

@@ -19,7 +19,8 @@ use Rattle.policy_model.specs.Journal.{events_of, has_event, last_event}
 
 -- a session has no permitted opening, or one of its events ended it
 abbrev pub is_over : List Event → ℕ → Bool
-is_over journal session = not (list_any opens (events_of journal session)) || list_any ends_session (events_of journal session)
+is_over journal session =
+    not (list_any opens (events_of journal session)) || list_any ends_session (events_of journal session)
 
 -- the phase of a session, by its events: over, user, verified, challenged or before the login, the first that applies
 unfoldable pub phase_of : List Event → ℕ → Phase

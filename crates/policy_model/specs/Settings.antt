@@ -1,7 +1,8 @@
 -- Believed: what an operator settles before a run, and the ranges of a setup.
 -- An account has a name, a user number, an algorithm, a seed, a sequence (how many passwords its chain has left), the
 -- password accepted last, whether it is enabled, and grants: each a file's label and a mode, 1 read, 2 write, 3 both.
-use Rattle.std.specs.Prelude.{ℕ, ◌≡◌, ◌≤◌, ◌*◌, ◌+◌, Bool, true, not, ◌&&◌, ◌==◌, List, [], ◌∷◌, length, codes, nat_le, Option, position}
+use Rattle.std.specs.Prelude.{ℕ, ◌≡◌, ◌≤◌, ◌*◌, ◌+◌, Bool, true, not, ◌&&◌, ◌==◌, List, [], ◌∷◌, length, codes, nat_le}
+use Rattle.std.specs.Prelude.{Option, position}
 use Rattle.std.specs.Int.{to_be_bytes, w64}
 use Rattle.std.specs.List.{list_all, list_any}
 use Rattle.std.specs.Str.{bytes_eq}
@@ -48,7 +49,9 @@ password_text password = encode_lower (to_be_bytes w64 password)
 
 -- a setup's texts, printable: socket of 1 to 100 bytes, launcher, vault and words 1 to 255, banner 0 to 200
 abbrev pub are_texts : Settings → Bool
-are_texts s = is_text 1 100 s.socket && is_text 1 255 s.launcher && is_text 1 255 s.vault && is_text 1 255 s.words && is_text 0 200 s.banner
+are_texts s =
+    is_text 1 100 s.socket && is_text 1 255 s.launcher && is_text 1 255 s.vault && is_text 1 255 s.words
+    && is_text 0 200 s.banner
 
 -- a number from `low` to `high`
 abbrev pub is_number : ℕ → ℕ → ℕ → Bool
@@ -56,7 +59,9 @@ is_number low high n = nat_le low n && nat_le n high
 
 -- the counts and the hold
 abbrev pub are_counts : Settings → Bool
-are_counts s = is_number 1 64 s.workers && is_number 1 4096 s.connections && is_number 8 4096 s.requests && is_number 1 10 s.tries && is_number 1 3600000 s.hold
+are_counts s =
+    is_number 1 64 s.workers && is_number 1 4096 s.connections && is_number 8 4096 s.requests && is_number 1 10 s.tries
+    && is_number 1 3600000 s.hold
 
 -- the numbers of information: at most 32 different ones of 1 to 1,000
 abbrev pub are_numbers : List ℕ → Bool
@@ -64,7 +69,9 @@ are_numbers info = nat_le (length info) 32 && list_all (is_number 1 1000) info &
 
 -- at most 64 grants, each with a mode of 1 to 3, of different names
 abbrev pub are_grants : List Grant → Bool
-are_grants grants = nat_le (length grants) 64 && list_all (λ g. is_number 1 3 g.mode) grants && are_distinct (λ a b. same_label a.name b.name) grants
+are_grants grants =
+    nat_le (length grants) 64 && list_all (λ g. is_number 1 3 g.mode) grants
+    && are_distinct (λ a b. same_label a.name b.name) grants
 
 -- an account's user number, sequence and grants are in their ranges
 abbrev pub is_account : Account → Bool
@@ -72,7 +79,9 @@ is_account a = is_number 1 4294967294 a.uid && nat_le a.sequence 9999 && are_gra
 
 -- at most 1,024 accounts, of different names and different user numbers
 abbrev pub are_accounts : List Account → Bool
-are_accounts accounts = nat_le (length accounts) 1024 && list_all is_account accounts && are_distinct (λ a b. same_name a.name b.name) accounts && are_distinct (λ a b. a.uid == b.uid) accounts
+are_accounts accounts =
+    nat_le (length accounts) 1024 && list_all is_account accounts && are_distinct (λ a b. same_name a.name b.name)
+        accounts && are_distinct (λ a b. a.uid == b.uid) accounts
 
 -- the ranges of a setup, by which a run makes at most 1,048,576 events
 pub record IsInRange (s : Settings) : Type 0 where
@@ -88,7 +97,8 @@ pub record IsInRange (s : Settings) : Type 0 where
 
 -- the tests of all ranges in one
 abbrev pub passes : Settings → Bool
-passes s = are_texts s && are_counts s && are_numbers s.info && nat_le (events_max s) EVENTS_LIMIT && are_accounts s.accounts
+passes s = are_texts s && are_counts s && are_numbers s.info && nat_le (events_max s) EVENTS_LIMIT
+    && are_accounts s.accounts
 
 -- the number of this user's account in the setup, counted from 0
 abbrev pub account_number : Settings → Name → Option ℕ

@@ -12,11 +12,15 @@
 --      (`reply_verdict`)
 --   6. READ and WRITE: rules 17 and 18; OPEN: rules 19 to 21; CLOSE: rule 17; INFO: rule 22; all else: a permit
 --      (`kind_verdict`)
-use Rattle.std.specs.Prelude.{ℕ, ◌≤◌, ◌+◌, ◌-◌, ◌==◌, ◌&&◌, ◌||◌, Bool, false, not, List, [], ◌++◌, length, Option, Some, None, is_none, nat_eq, nat_le, nat_lt, unwrap_or, bit_and, if◌then◌else◌}
+use Rattle.std.specs.Prelude.{ℕ, ◌≤◌, ◌+◌, ◌-◌, ◌==◌, ◌&&◌, ◌||◌, Bool, false, not, List, [], ◌++◌, length, Option}
+use Rattle.std.specs.Prelude.{Some, None, is_none, nat_eq, nat_le, nat_lt, unwrap_or, bit_and, if◌then◌else◌}
 use Rattle.std.specs.List.{find, list_any}
 use Rattle.std.specs.Option.{option_and_then, option_map_or, option_to_list}
 use Rattle.request_catalogue.specs.declared.kind.Kind.{Kind}
-use Rattle.request_catalogue.specs.declared.rules.TheConstants.{ASKS_SPENT, NOT_IN_PHASE, ONCE_ONLY, TRIES_SPENT, USER_HELD, HOLD_LOST, NO_READING, PASSWORD_USED, NO_MATCH, NO_HANDLE, MODE_LACKING, HANDLES_SPENT, NOT_GRANTED, MODE_NOT_GRANTED, NO_INFORMATION}
+use Rattle.request_catalogue.specs.declared.rules.TheConstants.{ASKS_SPENT, NOT_IN_PHASE, ONCE_ONLY, TRIES_SPENT}
+use Rattle.request_catalogue.specs.declared.rules.TheConstants.{USER_HELD, HOLD_LOST, NO_READING, PASSWORD_USED}
+use Rattle.request_catalogue.specs.declared.rules.TheConstants.{NO_MATCH, NO_HANDLE, MODE_LACKING, HANDLES_SPENT}
+use Rattle.request_catalogue.specs.declared.rules.TheConstants.{NOT_GRANTED, MODE_NOT_GRANTED, NO_INFORMATION}
 use Rattle.request_catalogue.specs.declared.texts.Label.{Label}
 use Rattle.request_catalogue.specs.declared.texts.Name.{Name}
 use Rattle.otp_hash.specs.Hashing.{hash_of}
@@ -34,7 +38,9 @@ use Rattle.policy_model.specs.Asks.{is_denied_reply, kind_of, mode_of, moment_of
 use Rattle.policy_model.specs.Decoys.{decoy_number}
 use Rattle.policy_model.specs.Handles.{free_handle_of, live_handles_of, handle_opening}
 use Rattle.policy_model.specs.Journal.{ask_count, count_of, has_event, open_session_of, openings_of}
-use Rattle.policy_model.specs.Logins.{account_of, challenged_user, current_password, current_sequence, holder_of, is_live, last_taking_of, session_taking, verified_account, verified_user, was_accepted, was_decoyed}
+use Rattle.policy_model.specs.Logins.{account_of, challenged_user, current_password, current_sequence, holder_of}
+use Rattle.policy_model.specs.Logins.{is_live, last_taking_of, session_taking, verified_account, verified_user}
+use Rattle.policy_model.specs.Logins.{was_accepted, was_decoyed}
 use Rattle.policy_model.specs.Phases.{is_over, phase_of, table_row}
 use Rattle.policy_model.specs.Settings.{Settings, account_number, same_label}
 
@@ -87,7 +93,8 @@ passwords_verdict journal passwords account =
 -- readings
 abbrev pub user_verdict : Settings → List Event → ℕ → List ℕ → Name → Decision
 user_verdict setup journal session passwords user =
-    if not (option_map_or (λ holder. holder == session) (holder_of journal user) false) then Deny HOLD_LOST (session_taking (last_taking_of journal user))
+    if not (option_map_or (λ holder. holder == session) (holder_of journal user) false)
+        then Deny HOLD_LOST (session_taking (last_taking_of journal user))
     else (if length passwords == 0 then Deny NO_READING 0
     else option_map_or (passwords_verdict journal passwords) (account_of setup user) (Deny NO_MATCH 0))
 
@@ -99,7 +106,8 @@ decoy_verdict passwords = if length passwords == 0 then Deny NO_READING 0 else D
 unfoldable pub reply_verdict : Settings → List Event → ℕ → Option ℕ → Option ℕ → Decision
 reply_verdict setup journal session words hex =
     if was_decoyed journal session then decoy_verdict (readings words hex)
-    else option_map_or (user_verdict setup journal session (readings words hex)) (challenged_user journal session) (Deny HOLD_LOST 0)
+    else option_map_or (user_verdict setup journal session (readings words hex)) (challenged_user journal session)
+        (Deny HOLD_LOST 0)
 
 -- 6. what a session that is logged in asks
 
@@ -112,17 +120,20 @@ allows mode needed = bit_and needed mode == needed
 unfoldable pub handle_verdict : List Event → ℕ → ℕ → ℕ → Decision
 handle_verdict journal session handle needed =
     if handle == 0 then Permit 0
-    else option_map_or (λ e. if allows (mode_of e.ask) needed then Permit 0 else Deny MODE_LACKING handle) (handle_opening journal session handle) (Deny NO_HANDLE handle)
+    else option_map_or (λ e. if allows (mode_of e.ask) needed then Permit 0 else Deny MODE_LACKING handle)
+        (handle_opening journal session handle) (Deny NO_HANDLE handle)
 
 -- the logged-in user's grant for a file, if there is one
 abbrev pub granted : Settings → List Event → ℕ → Label → Option Grant
-granted setup journal session name = find (λ g. same_label g.name name) (option_map_or (λ a. a.grants) (verified_account setup journal session) [])
+granted setup journal session name =
+    find (λ g. same_label g.name name) (option_map_or (λ a. a.grants) (verified_account setup journal session) [])
 
 -- an OPEN: rule 19 if eight handles are open, 20 without a grant, 21 beyond its mode; otherwise the least free handle
 unfoldable pub open_verdict : Settings → List Event → ℕ → ℕ → Label → Decision
 open_verdict setup journal session mode name =
     if nat_le 8 (length (live_handles_of journal session)) then Deny HANDLES_SPENT 8
-    else option_map_or (λ grant. if allows grant.mode mode then Permit (free_handle_of journal session) else Deny MODE_NOT_GRANTED mode) (granted setup journal session name) (Deny NOT_GRANTED 0)
+    else option_map_or (λ grant. if allows grant.mode mode then Permit (free_handle_of journal session)
+        else Deny MODE_NOT_GRANTED mode) (granted setup journal session name) (Deny NOT_GRANTED 0)
 
 -- a CLOSE: permitted for an open handle, otherwise rule 17, also for handle 0
 unfoldable pub close_verdict : List Event → ℕ → ℕ → Decision
@@ -132,13 +143,16 @@ close_verdict journal session handle =
 -- an INFO: the user's current sequence, or rule 22 if the setup doesn't have the number
 unfoldable pub info_verdict : Settings → List Event → ℕ → ℕ → Decision
 info_verdict setup journal session number =
-    if list_any (nat_eq number) setup.info then Permit (option_map_or (current_sequence journal) (verified_account setup journal session) 0) else Deny NO_INFORMATION number
+    if list_any (nat_eq number) setup.info
+        then Permit (option_map_or (current_sequence journal) (verified_account setup journal session) 0)
+        else Deny NO_INFORMATION number
 
 -- the rules of each kind of request; an EXPORT is permitted with the number of the user's account
 unfoldable pub kind_verdict : Settings → List Event → ℕ → Ask → Decision
 kind_verdict setup journal session (asks.Challenge user now) = challenge_verdict setup journal session user now
 kind_verdict setup journal session (asks.Reply words hex) = reply_verdict setup journal session words hex
-kind_verdict setup journal session (asks.Export len) = Permit (unwrap_or (option_and_then (account_number setup) (verified_user journal session)) 0)
+kind_verdict setup journal session (asks.Export len) =
+    Permit (unwrap_or (option_and_then (account_number setup) (verified_user journal session)) 0)
 kind_verdict setup journal session (asks.ReadAt handle offset max) = handle_verdict journal session handle READ
 kind_verdict setup journal session (asks.WriteAt handle offset len) = handle_verdict journal session handle WRITE
 kind_verdict setup journal session (asks.OpenFile mode name) = open_verdict setup journal session mode name
@@ -158,7 +172,9 @@ row_verdict setup journal session ask kind row =
 -- an ask that may still be made: a bad frame breaks its own rule, a request goes by the session's phase
 abbrev pub own_verdict : Settings → List Event → ℕ → Ask → Decision
 own_verdict setup journal session (asks.Bad rule detail) = Deny rule detail
-own_verdict setup journal session ask = option_map_or (λ kind. row_verdict setup journal session ask kind (table_row (phase_of journal session) kind)) (kind_of ask) (Permit 0)
+own_verdict setup journal session ask =
+    option_map_or (λ kind. row_verdict setup journal session ask kind (table_row (phase_of journal session) kind))
+        (kind_of ask) (Permit 0)
 
 -- 2. any other ask
 
@@ -173,8 +189,10 @@ request_verdict setup journal session ask =
 
 -- the policy's verdict on what a worker asks after these events: the first rule that applies, otherwise a permit
 unfoldable pub verdict_of : Settings → List Event → ℕ → Ask → Decision
-verdict_of setup journal worker asks.Begin = if open_session_of journal worker == 0 then Permit (openings_of journal + 1) else Deny NOT_IN_PHASE 0
-verdict_of setup journal worker (asks.End why) = if open_session_of journal worker == 0 then Deny NOT_IN_PHASE 0 else Permit 0
+verdict_of setup journal worker asks.Begin =
+    if open_session_of journal worker == 0 then Permit (openings_of journal + 1) else Deny NOT_IN_PHASE 0
+verdict_of setup journal worker (asks.End why) =
+    if open_session_of journal worker == 0 then Deny NOT_IN_PHASE 0 else Permit 0
 verdict_of setup journal worker ask = request_verdict setup journal (open_session_of journal worker) ask
 
 -- a denial names one of the rules

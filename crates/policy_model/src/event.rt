@@ -1,7 +1,8 @@
 //! Asks, decisions and events.
 
 ghost use Rattle.std.specs.Prelude.{◌≡◌};
-ghost use Rattle.policy_model.specs.Asks.{is_begin, is_end, is_lost, is_permit, is_proper, came_by_frame, kind_of, request_number};
+ghost use Rattle.policy_model.specs.Asks.{is_begin, is_end, is_lost, is_permit, is_proper, came_by_frame, kind_of};
+ghost use Rattle.policy_model.specs.Asks.{request_number};
 
 use request_catalogue::{Kind, Label, Name, Note};
 use std::mem::size_of;

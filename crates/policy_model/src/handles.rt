@@ -23,7 +23,8 @@ fn is_closed(events: &[Event], session: u32, handle: u64) -> bool
 
 /// Whether an event opened a handle of the session that no event after it closes.
 fn is_live(event: &Event, behind: &[Event], session: u32) -> bool
-    ensures { result ≡ (is_own session opens_file event.now && not (list_any (is_own session (closes_file (handle_of event.now))) behind.now)) }
+    ensures { result ≡ (is_own session opens_file event.now
+        && not (list_any (is_own session (closes_file (handle_of event.now))) behind.now)) }
 {
     event.session == session && event.opens_file() && !is_closed(behind, session, event.handle())
 }

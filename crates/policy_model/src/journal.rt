@@ -2,8 +2,10 @@
 
 ghost use Rattle.std.specs.Prelude.{◌≡◌, ◌==◌, ◌&&◌, ◌≤◌, if◌then◌else◌, length};
 ghost use Rattle.std.specs.List.{list_any};
-ghost use Rattle.policy_model.specs.Asks.{accepts, ends_session, exports, is_denied_reply, is_login_step, opens, permits_kind, takes};
-ghost use Rattle.policy_model.specs.Journal.{ask_count, count_of, has_event, has_lost, last_event, open_session_of, openings_of};
+ghost use Rattle.policy_model.specs.Asks.{accepts, ends_session, exports, is_denied_reply, is_login_step, opens};
+ghost use Rattle.policy_model.specs.Asks.{permits_kind, takes};
+ghost use Rattle.policy_model.specs.Journal.{ask_count, count_of, has_event, has_lost, last_event, open_session_of};
+ghost use Rattle.policy_model.specs.Journal.{openings_of};
 ghost use Rattle.policy_model.specs.Cases.{opened_after, is_taking};
 ghost use Rattle.policy_model.specs.Phases.{is_over, phase_of};
 

@@ -5,7 +5,9 @@ ghost use Rattle.std.specs.List.{last_or, list_any};
 ghost use Rattle.std.specs.Option.{option_copied, option_to_list};
 ghost use Rattle.policy_model.specs.Asks.{accepts, gives_up, reserves, is_user};
 ghost use Rattle.policy_model.specs.Journal.{is_own};
-ghost use Rattle.policy_model.specs.Logins.{account_of, challenged_user, current_password, current_sequence, holder_of, is_live, last_taking_of, replies_of, reply_for, session_taking, verified_user, was_accepted, was_decoyed, was_given_up};
+ghost use Rattle.policy_model.specs.Logins.{account_of, challenged_user, current_password, current_sequence, holder_of};
+ghost use Rattle.policy_model.specs.Logins.{is_live, last_taking_of, replies_of, reply_for, session_taking};
+ghost use Rattle.policy_model.specs.Logins.{verified_user, was_accepted, was_decoyed, was_given_up};
 ghost use Rattle.policy_model.specs.Cases.{holder_by};
 
 use crate::account::Account;
@@ -78,7 +80,8 @@ pub(crate) fn session_taking(taking: &Option<Event>) -> u32
 
 /// Whether the user is given up after one more event.
 fn given_up_after(hold: &Hold, event: &Event, user: &Name) -> bool
-    ensures { result ≡ (not (reserves user.now event.now) && (hold.now.given_up || is_own (session_taking hold.now.taking) gives_up event.now)) }
+    ensures { result ≡ (not (reserves user.now event.now)
+        && (hold.now.given_up || is_own (session_taking hold.now.taking) gives_up event.now)) }
 {
     !event.reserves(user) && (hold.given_up || event.is_giving_up_of(session_taking(&hold.taking)))
 }
@@ -145,7 +148,8 @@ fn reply_for(before: &[Event], event: &Event, user: &Name) -> Option<u64>
 /// How many replies for the user were permitted, after one more event.
 fn count_after(count: usize, before: &[Event], event: &Event, user: &Name) -> usize
     requires { count < 2 ^ 63 }
-    ensures { result ≡ count + length (option_to_list (reply_for user.now (record { before = before.now; event = event.now }))) }
+    ensures { result ≡ count
+        + length (option_to_list (reply_for user.now (record { before = before.now; event = event.now }))) }
 {
     match reply_for(before, event, user) {
         None => count,
@@ -167,7 +171,8 @@ pub(crate) fn count_replies(journal: &[Event], user: &Name) -> usize
 
 /// The password of the last permitted reply for the user, after one more event.
 fn last_after(last: Option<u64>, before: &[Event], event: &Event, user: &Name) -> Option<u64>
-    ensures { result ≡ last_or last (option_to_list (reply_for user.now (record { before = before.now; event = event.now }))) }
+    ensures { result
+        ≡ last_or last (option_to_list (reply_for user.now (record { before = before.now; event = event.now }))) }
 {
     match reply_for(before, event, user) {
         None => last,
@@ -188,7 +193,8 @@ fn last_reply(journal: &[Event], user: &Name) -> Option<u64>
 
 /// Whether the event permits a reply for the user with this password.
 fn is_reply_with(before: &[Event], event: &Event, user: &Name, password: u64) -> bool
-    ensures { result ≡ list_any (nat_eq password) (option_to_list (reply_for user.now (record { before = before.now; event = event.now }))) }
+    ensures { result ≡ list_any (nat_eq password)
+        (option_to_list (reply_for user.now (record { before = before.now; event = event.now }))) }
 {
     match reply_for(before, event, user) {
         None => false,
@@ -198,7 +204,10 @@ fn is_reply_with(before: &[Event], event: &Event, user: &Name, password: u64) ->
 
 /// Whether a permitted reply for the user had this password, after one more event.
 fn found_after(found: bool, before: &[Event], event: &Event, user: &Name, password: u64) -> bool
-    ensures { result ≡ (found || list_any (nat_eq password) (option_to_list (reply_for user.now (record { before = before.now; event = event.now })))) }
+    ensures { result
+        ≡ (found
+        || list_any (nat_eq password)
+        (option_to_list (reply_for user.now (record { before = before.now; event = event.now })))) }
 {
     found || is_reply_with(before, event, user, password)
 }

@@ -3,7 +3,9 @@
 ghost use Rattle.std.specs.Prelude.{◌≡◌, ◌≤◌, ◌<◌, ◌==◌, IfSome, length, nat_le, position};
 ghost use Rattle.std.specs.List.{list_all, list_any};
 ghost use Rattle.request_catalogue.specs.Texts.{is_text};
-ghost use Rattle.policy_model.specs.Settings.{are_accounts, are_counts, are_distinct, are_grants, are_numbers, are_texts, events_max, is_account, is_number, passes, same_label, same_name};
+ghost use Rattle.policy_model.specs.Settings.{are_accounts, are_counts, are_distinct, are_grants, are_numbers};
+ghost use Rattle.policy_model.specs.Settings.{are_texts, events_max, is_account, is_number, passes, same_label};
+ghost use Rattle.policy_model.specs.Settings.{same_name};
 
 use crate::account::{Account, Grant};
 use crate::parts::SetupParts;

@@ -2,7 +2,10 @@
 
 ghost use Rattle.std.specs.Prelude.{◌≡◌, ◌&&◌, ◌==◌, nat_le, option_and_then};
 ghost use Rattle.policy_model.specs.declared.event.Decision.TheVariants.{Deny};
-ghost use Rattle.policy_model.specs.Asks.{accepts, challenge_name, closes_file, ends_session, exports, gives_up, is_close, is_denied_reply, is_login_denial, is_login_step, leaves, mode_of, moment_of, opens, opens_file, permits_kind, reserves, takes, takes_user, value_of};
+ghost use Rattle.policy_model.specs.Asks.{accepts, challenge_name, closes_file, ends_session, exports, gives_up};
+ghost use Rattle.policy_model.specs.Asks.{is_close, is_denied_reply, is_login_denial, is_login_step, leaves, mode_of};
+ghost use Rattle.policy_model.specs.Asks.{moment_of, opens, opens_file, permits_kind, reserves, takes, takes_user};
+ghost use Rattle.policy_model.specs.Asks.{value_of};
 ghost use Rattle.policy_model.specs.Cases.{is_challenge_for, is_reply, handle_of};
 ghost use Rattle.policy_model.specs.Journal.{is_own, is_turn_of};
 

@@ -4,9 +4,13 @@ ghost use Rattle.std.specs.Prelude.{◌≡◌, ◌≤◌, ◌==◌, Some, length
 ghost use Rattle.std.specs.List.{find, list_any};
 ghost use Rattle.std.specs.Option.{option_copied, option_to_list};
 ghost use Rattle.policy_model.specs.Asks.{shown_of};
-ghost use Rattle.policy_model.specs.Logins.{account_of, current_password, current_sequence, verified_user, was_accepted};
-ghost use Rattle.policy_model.specs.Verdict.{account_verdict, allows, challenge_verdict, close_verdict, decoy_verdict, handle_verdict, info_verdict, is_held, is_next_password, kind_verdict, open_verdict, readings, reply_verdict, user_verdict};
-ghost use Rattle.policy_model.specs.Cases.{account_named, grant_verdict, grants_of, is_holder, number_named, readings_verdict, refused_verdict, sequence_of, taking_moment, use_verdict};
+ghost use Rattle.policy_model.specs.Logins.{account_of, current_password, current_sequence, verified_user};
+ghost use Rattle.policy_model.specs.Logins.{was_accepted};
+ghost use Rattle.policy_model.specs.Verdict.{account_verdict, allows, challenge_verdict, close_verdict, decoy_verdict};
+ghost use Rattle.policy_model.specs.Verdict.{handle_verdict, info_verdict, is_held, is_next_password, kind_verdict};
+ghost use Rattle.policy_model.specs.Verdict.{open_verdict, readings, reply_verdict, user_verdict};
+ghost use Rattle.policy_model.specs.Cases.{account_named, grant_verdict, grants_of, is_holder, number_named};
+ghost use Rattle.policy_model.specs.Cases.{readings_verdict, refused_verdict, sequence_of, taking_moment, use_verdict};
 ghost use Rattle.policy_model.specs.Settings.{same_label};
 
 use crate::account::{Account, Grant};

@@ -24,8 +24,10 @@ pub fn decide(
 ) -> Result<Decision, AllocError>
     requires few { length journal.old.items < 2 ^ 32 - 1 }
     ensures decision { IfOk result (λ decision. decision ≡ verdict_of setup.now journal.old.items worker ask.now) }
-    ensures event { IfOk result (λ decision. journal.new.items ≡ journal.old.items ++ next_event setup.now journal.old.items worker ask.now ∷ []) }
-    ensures legal { has_lost journal.old.items ≡ false → IsLegal setup.now journal.old.items → IsLegal setup.now journal.new.items }
+    ensures event { IfOk result (λ decision. journal.new.items ≡ journal.old.items ++ next_event setup.now
+        journal.old.items worker ask.now ∷ []) }
+    ensures legal { has_lost journal.old.items ≡ false → IsLegal setup.now journal.old.items
+        → IsLegal setup.now journal.new.items }
     ensures back { IfErr result (λ error. journal.new.items ≡ journal.old.items) }
 {
     let decision = judge(setup, journal.as_slice(), worker, ask);

@@ -1,4 +1,5 @@
-ghost use Rattle.std.specs.Prelude.{◌≡◌, ◌<◌, ◌≤◌, ◌-◌, All, get_or, if◌then◌else◌, IfOk, length, min, nat_lt, None, OnSome};
+ghost use Rattle.std.specs.Prelude.{◌≡◌, ◌<◌, ◌≤◌, ◌-◌, All, get_or, if◌then◌else◌, IfOk, length, min, nat_lt, None};
+ghost use Rattle.std.specs.Prelude.{OnSome};
 ghost use Rattle.quiet_outside.specs.Blank.{BlankStreams, IsRoomy, unused_within};
 
 use crate::blank::Blank;

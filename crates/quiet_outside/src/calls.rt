@@ -1,8 +1,11 @@
-ghost use Rattle.std.specs.Prelude.{◌≡◌, ◌↔◌, ◌<◌, ◌≤◌, ◌+◌, ◌-◌, ◌&&◌, [], ◌∷◌, drop, if◌then◌else◌, IfOk, IfSome, IsSome, is_some, length, min, nat_lt, None, Ok, OnOk, OnSome, take, unwrap_or};
+ghost use Rattle.std.specs.Prelude.{◌≡◌, ◌↔◌, ◌<◌, ◌≤◌, ◌+◌, ◌-◌, ◌&&◌, [], ◌∷◌, drop, if◌then◌else◌, IfOk, IfSome};
+ghost use Rattle.std.specs.Prelude.{IsSome, is_some, length, min, nat_lt, None, Ok, OnOk, OnSome, take, unwrap_or};
 ghost use Rattle.request_catalogue.specs.TextBytes.{label_bytes};
 ghost use Rattle.outside.specs.Repeating.{items_after, next_item};
-ghost use Rattle.outside.specs.Faults.{AcceptCounts, ConnCounts, CountNothing, FinishCounts, NoneFell, StartCounts, VaultCounts};
-ghost use Rattle.outside.specs.Scene.{Did, GivenBack, IsUnused, accepted_outcome, bytes_at, came_count, planned_bytes, received_outcome, started_outcome};
+ghost use Rattle.outside.specs.Faults.{AcceptCounts, ConnCounts, CountNothing, FinishCounts, NoneFell, StartCounts};
+ghost use Rattle.outside.specs.Faults.{VaultCounts};
+ghost use Rattle.outside.specs.Scene.{Did, GivenBack, IsUnused, accepted_outcome, bytes_at, came_count, planned_bytes};
+ghost use Rattle.outside.specs.Scene.{received_outcome, started_outcome};
 ghost use Rattle.outside.specs.Script.{plan_of};
 ghost use Rattle.outside.specs.Told.{Goes};
 ghost use Rattle.outside.specs.Vaults.{FileWritten, piece_from};
@@ -18,7 +21,8 @@ use request_catalogue::Label;
 
 impl Post for QuietPost {
     ghost use Rattle.quiet_outside.specs.QuietConn.{HasReceived, client_left, conn_piece};
-    ghost use Rattle.quiet_outside.specs.QuietPost.{after_act, after_bytes, faults_of, post_stock, scene_of, users_files};
+    ghost use Rattle.quiet_outside.specs.QuietPost.{after_act, after_bytes, faults_of, post_stock, scene_of};
+    ghost use Rattle.quiet_outside.specs.QuietPost.{users_files};
     ghost use Rattle.quiet_outside.specs.QuietStream.{faults_of as stream_faults, link_of, role_of, stream_stock};
 
     type Conn = QuietConn;

@@ -1,4 +1,5 @@
-ghost use Rattle.std.specs.Prelude.{◌≡◌, ◌↔◌, ◌≤◌, drop, if◌then◌else◌, IfOk, IfSome, IsSome, IsTrue, length, None, Ok, OnErr, OnOk, OnSome, option_map, Some};
+ghost use Rattle.std.specs.Prelude.{◌≡◌, ◌↔◌, ◌≤◌, drop, if◌then◌else◌, IfOk, IfSome, IsSome, IsTrue, length, None, Ok};
+ghost use Rattle.std.specs.Prelude.{OnErr, OnOk, OnSome, option_map, Some};
 ghost use Rattle.outside.specs.Faults.{count_after};
 ghost use Rattle.outside.specs.Files.{MayBeReplaced, Replaced, SameFiles, bytes_read, piece_of};
 ghost use Rattle.outside.specs.MemFiles.{file_of};

@@ -1,4 +1,5 @@
-ghost use Rattle.std.specs.Prelude.{◌≡◌, ◌+◌, ◌<◌, ◌≤◌, [], drop, IfOk, length, map, option_map, take, unwrap_or, vec_capacity, vec_len};
+ghost use Rattle.std.specs.Prelude.{◌≡◌, ◌+◌, ◌<◌, ◌≤◌, [], drop, IfOk, length, map, option_map, take, unwrap_or};
+ghost use Rattle.std.specs.Prelude.{vec_capacity, vec_len};
 ghost use Rattle.std.specs.List.{position};
 ghost use Rattle.outside.specs.Vaults.{overwritten};
 ghost use Rattle.quiet_outside.specs.KeptFile.{file_entry, files_of, is_file};

@@ -1,4 +1,5 @@
-ghost use Rattle.std.specs.Prelude.{◌≡◌, ◌↔◌, ◌<◌, ◌≤◌, [], All, IfOk, IfSome, IsOk, IsSome, IsTrue, length, None, OnErr, OnOk, option_map, Some, true};
+ghost use Rattle.std.specs.Prelude.{◌≡◌, ◌↔◌, ◌<◌, ◌≤◌, [], All, IfOk, IfSome, IsOk, IsSome, IsTrue, length, None};
+ghost use Rattle.std.specs.Prelude.{OnErr, OnOk, option_map, Some, true};
 ghost use Rattle.request_catalogue.specs.TextBytes.{label_bytes};
 ghost use Rattle.outside.specs.Faults.{AreCounts};
 ghost use Rattle.outside.specs.Told.{Goes};

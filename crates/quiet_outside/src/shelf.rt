@@ -1,4 +1,5 @@
-ghost use Rattle.std.specs.Prelude.{◌≡◌, ◌+◌, ◌<◌, ◌≤◌, [], drop, if◌then◌else◌, IfOk, IsFalse, IsTrue, length, map, None, option_map, Some, take, unwrap_or, vec_capacity, vec_len};
+ghost use Rattle.std.specs.Prelude.{◌≡◌, ◌+◌, ◌<◌, ◌≤◌, [], drop, if◌then◌else◌, IfOk, IsFalse, IsTrue, length, map};
+ghost use Rattle.std.specs.Prelude.{None, option_map, Some, take, unwrap_or, vec_capacity, vec_len};
 ghost use Rattle.outside.specs.Vaults.{FileSet, FileWritten, piece_from};
 ghost use Rattle.quiet_outside.specs.Pieces.{fits_file, fits_written, has_piece, without};
 ghost use Rattle.quiet_outside.specs.KeptFile.{file_entry};

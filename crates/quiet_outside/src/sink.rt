@@ -1,4 +1,5 @@
-ghost use Rattle.std.specs.Prelude.{◌≡◌, ◌↔◌, ◌-◌, ◌≤◌, [], IfOk, IfSome, IsSome, IsTrue, length, Ok, OnErr, OnOk, Some};
+ghost use Rattle.std.specs.Prelude.{◌≡◌, ◌↔◌, ◌-◌, ◌≤◌, [], IfOk, IfSome, IsSome, IsTrue, length, Ok, OnErr, OnOk};
+ghost use Rattle.std.specs.Prelude.{Some};
 ghost use Rattle.outside.specs.Faults.{count_after};
 ghost use Rattle.outside.specs.Told.{Gains, GainsPart};
 ghost use Rattle.quiet_outside.specs.Room.{kept_within};

@@ -1,4 +1,6 @@
-ghost use Rattle.std.specs.Prelude.{◌≡◌, ◌↔◌, ◌-◌, ◌<◌, ◌≤◌, [], All, drop, if◌then◌else◌, IfOk, IfSome, IsSome, IsTrue, length, min, nat_le, None, Ok, OnErr, OnOk, OnSome, option_map, Some, vec_capacity, vec_len};
+ghost use Rattle.std.specs.Prelude.{◌≡◌, ◌↔◌, ◌-◌, ◌<◌, ◌≤◌, [], All, drop, if◌then◌else◌, IfOk, IfSome, IsSome};
+ghost use Rattle.std.specs.Prelude.{IsTrue, length, min, nat_le, None, Ok, OnErr, OnOk, OnSome, option_map, Some};
+ghost use Rattle.std.specs.Prelude.{vec_capacity, vec_len};
 ghost use Rattle.std.proofs.Props.{props};
 ghost use Rattle.outside.specs.declared.act.Role.{Role};
 ghost use Rattle.outside.specs.Faults.{count_after};

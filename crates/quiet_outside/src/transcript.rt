@@ -1,4 +1,5 @@
-ghost use Rattle.std.specs.Prelude.{◌≡◌, ◌+◌, ◌-◌, ◌&&◌, ◌≤◌, [], ◌∷◌, false, IfOk, IfSome, is_some, List, nat_lt, None, Some, true, vec_capacity, vec_len, ℕ};
+ghost use Rattle.std.specs.Prelude.{◌≡◌, ◌+◌, ◌-◌, ◌&&◌, ◌≤◌, [], ◌∷◌, false, IfOk, IfSome, is_some, List, nat_lt};
+ghost use Rattle.std.specs.Prelude.{None, Some, true, vec_capacity, vec_len, ℕ};
 ghost use Rattle.outside.specs.declared.act.Act.{Act};
 ghost use Rattle.outside.specs.Scene.{came_count, Did, GivenBack, Played};
 ghost use Rattle.outside.specs.Told.{Goes};

@@ -18,12 +18,17 @@ faults_of (Durable log echo) = line_faults log
 
 -- the writer beside a file has the bytes after all others, where it tells, or failed
 abbrev pub HasEchoed : {W : Type 0} → (W → Option (List ℕ)) → List ℕ → RealSink W → RealSink W → Type 0
-HasEchoed contents bytes before after = Appends (contents (writer_of before)) (contents (writer_of after)) bytes ⊎ Rose (stream.faults_of before) (stream.faults_of after)
+HasEchoed contents bytes before after =
+    Appends (contents (writer_of before)) (contents (writer_of after)) bytes
+    ⊎ Rose (stream.faults_of before) (stream.faults_of after)
 
--- the log stays what it is and took the bytes: its writer has them after all others, where it tells; or they are one line, which is a record of its file, and of the writer beside it
+-- the log stays what it is and took the bytes: its writer has them after all others, where it tells;
+-- or they are one line, which is a record of its file, and of the writer beside it
 abbrev pub HasTaken : {W R D : Type 0} → (W → Option (List ℕ)) → List ℕ → RealLog W R D → RealLog W R D → Type 0
-HasTaken contents bytes (Stream before) (Stream after) = Appends (contents (writer_of before)) (contents (writer_of after)) bytes
-HasTaken contents bytes (Durable before echo) (Durable after echoed) = (is_line bytes ≡ true) × IsDone bytes before.log after.log × HasEchoed contents bytes echo echoed
+HasTaken contents bytes (Stream before) (Stream after) =
+    Appends (contents (writer_of before)) (contents (writer_of after)) bytes
+HasTaken contents bytes (Durable before echo) (Durable after echoed) =
+    (is_line bytes ≡ true) × IsDone bytes before.log after.log × HasEchoed contents bytes echo echoed
 HasTaken contents bytes (Stream before) (Durable after echoed) = ⊥
 HasTaken contents bytes (Durable before echo) (Stream after) = ⊥
 

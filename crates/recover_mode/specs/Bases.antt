@@ -24,6 +24,7 @@ pub record HasBasis (parts : RecoverParts) (setup : Settings) (image : List ℕ)
 abbrev pub IsFileError : Option Contents → List ℕ → Type 0 → RecoveryError → Type 0
 IsFileError contents name ReadFailed errors.ReadFailed = ReadFailed
 IsFileError contents name ReadFailed errors.SetupMissing = IsSetupError contents name ReadFailed setup_errors.Missing
-IsFileError contents name ReadFailed (errors.SetupRefused fault) = IsSetupError contents name ReadFailed (setup_errors.Refused fault)
+IsFileError contents name ReadFailed (errors.SetupRefused fault) =
+    IsSetupError contents name ReadFailed (setup_errors.Refused fault)
 IsFileError contents name ReadFailed errors.OutOfMemory = Unit {0}
 IsFileError contents name ReadFailed _ = ⊥

@@ -13,7 +13,8 @@ use Rattle.recover_mode.specs.Recovering.{AreTexts, IsPut, IsRefused}
 use Rattle.recover_mode.specs.Words.{RecoverParts}
 
 -- no setup was read, or no image of the log; every file is as it was
-pub record IsUnread (parts : RecoverParts) (old new : Option Contents) (ReadFailed : Type 0) (error : RecoveryError) : Type 0 where
+pub record IsUnread (parts : RecoverParts) (old new : Option Contents) (ReadFailed : Type 0)
+    (error : RecoveryError) : Type 0 where
   pub why : IsFileError new parts.setup ReadFailed error
   pub files : Goes SameFiles old new
 
@@ -26,7 +27,8 @@ pub record IsUnrecovered (parts : RecoverParts) (number : ℕ) (old new : Option
   pub files : Goes SameFiles old new
 
 -- the files, as they stood before, hold a setup and a log that is recovered, and this came of writing and sending that
-pub record IsRecovered (parts : RecoverParts) (old new : Option Contents) (before after : Option Link) (ReplaceFailed EndsFailed : Type 0) (result : Result Recovery RecoveryError) : Type 0 where
+pub record IsRecovered (parts : RecoverParts) (old new : Option Contents) (before after : Option Link)
+    (ReplaceFailed EndsFailed : Type 0) (result : Result Recovery RecoveryError) : Type 0 where
   pub setup : Settings
   pub image : List ℕ
   pub stood : Goes (λ files _. HasBasis parts setup image files) old new
@@ -36,7 +38,8 @@ pub record IsRecovered (parts : RecoverParts) (old new : Option Contents) (befor
 
 -- what each end of `recover` means: what was recovered is written and sent, or why not; where nothing is recovered
 -- nothing changes
-abbrev pub IsOutcome : RecoverParts → Option Contents → Option Contents → Option Link → Option Link → Type 0 → Type 0 → Type 0 → Result Recovery RecoveryError → Type 0
+abbrev pub IsOutcome : RecoverParts → Option Contents → Option Contents → Option Link → Option Link → Type 0 → Type 0
+    → Type 0 → Result Recovery RecoveryError → Type 0
 IsOutcome parts old new before after ReadFailed ReplaceFailed EndsFailed (Ok recovery) =
     IsRecovered parts old new before after ReplaceFailed EndsFailed (Ok recovery)
 IsOutcome parts old new before after ReadFailed ReplaceFailed EndsFailed (Err errors.ReplaceFailed) =

@@ -28,8 +28,11 @@ use Rattle.recover_mode.specs.Words.{RecoverParts}
 pub record IsBroughtBack (setup : Settings) (image : List ℕ) (answer : Result Recovered RecoverError) : Type 0 where
   pub log : IsLogOr image answer
   pub exact : (records : List (List ℕ)) → HasRecords image records → IsAnswerOf setup records answer
-  pub back : (journal : List Event) → IsWhole setup journal → HasRecords image (records_of journal) → IsRecoveredAs (IsBackAt setup journal) answer
-  pub again : (first : Settings) (journal : List Event) → IsWhole first journal → setup.accounts ≡ map (account_after journal) first.accounts → HasRecords image (records_of journal) → IsRecoveredAs (IsThereAlready setup journal) answer
+  pub back : (journal : List Event) → IsWhole setup journal → HasRecords image (records_of journal)
+      → IsRecoveredAs (IsBackAt setup journal) answer
+  pub again : (first : Settings) (journal : List Event) → IsWhole first journal → setup.accounts
+      ≡ map (account_after journal) first.accounts → HasRecords image (records_of journal)
+      → IsRecoveredAs (IsThereAlready setup journal) answer
 
 -- a record of the image has a fault, and this is the number of the first
 pub record HasFirstFault (setup : Settings) (image : List ℕ) (number : ℕ) : Type 0 where
@@ -84,12 +87,15 @@ pub record AreWritten (texts : Texts) (before after : Contents) : Type 0 where
 
 -- nothing was written, or the setup alone, or the log too
 pub record MayBeWritten (texts : Texts) (before after : Contents) : Type 0 where
-  pub one : SameFiles before after ⊎ (Replaced texts.setup texts.bytes.items before after ⊎ AreWritten texts before after)
+  pub one : SameFiles before after ⊎ (Replaced texts.setup texts.bytes.items before after
+      ⊎ AreWritten texts before after)
 
 -- the files were written and then the line was sent, or which of these failed
-abbrev pub IsPut : Texts → Option Contents → Option Contents → Option Link → Option Link → Type 0 → Type 0 → Result Recovery RecoveryError → Type 0
+abbrev pub IsPut : Texts → Option Contents → Option Contents → Option Link → Option Link → Type 0 → Type 0
+    → Result Recovery RecoveryError → Type 0
 IsPut texts old new before after ReplaceFailed EndsFailed (Ok recovery) =
-    (recovery ≡ texts.recovery) × Goes (AreWritten texts) old new × Goes (Exchanged [] (string_bytes texts.line)) before after
+    (recovery ≡ texts.recovery) × Goes (AreWritten texts) old new × Goes (Exchanged [] (string_bytes texts.line)) before
+        after
 IsPut texts old new before after ReplaceFailed EndsFailed (Err errors.ReplaceFailed) =
     ReplaceFailed × Goes (MayBeWritten texts) old new × (after ≡ before)
 IsPut texts old new before after ReplaceFailed EndsFailed (Err errors.SendFailed) =

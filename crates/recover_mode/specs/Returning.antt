@@ -24,7 +24,8 @@ pub record HasRun (parts : RecoverParts) (setup : Settings) (journal : List Even
   pub logged : HasRecords (image_in (files parts.log)) (records_of journal)
 
 -- the log of a run by a first setup, where the setup file already has what the journal says of each account
-pub record HasRunAlready (parts : RecoverParts) (first setup : Settings) (journal : List Event) (files : Contents) : Type 0 where
+pub record HasRunAlready (parts : RecoverParts) (first setup : Settings) (journal : List Event)
+    (files : Contents) : Type 0 where
   pub spelled : setup_in files parts.setup ≡ Some (Ok (entries_of setup))
   pub whole : IsWhole first journal
   pub already : setup.accounts ≡ map (account_after journal) first.accounts
@@ -32,7 +33,8 @@ pub record HasRunAlready (parts : RecoverParts) (first setup : Settings) (journa
 
 -- the setup file spells this setup, unless the log has the same name
 abbrev pub IsSpelled : RecoverParts → Settings → Contents → Type 0
-IsSpelled parts setup files = parts.setup ≢ parts.log → option_map setup_of (files parts.setup) ≡ Some (Ok (entries_of setup))
+IsSpelled parts setup files =
+    parts.setup ≢ parts.log → option_map setup_of (files parts.setup) ≡ Some (Ok (entries_of setup))
 
 -- the counts of a recovery are those of this journal
 pub record IsCounted (journal : List Event) (recovery : Recovery) : Type 0 where
@@ -48,6 +50,9 @@ IsReturned parts setup journal files (Err _) = Unit {0}
 
 -- from a whole run's log, `recover` writes the setup after the run's journal; a setup that has it already stays as it
 -- is
-pub record BringsBack (parts : RecoverParts) (result : Result Recovery RecoveryError) (old new : Contents) : Type 0 where
-  pub logged : (setup : Settings) (journal : List Event) → HasRun parts setup journal old → IsReturned parts (setup_after setup journal) journal new result
-  pub again : (first setup : Settings) (journal : List Event) → HasRunAlready parts first setup journal old → IsReturned parts setup journal new result
+pub record BringsBack (parts : RecoverParts) (result : Result Recovery RecoveryError)
+    (old new : Contents) : Type 0 where
+  pub logged : (setup : Settings) (journal : List Event) → HasRun parts setup journal old
+      → IsReturned parts (setup_after setup journal) journal new result
+  pub again : (first setup : Settings) (journal : List Event) → HasRunAlready parts first setup journal old
+      → IsReturned parts setup journal new result

@@ -10,5 +10,6 @@ pub record RecoverParts : Type 0 where
 
 -- what the command line `recover SETUP LOG` asks for; any other asks for nothing
 abbrev pub recover_command : List (List ℕ) → Option RecoverParts
-recover_command (mode ∷ setup ∷ log ∷ []) = then_some (bytes_eq mode (codes "recover")) (record { setup = setup; log = log })
+recover_command (mode ∷ setup ∷ log ∷ []) =
+    then_some (bytes_eq mode (codes "recover")) (record { setup = setup; log = log })
 recover_command _ = None

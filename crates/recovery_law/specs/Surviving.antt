@@ -16,7 +16,8 @@ use Rattle.ledger_journal.specs.declared.answer.RecoverError.{RecoverError}
 use Rattle.ledger_journal.specs.Journals.{IsBackAt, IsRecoveredAs, records_of}
 use Rattle.ledger_journal.specs.Recovering.{IsAnswerOf}
 
--- the journal of a run: it is legal, its asks are proper, it has at most as many events as a run makes, and those that it decided are in the ranges of their types
+-- the journal of a run: it is legal, its asks are proper, it has at most as many events as
+-- a run makes, and those that it decided are in the ranges of their types
 pub record IsRunOf (setup : Settings) (journal : List Event) : Type 0 where
   pub in_range : IsInRange setup
   pub legal : IsLegal setup journal
@@ -26,7 +27,9 @@ pub record IsRunOf (setup : Settings) (journal : List Event) : Type 0 where
 
 -- recovery from these records answers that each account is as these events say, or that memory ran out
 abbrev pub BringsBack : Settings → List Event → Type 0
-BringsBack setup events = (result : Result Recovered RecoverError) → IsAnswerOf setup (records_of events) result → IsRecoveredAs (IsBackAt setup events) result
+BringsBack setup events =
+    (result : Result Recovered RecoverError) → IsAnswerOf setup (records_of events) result
+    → IsRecoveredAs (IsBackAt setup events) result
 
 -- an image has the lines of the first events that a run decided, so many at least, and recovery brings these back
 pub record HasFirst (setup : Settings) (journal : List Event) (least : ℕ) (image : List ℕ) : Type 0 where

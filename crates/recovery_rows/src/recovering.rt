@@ -25,7 +25,8 @@ pub struct Came {
 ///
 /// There isn't the memory for what is sent.
 pub fn recover_files(alloc: Global, files: MemFiles) -> Result<Came, AllocError>
-    ensures back { IfOk result (λ came. Goes (BringsBack row_parts came.outcome) (contents_of files) (contents_of came.files)) }
+    ensures back { IfOk result (λ came. Goes (BringsBack row_parts came.outcome) (contents_of files)
+        (contents_of came.files)) }
     ensures spares { IfOk result (λ came. Goes (Spares row_parts) (contents_of files) (contents_of came.files)) }
 {
     let mut files = files;

@@ -20,7 +20,8 @@ pub record HasBasis (name : List ℕ) (basis : Basis) (files : Contents) : Type 
   pub listed : IsJudgedSo (Some files) basis.setup.words (Ok basis.dictionary)
 
 -- the named file spells a setup, and the word list that it names wasn't read
-pub record IsListError (contents : Option Contents) (name : List ℕ) (ReadFailed : Type 0) (error : ListError) : Type 0 where
+pub record IsListError (contents : Option Contents) (name : List ℕ) (ReadFailed : Type 0)
+    (error : ListError) : Type 0 where
   pub setup : Settings
   pub spelled : IsSetupIn contents name setup
   pub unread : IsListFault contents setup.words ReadFailed error
@@ -29,9 +30,11 @@ pub record IsListError (contents : Option Contents) (name : List ℕ) (ReadFaile
 abbrev pub IsFileError : Option Contents → List ℕ → Type 0 → RenewError → Type 0
 IsFileError contents name ReadFailed errors.ReadFailed = ReadFailed
 IsFileError contents name ReadFailed errors.SetupMissing = IsSetupError contents name ReadFailed setup_errors.Missing
-IsFileError contents name ReadFailed (errors.SetupRefused fault) = IsSetupError contents name ReadFailed (setup_errors.Refused fault)
+IsFileError contents name ReadFailed (errors.SetupRefused fault) =
+    IsSetupError contents name ReadFailed (setup_errors.Refused fault)
 IsFileError contents name ReadFailed errors.WordsMissing = IsListError contents name ReadFailed list_errors.Missing
-IsFileError contents name ReadFailed (errors.WordsRefused fault) = IsListError contents name ReadFailed (list_errors.Refused fault)
+IsFileError contents name ReadFailed (errors.WordsRefused fault) =
+    IsListError contents name ReadFailed (list_errors.Refused fault)
 IsFileError contents name ReadFailed errors.OutOfMemory = Unit {0}
 IsFileError contents name ReadFailed _ = ⊥
 

@@ -12,12 +12,16 @@ use Rattle.renew_mode.specs.declared.texts.Texts.{Texts}
 use Rattle.renew_mode.specs.Renewing.{AreTexts, IsPut}
 
 -- the texts of a renewal were made and put, or what failed of that; where memory ran out for them nothing was done
-abbrev pub IsInstalling : RenewParts → Renewal → Option Contents → Option Contents → Option Link → Option Link → Type 0 → Type 0 → Result Renewed RenewError → Type 0
+abbrev pub IsInstalling : RenewParts → Renewal → Option Contents → Option Contents → Option Link → Option Link → Type 0
+    → Type 0 → Result Renewed RenewError → Type 0
 IsInstalling parts renewal old new before after ReplaceFailed EndsFailed (Ok renewed) =
-    (renewed ≡ renewal.renewed) × (texts : Texts) × AreTexts parts renewal texts × IsPut texts old new before after ReplaceFailed EndsFailed (Ok tt)
-IsInstalling parts renewal old new before after ReplaceFailed EndsFailed (Err errors.OutOfMemory) = (new ≡ old) × (after ≡ before)
+    (renewed ≡ renewal.renewed) × (texts : Texts) × AreTexts parts renewal texts × IsPut texts old new before after
+        ReplaceFailed EndsFailed (Ok tt)
+IsInstalling parts renewal old new before after ReplaceFailed EndsFailed (Err errors.OutOfMemory) =
+    (new ≡ old) × (after ≡ before)
 IsInstalling parts renewal old new before after ReplaceFailed EndsFailed (Err error) =
-    (texts : Texts) × AreTexts parts renewal texts × IsPut texts old new before after ReplaceFailed EndsFailed (Err error)
+    (texts : Texts) × AreTexts parts renewal texts × IsPut texts old new before after ReplaceFailed EndsFailed
+        (Err error)
 
 -- why a log is refused: it isn't fresh, its reading failed, or there was no memory for its name
 abbrev pub IsLogRefused : Option (List ℕ) → Option Contents → Type 0 → RenewError → Type 0

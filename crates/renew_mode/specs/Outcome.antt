@@ -13,21 +13,24 @@ use Rattle.renew_mode.specs.Bases.{IsReady, IsUnready}
 use Rattle.renew_mode.specs.Renewing.{IsRenewing}
 
 -- no setup or word list was read, or the log isn't fresh; nothing was received, sent or written
-pub record IsUnread (parts : RenewParts) (old new : Option Contents) (before after : Option Link) (ReadFailed : Type 0) (error : RenewError) : Type 0 where
+pub record IsUnread (parts : RenewParts) (old new : Option Contents) (before after : Option Link) (ReadFailed : Type 0)
+    (error : RenewError) : Type 0 where
   pub why : IsUnready parts new ReadFailed error
   pub files : Goes SameFiles old new
   pub ends : after ≡ before
 
 -- the files, as they stood before, hold a setup, its word list and a fresh log, if one is named, and this came of the
 -- response
-pub record IsRead (parts : RenewParts) (old new : Option Contents) (before after : Option Link) (ReplaceFailed EndsFailed : Type 0) (result : Result Renewed RenewError) : Type 0 where
+pub record IsRead (parts : RenewParts) (old new : Option Contents) (before after : Option Link)
+    (ReplaceFailed EndsFailed : Type 0) (result : Result Renewed RenewError) : Type 0 where
   pub basis : Basis
   pub stood : Goes (λ files _. IsReady parts basis files) old new
   pub renewing : IsRenewing parts basis old new before after ReplaceFailed EndsFailed result
 
 -- what each end of `renew` means: the renewal was written and sent, or why not; if memory ran out, nothing was written
 -- or sent
-abbrev pub IsOutcome : RenewParts → Option Contents → Option Contents → Option Link → Option Link → Type 0 → Type 0 → Type 0 → Result Renewed RenewError → Type 0
+abbrev pub IsOutcome : RenewParts → Option Contents → Option Contents → Option Link → Option Link → Type 0 → Type 0
+    → Type 0 → Result Renewed RenewError → Type 0
 IsOutcome parts old new before after ReadFailed ReplaceFailed EndsFailed (Ok renewed) =
     IsRead parts old new before after ReplaceFailed EndsFailed (Ok renewed)
 IsOutcome parts old new before after ReadFailed ReplaceFailed EndsFailed (Err (errors.NoRenewal fault)) =

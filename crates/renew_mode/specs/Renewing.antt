@@ -25,20 +25,23 @@ pub record AreTexts (parts : RenewParts) (renewal : Renewal) (texts : Texts) : T
   pub line : texts.line.items ≡ renewed_line parts.user renewal.renewed.sequence
 
 -- what came of the input's first line as a response of the user; nothing was sent
-pub record ComesOf (parts : RenewParts) (basis : Basis) (before after : Option Link) (EndsFailed : Type 0) (result : Result Renewal RenewalFault) : Type 0 where
+pub record ComesOf (parts : RenewParts) (basis : Basis) (before after : Option Link) (EndsFailed : Type 0)
+    (result : Result Renewal RenewalFault) : Type 0 where
   pub user : Name
   pub named : name_bytes user ≡ parts.user
   pub comes : renewals.IsOutcome basis.setup basis.dictionary user before after EndsFailed result
 
 -- the response was received and renews the account, and this is to be written and sent
-pub record IsMade (parts : RenewParts) (basis : Basis) (renewed : Renewed) (texts : Texts) (before between : Option Link) : Type 0 where
+pub record IsMade (parts : RenewParts) (basis : Basis) (renewed : Renewed) (texts : Texts)
+    (before between : Option Link) : Type 0 where
   pub renewal : Renewal
   pub renewed_is : renewed ≡ renewal.renewed
   pub received : ComesOf parts basis before between ⊥ (Ok renewal)
   pub texts_are : AreTexts parts renewal texts
 
 -- the setup file was replaced and then the line was sent, or which of these failed
-abbrev pub IsPut : Texts → Option Contents → Option Contents → Option Link → Option Link → Type 0 → Type 0 → Result (Unit {0}) RenewError → Type 0
+abbrev pub IsPut : Texts → Option Contents → Option Contents → Option Link → Option Link → Type 0 → Type 0
+    → Result (Unit {0}) RenewError → Type 0
 IsPut texts old new before after ReplaceFailed EndsFailed (Ok _) =
     Goes (Replaced texts.file texts.bytes.items) old new × Goes (Exchanged [] texts.line.items) before after
 IsPut texts old new before after ReplaceFailed EndsFailed (Err errors.ReplaceFailed) =
@@ -48,12 +51,15 @@ IsPut texts old new before after ReplaceFailed EndsFailed (Err errors.SendFailed
 IsPut texts old new before after ReplaceFailed EndsFailed (Err _) = ⊥
 
 -- what came of a response: it was received and the renewal put in place, or which of these failed
-abbrev pub IsRenewing : RenewParts → Basis → Option Contents → Option Contents → Option Link → Option Link → Type 0 → Type 0 → Result Renewed RenewError → Type 0
+abbrev pub IsRenewing : RenewParts → Basis → Option Contents → Option Contents → Option Link → Option Link → Type 0
+    → Type 0 → Result Renewed RenewError → Type 0
 IsRenewing parts basis old new before after ReplaceFailed EndsFailed (Ok renewed) =
-    (texts : Texts) × (between : Option Link) × IsMade parts basis renewed texts before between × IsPut texts old new between after ReplaceFailed EndsFailed (Ok tt)
+    (texts : Texts) × (between : Option Link) × IsMade parts basis renewed texts before between
+        × IsPut texts old new between after ReplaceFailed EndsFailed (Ok tt)
 IsRenewing parts basis old new before after ReplaceFailed EndsFailed (Err (errors.NoRenewal fault)) =
     ComesOf parts basis before after EndsFailed (Err fault) × Goes SameFiles old new
 IsRenewing parts basis old new before after ReplaceFailed EndsFailed (Err errors.OutOfMemory) =
     Goes OnlyReceived before after × Goes SameFiles old new
 IsRenewing parts basis old new before after ReplaceFailed EndsFailed (Err error) =
-    (texts : Texts) × (between : Option Link) × (renewed : Renewed) × IsMade parts basis renewed texts before between × IsPut texts old new between after ReplaceFailed EndsFailed (Err error)
+    (texts : Texts) × (between : Option Link) × (renewed : Renewed) × IsMade parts basis renewed texts before between
+        × IsPut texts old new between after ReplaceFailed EndsFailed (Err error)

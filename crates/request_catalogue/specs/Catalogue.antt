@@ -67,8 +67,10 @@ IsInRange width (Reply text) = IsTrue (is_typed_reply text)
 IsInRange width Abandon = Unit {0}
 IsInRange width (Export state) = length state ≤ 8192
 IsInRange width Import = Unit {0}
-IsInRange width (ReadAt handle offset max) = (handle < 2 ^ 32) × (offset < 2 ^ 64) × (1 ≤ max) × (max ≤ transfer_max width)
-IsInRange width (WriteAt handle offset bytes) = (handle < 2 ^ 32) × (offset < 2 ^ 64) × (1 ≤ length bytes) × (length bytes ≤ transfer_max width)
+IsInRange width (ReadAt handle offset max) =
+    (handle < 2 ^ 32) × (offset < 2 ^ 64) × (1 ≤ max) × (max ≤ transfer_max width)
+IsInRange width (WriteAt handle offset bytes) =
+    (handle < 2 ^ 32) × (offset < 2 ^ 64) × (1 ≤ length bytes) × (length bytes ≤ transfer_max width)
 IsInRange width (OpenFile mode name) = (1 ≤ mode) × (mode ≤ 3) × IsTrue (is_label name)
 IsInRange width (CloseFile handle) = handle < 2 ^ 32
 IsInRange width (Info number) = number < 2 ^ 32

@@ -21,7 +21,8 @@ kind_number kinds.Finish = 13
 
 -- the thirteen kinds of requests
 abbrev pub all_kinds : List Kind
-all_kinds = kinds.Banner ∷ kinds.Challenge ∷ kinds.Reply ∷ kinds.Abandon ∷ kinds.Export ∷ kinds.Import ∷ kinds.ReadAt ∷ kinds.WriteAt ∷ kinds.OpenFile ∷ kinds.CloseFile ∷ kinds.Info ∷ kinds.Note ∷ kinds.Finish ∷ []
+all_kinds = kinds.Banner ∷ kinds.Challenge ∷ kinds.Reply ∷ kinds.Abandon ∷ kinds.Export ∷ kinds.Import ∷ kinds.ReadAt
+    ∷ kinds.WriteAt ∷ kinds.OpenFile ∷ kinds.CloseFile ∷ kinds.Info ∷ kinds.Note ∷ kinds.Finish ∷ []
 
 -- the kind of a number, if it has one
 unfoldable pub kind_numbered : ℕ → Option Kind

@@ -1,5 +1,6 @@
 -- Believed: replies: what an answer is, and the one spelling of each.
-use Rattle.std.specs.Prelude.{ℕ, ◌+◌, ◌^◌, ◌<◌, ◌≤◌, List, [], ◌∷◌, length, Option, Some, None, if◌then◌else◌, nat_le, ◌==◌, ◌&&◌}
+use Rattle.std.specs.Prelude.{ℕ, ◌+◌, ◌^◌, ◌<◌, ◌≤◌, List, [], ◌∷◌, length, Option, Some, None, if◌then◌else◌, nat_le}
+use Rattle.std.specs.Prelude.{◌==◌, ◌&&◌}
 use Rattle.std.specs.Bool.{then_some}
 use Rattle.std.specs.Int.{w32, to_le_bytes}
 use Rattle.request_catalogue.specs.declared.width.Width.{Width}
@@ -45,7 +46,8 @@ reply_of (Device device) = 2 ∷ device ∷ []
 -- what a denial's rule and detail answer
 unfoldable pub denied_by : List ℕ → Option AnswerValue
 denied_by [] = None
-denied_by (rule ∷ detail) = then_some (nat_le 1 rule && nat_le rule 22 && length detail == 4) (Denied rule (number_at w32 0 detail))
+denied_by (rule ∷ detail) =
+    then_some (nat_le 1 rule && nat_le rule 22 && length detail == 4) (Denied rule (number_at w32 0 detail))
 
 -- what a device answers
 unfoldable pub failed_by : List ℕ → Option AnswerValue
@@ -55,4 +57,6 @@ failed_by (device ∷ rest) = then_some (nat_le 1 device && nat_le device 2 && l
 -- the table: what a reply answers, if it is one, by its first byte
 unfoldable pub answered_by : List ℕ → Option AnswerValue
 answered_by [] = None
-answered_by (first ∷ rest) = if first == 0 then Some (Done rest) else (if first == 1 then denied_by rest else (if first == 2 then failed_by rest else None))
+answered_by (first ∷ rest) =
+    if first == 0 then Some (Done rest) else (if first == 1 then denied_by rest else (if first == 2 then failed_by rest
+    else None))

@@ -1,6 +1,7 @@
 //! Requests read from messages.
 
-ghost use Rattle.std.specs.Prelude.{◌≡◌, ◌%◌, ◌≤◌, ◌==◌, ◌&&◌, ℕ, nat_le, Ok, Err, MatchOption, MatchResult, IfOk, IsOkAnd, IfErr, length};
+ghost use Rattle.std.specs.Prelude.{◌≡◌, ◌%◌, ◌≤◌, ◌==◌, ◌&&◌, ℕ, nat_le, Ok, Err, MatchOption, MatchResult, IfOk};
+ghost use Rattle.std.specs.Prelude.{IsOkAnd, IfErr, length};
 ghost use Rattle.std.specs.Option.{option_map};
 ghost use Rattle.request_catalogue.specs.Widths.{transfer_max};
 ghost use Rattle.request_catalogue.specs.Texts.{is_typed_reply};
@@ -113,19 +114,22 @@ pub fn read_request(width: Width, kind: u32, flags: u16, body: &[u8]) -> Result<
     // What is read is in range and spelled so.
     ensures found { IfOk result (λ r. IsRequest width kind flags body.now (value_of r)) }
     // What is in range and spelled so is read.
-    ensures only { (value : RequestValue) → IsRequest width kind flags body.now value → IsOkAnd result (λ r. value_of r ≡ value) }
+    ensures only { (value : RequestValue) → IsRequest width kind flags body.now value
+        → IsOkAnd result (λ r. value_of r ≡ value) }
     // Which rule is broken, and that it is the first.
     ensures fault { IfErr result (IsFault width kind flags body.now) }
     ensures rule { IfErr result (λ e. (2 ≤ e.rule) × (e.rule ≤ 5)) }
     // The table's answer.
-    ensures exact { MatchResult result (λ r. request_of width kind flags body.now ≡ Ok (value_of r)) (λ e. request_of width kind flags body.now ≡ Err e) }
+    ensures exact { MatchResult result (λ r. request_of width kind flags body.now ≡ Ok (value_of r))
+        (λ e. request_of width kind flags body.now ≡ Err e) }
 {
     look_up(width, kind, flags, body)
 }
 
 #[tactic(auto, unfolding(crate::specs::Reading::request_of))]
 fn look_up(width: Width, kind: u32, flags: u16, body: &[u8]) -> Result<Request<'_>, Bad>
-    ensures { MatchResult result (λ r. request_of width kind flags body.now ≡ Ok (value_of r)) (λ e. request_of width kind flags body.now ≡ Err e) }
+    ensures { MatchResult result (λ r. request_of width kind flags body.now ≡ Ok (value_of r))
+        (λ e. request_of width kind flags body.now ≡ Err e) }
 {
     if has_descriptor(flags) {
         return Err(bad(rules::DESCRIPTOR_FLAG, u32::from(flags)));

@@ -4,7 +4,8 @@ ghost use Rattle.std.specs.Prelude.{◌≡◌, ◌≢◌, ◌≤◌, ◌++◌, I
 ghost use Rattle.std.specs.Option.{option_map};
 ghost use Rattle.std.specs.Result.{result_ok};
 ghost use Rattle.request_catalogue.specs.Widths.{body_max};
-ghost use Rattle.request_catalogue.specs.Replies.{AnswerValue, reply_kind_of, answer_of, IsAnswer, IsSendable, reply_of, denied_by, failed_by, answered_by};
+ghost use Rattle.request_catalogue.specs.Replies.{AnswerValue, reply_kind_of, answer_of, IsAnswer, IsSendable};
+ghost use Rattle.request_catalogue.specs.Replies.{reply_of, denied_by, failed_by, answered_by};
 
 use crate::answer::{Answer, Unreadable};
 use crate::fields::number_of;
@@ -65,7 +66,8 @@ pub fn read_reply(body: &[u8]) -> Result<Answer<'_>, Unreadable>
     // What is read is in range and spelled so.
     ensures found { IfOk result (λ a. IsAnswer (answer_of a) × (body.now ≡ reply_of (answer_of a))) }
     // What is in range and spelled so is read.
-    ensures only { (value : AnswerValue) → IsAnswer value → body.now ≡ reply_of value → IsOkAnd result (λ a. answer_of a ≡ value) }
+    ensures only { (value : AnswerValue) → IsAnswer value → body.now ≡ reply_of value
+        → IsOkAnd result (λ a. answer_of a ≡ value) }
     ensures unreadable { IfErr result (λ _. (value : AnswerValue) → IsAnswer value → body.now ≢ reply_of value) }
     // The table's answer.
     ensures exact { option_map answer_of (result_ok result) ≡ answered_by body.now }

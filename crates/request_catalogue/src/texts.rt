@@ -3,7 +3,8 @@
 ghost use Rattle.std.specs.Prelude.{◌≡◌, ◌≤◌, true, IfSome, is_some, length};
 ghost use Rattle.fixed_list.specs.FixedList.{list_of};
 ghost use Rattle.std.specs.List.{list_all};
-ghost use Rattle.request_catalogue.specs.Texts.{is_name, is_label, is_note, is_typed_reply, is_typed, begins_name, continues_name, continues_label, is_printable};
+ghost use Rattle.request_catalogue.specs.Texts.{is_name, is_label, is_note, is_typed_reply, is_typed, begins_name};
+ghost use Rattle.request_catalogue.specs.Texts.{continues_name, continues_label, is_printable};
 
 use fixed_list::FixedList;
 

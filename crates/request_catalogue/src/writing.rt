@@ -18,7 +18,8 @@ pub fn write_request(width: Width, request: &Request, out: &mut [u8]) -> usize
     ensures len { result ≡ length (payload_of (value_of request.now)) }
     ensures within { result ≤ body_max width }
     ensures written { out.new ≡ payload_of (value_of request.now) ++ drop result out.old }
-    ensures read_back { let value = value_of request.now in request_of width (kind_number (kind_of value)) 0 (take result out.new) ≡ Ok value }
+    ensures read_back { let value = value_of request.now in request_of width (kind_number (kind_of value)) 0
+        (take result out.new) ≡ Ok value }
 {
     put_payload(width, request, out)
 }

@@ -10,7 +10,8 @@ use Rattle.serve_mode.specs.Steps.{WritesBack, run_end}
 use Rattle.serve_mode.specs.Words.{Source}
 
 -- the accounts of a run were written back, and it ended as this, its journal and its accepts say
-pub record IsFinished (source : Source) (setup : Settings) (ledger : LedgerParts) (journal : List Event) (failed : Bool) (old new : Option Contents) (ReplaceRose : Type 0) (end : Result (Unit {0}) ServeError) : Type 0 where
+pub record IsFinished (source : Source) (setup : Settings) (ledger : LedgerParts) (journal : List Event) (failed : Bool)
+    (old new : Option Contents) (ReplaceRose : Type 0) (end : Result (Unit {0}) ServeError) : Type 0 where
   pub written : Result (Unit {0}) ServeError
   pub writes : WritesBack source setup ledger old new ReplaceRose written
   pub ended : end ≡ run_end written (has_lost journal) failed

@@ -8,7 +8,9 @@ use Rattle.account_file.specs.Setups.{setup_of}
 use Rattle.account_writer.specs.CurrentSetup.{setup_after}
 use Rattle.info_hooks.specs.declared.key.Key.{Key}
 use Rattle.monitor_book.specs.Lines.{LogMatches}
-use Rattle.monitor_run.specs.Headline.{AreFaultless, ConversationsMatch, FaultEndsAreCounted, FaultsAreCounted, IsAnsweredWhole, JournalIsLegal, NoAcceptFailed, RunsToQuota, SessionsInOrder, SomeAcceptFailed}
+use Rattle.monitor_run.specs.Headline.{AreFaultless, ConversationsMatch, FaultEndsAreCounted, FaultsAreCounted}
+use Rattle.monitor_run.specs.Headline.{IsAnsweredWhole, JournalIsLegal, NoAcceptFailed, RunsToQuota, SessionsInOrder}
+use Rattle.monitor_run.specs.Headline.{SomeAcceptFailed}
 use Rattle.outside.specs.declared.faults.Faults.{Faults}
 use Rattle.outside.specs.declared.place.Place.{Place as SitePlace}
 use Rattle.outside.specs.Files.{Contents, MayBeReplaced, Replaced, SameFiles}
@@ -29,7 +31,8 @@ use Rattle.serve_mode.specs.Words.{Named, Plain, Source}
 
 -- where a setup's workers serve: its socket, launcher, vault and number of workers
 abbrev pub setup_place : Settings → SitePlace
-setup_place setup = record { socket = setup.socket; launcher = setup.launcher; vault = setup.vault; workers = setup.workers }
+setup_place setup =
+    record { socket = setup.socket; launcher = setup.launcher; vault = setup.vault; workers = setup.workers }
 
 -- the places where a run listens: the setup's if there are posts, otherwise none
 abbrev pub served_places : {P : Type 0} → Settings → List P → List SitePlace
@@ -48,18 +51,21 @@ is_run_status status = list_any (λ s. s == status) (0 ∷ 7 ∷ 8 ∷ 10 ∷ []
 
 -- the setup file gets the setup after the kept events, or may stay where replacing failed; with a status other than 0,
 -- 7, 8 and 10 no file changes
-pub record AreAccountsWritten (name : List ℕ) (setup : Settings) (status : ℕ) (journal : List Event) (old new : Option Contents) (ReplaceRose : Type 0) : Type 0 where
+pub record AreAccountsWritten (name : List ℕ) (setup : Settings) (status : ℕ) (journal : List Event)
+    (old new : Option Contents) (ReplaceRose : Type 0) : Type 0 where
   pub bytes : List ℕ
   pub spells : is_run_status status ≡ true → setup_of bytes ≡ Ok (entries_of (setup_after setup (kept_events journal)))
   pub written : status ≡ 0 → Goes (Replaced name bytes) old new
-  pub tried : (status ≡ 7) ⊎ (status ≡ 10) → Goes (Replaced name bytes) old new ⊎ (ReplaceRose × Goes (MayBeReplaced name bytes) old new)
+  pub tried : (status ≡ 7) ⊎ (status ≡ 10) → Goes (Replaced name bytes) old new
+      ⊎ (ReplaceRose × Goes (MayBeReplaced name bytes) old new)
   pub failed : status ≡ 8 → ReplaceRose × Goes (MayBeReplaced name bytes) old new
   pub unwritten : is_run_status status ≡ false → Goes SameFiles old new
 
 -- what becomes of the files: the plain setup changes none, a named setup file gets the accounts as the run left them
 abbrev pub AccountsMatch : Source → Settings → ℕ → List Event → Option Contents → Option Contents → Type 0 → Type 0
 AccountsMatch Plain setup status journal old new ReplaceRose = Goes SameFiles old new
-AccountsMatch (Named name log) setup status journal old new ReplaceRose = AreAccountsWritten name setup status journal old new ReplaceRose
+AccountsMatch (Named name log) setup status journal old new ReplaceRose =
+    AreAccountsWritten name setup status journal old new ReplaceRose
 
 -- ---- the statuses and their causes
 
@@ -69,7 +75,8 @@ is_unserved_status status = list_any (λ s. s == status) (3 ∷ 4 ∷ 5 ∷ 6 �
 
 -- an exit status comes only for its cause: 3 for a failed read, 6 listen, 8 replace or 10 accept, 7 for a decision lost
 -- by the log
-pub record ServeHasCause {P : Type 0} (status : ℕ) (journal : List Event) (posts : List P) (scene : P → Option Scene) (faults : P → Faults) (ReadRose ListenRose LogRose ReplaceRose : Type 0) : Type 0 where
+pub record ServeHasCause {P : Type 0} (status : ℕ) (journal : List Event) (posts : List P) (scene : P → Option Scene)
+    (faults : P → Faults) (ReadRose ListenRose LogRose ReplaceRose : Type 0) : Type 0 where
   pub unserved : is_unserved_status status ≡ true → posts ≡ []
   pub begun : is_run_status status ≡ true → posts ≢ []
   pub unbegun : posts ≡ [] → journal ≡ []
@@ -92,7 +99,8 @@ pub record SucceedsWhole {P : Type 0} (setup : Settings) (journal : List Event) 
 -- ---- completeness
 
 -- no fault of reading, replacing, listening, the log, accepts, starts or links was counted
-pub record NoFault {P : Type 0} (ReadRose ReplaceRose ListenRose LogRose : Type 0) (faults : P → Faults) (posts : List P) : Type 0 where
+pub record NoFault {P : Type 0} (ReadRose ReplaceRose ListenRose LogRose : Type 0) (faults : P → Faults)
+    (posts : List P) : Type 0 where
   pub read : ¬ ReadRose
   pub replace : ¬ ReplaceRose
   pub listen : ¬ ListenRose
@@ -101,14 +109,18 @@ pub record NoFault {P : Type 0} (ReadRose ReplaceRose ListenRose LogRose : Type 
 
 -- without a counted fault the status is 0 or 9 (out of memory); at 0 every session ended by its child and got all its
 -- answers
-pub record IsComplete {P : Type 0} (service : Service) (status : ℕ) (journal : List Event) (posts : List P) (scene : P → Option Scene) (NoFaultRose : Type 0) : Type 0 where
+pub record IsComplete {P : Type 0} (service : Service) (status : ℕ) (journal : List Event) (posts : List P)
+    (scene : P → Option Scene) (NoFaultRose : Type 0) : Type 0 where
   pub succeeds : NoFaultRose → (status ≡ 0) ⊎ (status ≡ 9)
   pub answered : NoFaultRose → status ≡ 0 → IsAnsweredWhole service scene journal posts
 
 -- ---- all of it
 
 -- all that is promised of a run by one service: setup, word list and forms
-pub record ServePromises {P : Type 0} (source : Source) (service : Service) (status : ℕ) (journal : List Event) (posts : List P) (scene : P → Option Scene) (faults : P → Faults) (old new : Option Contents) (listens_old listens_new : Option (List SitePlace)) (held_old held_new : Option (List ℕ)) (ReadRose ReplaceRose ListenRose LogRose : Type 0) : Type 0 where
+pub record ServePromises {P : Type 0} (source : Source) (service : Service) (status : ℕ) (journal : List Event)
+    (posts : List P) (scene : P → Option Scene) (faults : P → Faults) (old new : Option Contents)
+    (listens_old listens_new : Option (List SitePlace)) (held_old held_new : Option (List ℕ))
+    (ReadRose ReplaceRose ListenRose LogRose : Type 0) : Type 0 where
   pub legal : JournalIsLegal service.setup journal
   pub sessions : SessionsInOrder service journal
   pub one_each : posts ≢ [] → length posts ≡ service.setup.workers
@@ -122,11 +134,15 @@ pub record ServePromises {P : Type 0} (source : Source) (service : Service) (sta
   pub counted : FaultsAreCounted scene faults posts
   pub success : status ≡ 0 → SucceedsWhole service.setup journal posts scene
   pub accounts : AccountsMatch source service.setup status journal old new ReplaceRose
-  pub complete : IsComplete service status journal posts scene (NoFault ReadRose ReplaceRose ListenRose LogRose faults posts)
+  pub complete : IsComplete service status journal posts scene (NoFault ReadRose ReplaceRose ListenRose LogRose faults
+      posts)
 
 -- what `serve` promises however it ends: its status has a cause; if it served, every promise holds; if not, it didn't
 -- listen, and neither log nor files changed
-pub record ServeEnded {P : Type 0} (source : Source) (forms : List Key) (end : Result (Unit {0}) ServeError) (journal : List Event) (posts : List P) (scene : P → Option Scene) (faults : P → Faults) (old new : Option Contents) (listens_old listens_new : Option (List SitePlace)) (held_old held_new : Option (List ℕ)) (ReadRose ReplaceRose ListenRose LogRose : Type 0) : Type 0 where
+pub record ServeEnded {P : Type 0} (source : Source) (forms : List Key) (end : Result (Unit {0}) ServeError)
+    (journal : List Event) (posts : List P) (scene : P → Option Scene) (faults : P → Faults) (old new : Option Contents)
+    (listens_old listens_new : Option (List SitePlace)) (held_old held_new : Option (List ℕ))
+    (ReadRose ReplaceRose ListenRose LogRose : Type 0) : Type 0 where
   pub causes : ServeHasCause (status_of end) journal posts scene faults ReadRose ListenRose LogRose ReplaceRose
   pub unread : (error : ServiceError) → end ≡ Err (Unread error) → IsUnread source forms new ReadRose error
   pub unfresh : end ≡ Err LogNotFresh → IsUnfresh source forms new
@@ -135,9 +151,13 @@ pub record ServeEnded {P : Type 0} (source : Source) (forms : List Key) (end : R
   -- by the plain setup memory doesn't run out once there are posts
   pub printed : end ≡ Err OutOfMemory → posts ≢ [] → source ≢ Plain
   -- what it served by is the plain setup, or what the files gave
-  pub served : (posts ≡ []) ⊎ ((service : Service) × IsServedBy source forms old new service × ServePromises source service (status_of end) journal posts scene faults old new listens_old listens_new held_old held_new ReadRose ReplaceRose ListenRose LogRose)
+  pub served : (posts ≡ []) ⊎ ((service : Service) × IsServedBy source forms old new service
+      × ServePromises source service (status_of end) journal posts scene faults old new listens_old listens_new held_old
+      held_new ReadRose ReplaceRose ListenRose LogRose)
   -- where the files report before and after, the promises hold of whatever service they give, so of no other
-  pub promises : (service : Service) → tell_throughout source old new ≡ true → IsServedBy source forms old new service → ServePromises source service (status_of end) journal posts scene faults old new listens_old listens_new held_old held_new ReadRose ReplaceRose ListenRose LogRose
+  pub promises : (service : Service) → tell_throughout source old new ≡ true → IsServedBy source forms old new service
+      → ServePromises source service (status_of end) journal posts scene faults old new listens_old listens_new held_old
+      held_new ReadRose ReplaceRose ListenRose LogRose
   pub unlogged : posts ≡ [] → Gains held_old [] held_new
   pub unlistened : posts ≡ [] → Gains listens_old [] listens_new
   pub unchanged : posts ≡ [] → Goes SameFiles old new

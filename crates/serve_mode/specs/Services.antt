@@ -14,7 +14,8 @@ use Rattle.serve_mode.specs.Words.{Named, Plain, Source}
 -- accounts
 abbrev pub plain_entries : SetupEntries
 plain_entries = record {
-  texts = record { socket = codes "otplogd.sock"; launcher = codes "otplogd"; vault = codes "vault"; words = codes "words"; banner = [] };
+  texts = record { socket = codes "otplogd.sock"; launcher = codes "otplogd"; vault = codes "vault";
+      words = codes "words"; banner = [] };
   salt = codes "decoy";
   frames = Narrow;
   counts = record { workers = 1; connections = 1; requests = 64; tries = 3; hold = 30000 };
@@ -29,14 +30,16 @@ HasFreshLog (Some log) files = IsFresh (files log)
 
 -- the files, as they stood before the run, give this service, and the named log was fresh, if the files report before
 -- and after
-pub record IsReadService (name : List ℕ) (log : Option (List ℕ)) (forms : List Key) (old new : Option Contents) (service : Service) : Type 0 where
+pub record IsReadService (name : List ℕ) (log : Option (List ℕ)) (forms : List Key) (old new : Option Contents)
+    (service : Service) : Type 0 where
   pub forms_are : service.forms ≡ forms
   pub read : is_some new ≡ true → IsServiceIn forms old name service.setup service.words
   pub fresh : is_some new ≡ true → IfSome old (HasFreshLog log)
 
 -- what a run served by: the plain setup and the plain word list, or a service that the named files give
 abbrev pub IsServedBy : Source → List Key → Option Contents → Option Contents → Service → Type 0
-IsServedBy Plain forms old new service = (service.forms ≡ forms) × (service.words ≡ plain_words) × (entries_of service.setup ≡ plain_entries)
+IsServedBy Plain forms old new service =
+    (service.forms ≡ forms) × (service.words ≡ plain_words) × (entries_of service.setup ≡ plain_entries)
 IsServedBy (Named name log) forms old new service = IsReadService name log forms old new service
 
 -- the files report before and after the run, if the setup comes from a file
@@ -46,7 +49,8 @@ tell_throughout (Named name log) old new = is_some old && is_some new
 
 -- the files, if they report, give a service, but the named log is missing or isn't fresh
 abbrev pub IsUnfresh : Source → List Key → Option Contents → Type 0
-IsUnfresh (Named name (Some log)) forms contents = IfSome contents (λ files. (is_ok (service_in forms files name) ≡ true) × (IsFresh (files log) → ⊥))
+IsUnfresh (Named name (Some log)) forms contents =
+    IfSome contents (λ files. (is_ok (service_in forms files name) ≡ true) × (IsFresh (files log) → ⊥))
 IsUnfresh _ forms contents = ⊥
 
 -- a run may start: the named files, if they report, give a service, and a named log has no records

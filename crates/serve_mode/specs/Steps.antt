@@ -48,23 +48,30 @@ IsUnready source forms contents ReadFailed errors.OutOfMemory = Unit {0}
 IsUnready source forms contents ReadFailed _ = ⊥
 
 -- out of memory, or the site could not listen; the log stays, and the site listened nowhere
-pub record IsNotServed (error : ServeError) (listens_old listens_new : Option (List SitePlace)) (held_old held_new : Option (List ℕ)) (log_old log_new : ℕ) (ListenRose : Type 0) : Type 0 where
+pub record IsNotServed (error : ServeError) (listens_old listens_new : Option (List SitePlace))
+    (held_old held_new : Option (List ℕ)) (log_old log_new : ℕ) (ListenRose : Type 0) : Type 0 where
   pub why : (error ≡ errors.OutOfMemory) ⊎ ((error ≡ errors.ListenFailed) × ListenRose)
   pub listens : Gains listens_old [] listens_new
   pub log : LogStays held_old held_new log_old log_new
 
 -- what was done to write the accounts that a ledger knows back to where the setup came from
-abbrev pub WritesNamed : List ℕ → Settings → LedgerParts → Option Contents → Option Contents → Type 0 → Result (Unit {0}) ServeError → Type 0
-WritesNamed name setup ledger old new ReplaceRose (Ok done) = (bytes : List ℕ) × IsSetupAfter setup ledger bytes × Goes (Replaced name bytes) old new
+abbrev pub WritesNamed : List ℕ → Settings → LedgerParts → Option Contents → Option Contents → Type 0
+    → Result (Unit {0}) ServeError → Type 0
+WritesNamed name setup ledger old new ReplaceRose (Ok done) =
+    (bytes : List ℕ) × IsSetupAfter setup ledger bytes × Goes (Replaced name bytes) old new
 WritesNamed name setup ledger old new ReplaceRose (Err errors.OutOfMemory) = Goes SameFiles old new
-WritesNamed name setup ledger old new ReplaceRose (Err errors.ReplaceFailed) = (bytes : List ℕ) × IsSetupAfter setup ledger bytes × ReplaceRose × Goes (MayBeReplaced name bytes) old new
+WritesNamed name setup ledger old new ReplaceRose (Err errors.ReplaceFailed) =
+    (bytes : List ℕ) × IsSetupAfter setup ledger bytes × ReplaceRose × Goes (MayBeReplaced name bytes) old new
 WritesNamed name setup ledger old new ReplaceRose (Err error) = ⊥
 
-abbrev pub WritesBack : Source → Settings → LedgerParts → Option Contents → Option Contents → Type 0 → Result (Unit {0}) ServeError → Type 0
+abbrev pub WritesBack : Source → Settings → LedgerParts → Option Contents → Option Contents → Type 0
+    → Result (Unit {0}) ServeError → Type 0
 WritesBack Plain setup ledger old new ReplaceRose written = (written ≡ Ok tt) × Goes SameFiles old new
-WritesBack (Named name log) setup ledger old new ReplaceRose written = WritesNamed name setup ledger old new ReplaceRose written
+WritesBack (Named name log) setup ledger old new ReplaceRose written =
+    WritesNamed name setup ledger old new ReplaceRose written
 
--- how a run ends: the first of these, that the accounts found no memory, that a decision was lost, that an accept failed, and that the accounts were not written
+-- how a run ends: the first of these, that the accounts found no memory, that a decision
+-- was lost, that an accept failed, and that the accounts were not written
 abbrev pub run_end : Result (Unit {0}) ServeError → Bool → Bool → Result (Unit {0}) ServeError
 run_end (Err errors.OutOfMemory) lost failed = Err errors.OutOfMemory
 run_end written true failed = Err errors.LogLost

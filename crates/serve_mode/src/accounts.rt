@@ -48,7 +48,8 @@ pub(crate) fn write_back<F: Files>(
     files: &mut F,
 ) -> Result<(), ServeError>
     requires { core.now.ledger.setup ≡ setup.now }
-    ensures written { WritesBack (source_of command.now) setup.now core.now.ledger (F.contents files.old) (F.contents files.new)
+    ensures written { WritesBack (source_of command.now) setup.now core.now.ledger (F.contents files.old)
+        (F.contents files.new)
         (Rose (F.replace_faults files.old) (F.replace_faults files.new)) result }
     ensures plain { source_of command.now ≡ Plain → files.new ≡ files.old }
     ensures read_faults { F.read_faults files.new ≡ F.read_faults files.old }

@@ -42,10 +42,13 @@ pub(crate) fn make_ready<'a, F: Files, I: Information>(
     files: &mut F,
     information: &'a I,
 ) -> Result<House<'a, I>, ServeError>
-    ensures read { IfOk result (λ house. IsReadFrom (source_of command.now) (I.forms information.now) (F.contents files.new) house.setup house.dictionary) }
-    ensures fresh { IfOk result (λ house. IfSome (F.contents files.new) (HasFreshLog (log_of (source_of command.now)))) }
+    ensures read { IfOk result (λ house. IsReadFrom (source_of command.now) (I.forms information.now)
+        (F.contents files.new) house.setup house.dictionary) }
+    ensures
+        fresh { IfOk result (λ house. IfSome (F.contents files.new) (HasFreshLog (log_of (source_of command.now)))) }
     ensures information { IfOk result (λ house. house.information.now ≡ information.now) }
-    ensures error { (error : ServeError) → result ≡ Err error → IsUnready (source_of command.now) (I.forms information.now) (F.contents files.new)
+    ensures error { (error : ServeError) → result ≡ Err error → IsUnready (source_of command.now)
+        (I.forms information.now) (F.contents files.new)
         (Rose (F.read_faults files.old) (F.read_faults files.new)) error }
     ensures plain { source_of command.now ≡ Plain → files.new ≡ files.old }
     ensures kept { Goes SameFiles (F.contents files.old) (F.contents files.new) }
@@ -64,7 +67,8 @@ fn check_log<F: Files>(
     files: &mut F,
 ) -> Result<(), ServeError>
     ensures fresh { OnOk result (IfSome (F.contents files.new) (HasFreshLog (log_of (source_of command.now)))) }
-    ensures error { (error : ServeError) → result ≡ Err error → IsLogRefused (log_of (source_of command.now)) (F.contents files.new)
+    ensures error { (error : ServeError) → result ≡ Err error → IsLogRefused (log_of (source_of command.now))
+        (F.contents files.new)
         (Rose (F.read_faults files.old) (F.read_faults files.new)) error }
     ensures plain { source_of command.now ≡ Plain → files.new ≡ files.old }
     ensures kept { Goes SameFiles (F.contents files.old) (F.contents files.new) }
@@ -95,9 +99,11 @@ fn read_house<'a, F: Files, I: Information>(
     files: &mut F,
     information: &'a I,
 ) -> Result<House<'a, I>, ServiceError>
-    ensures read { IfOk result (λ house. IsReadFrom (source_of command.now) (I.forms information.now) (F.contents files.new) house.setup house.dictionary) }
+    ensures read { IfOk result (λ house. IsReadFrom (source_of command.now) (I.forms information.now)
+        (F.contents files.new) house.setup house.dictionary) }
     ensures information { IfOk result (λ house. house.information.now ≡ information.now) }
-    ensures error { (error : ServiceError) → result ≡ Err error → IsUnread (source_of command.now) (I.forms information.now) (F.contents files.new)
+    ensures error { (error : ServiceError) → result ≡ Err error → IsUnread (source_of command.now)
+        (I.forms information.now) (F.contents files.new)
         (Rose (F.read_faults files.old) (F.read_faults files.new)) error }
     ensures plain { source_of command.now ≡ Plain → files.new ≡ files.old }
     ensures kept { Goes SameFiles (F.contents files.old) (F.contents files.new) }

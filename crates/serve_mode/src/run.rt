@@ -73,7 +73,8 @@ fn finish<F: Files, P, K>(
 ) -> Served<P, K>
     requires { ran.core.ledger.setup ≡ setup.now }
     ensures finished { IsFinished (source_of command.now) setup.now ran.core.ledger ran.journal.items ran.accept_failed
-        (F.contents files.old) (F.contents files.new) (Rose (F.replace_faults files.old) (F.replace_faults files.new)) result.end }
+        (F.contents files.old) (F.contents files.new) (Rose (F.replace_faults files.old) (F.replace_faults files.new))
+        result.end }
     ensures journal { result.journal ≡ ran.journal }
     ensures log { result.log ≡ ran.log }
     ensures posts { result.posts ≡ ran.posts }
@@ -104,7 +105,8 @@ fn finish<F: Files, P, K>(
 /// The log that is handed in is what is written. Whoever names a durable log hands in the one over that
 /// file.
 ///
-/// The end is the first of these errors: of the setup, of the word list, of the durable log, of memory, of the listening,
+/// The end is the first of these errors: of the setup, of the word
+/// list, of the durable log, of memory, of the listening,
 /// of the memory for the accounts, of the log, of an accept, of the replacing.
 pub fn run_serve<F: Files, S: Site, K: Sink, I: Information + Sync, R: Threads + Wait + Sync>(
     rt: &R,
@@ -115,10 +117,15 @@ pub fn run_serve<F: Files, S: Site, K: Sink, I: Information + Sync, R: Threads +
     log: K,
     information: &I,
 ) -> Served<S::Post, K>
-    ensures ended { ServeEnded (source_of command.now) (I.forms information.now) result.end result.journal.items result.posts.items S.Post.scene S.Post.faults
-        (F.contents files.old) (F.contents files.new) (S.listens site.old) (S.listens site.new) (K.held log) (K.held result.log)
-        (Rose (F.read_faults files.old) (F.read_faults files.new)) (Rose (F.replace_faults files.old) (F.replace_faults files.new)) (Rose (S.listen_faults site.old) (S.listen_faults site.new)) (Rose (K.faults log) (K.faults result.log)) }
-    ensures log { result.posts.items ≡ [] → LogStays (K.held log) (K.held result.log) (K.faults log) (K.faults result.log) }
+    ensures ended { ServeEnded (source_of command.now) (I.forms information.now) result.end result.journal.items
+        result.posts.items S.Post.scene S.Post.faults
+        (F.contents files.old) (F.contents files.new) (S.listens site.old) (S.listens site.new) (K.held log)
+        (K.held result.log)
+        (Rose (F.read_faults files.old) (F.read_faults files.new))
+        (Rose (F.replace_faults files.old) (F.replace_faults files.new))
+        (Rose (S.listen_faults site.old) (S.listen_faults site.new)) (Rose (K.faults log) (K.faults result.log)) }
+    ensures log { result.posts.items ≡ [] → LogStays (K.held log) (K.held result.log) (K.faults log)
+        (K.faults result.log) }
     ensures logged { has_lost result.journal.items ≡ false → K.faults result.log ≡ K.faults log }
     ensures plain { source_of command.now ≡ Plain → files.new ≡ files.old }
 {

@@ -43,12 +43,18 @@ pub(crate) fn serve<I: Information + Sync, S: Site, K: Sink, R: Threads + Wait +
     site: &mut S,
     log: K,
 ) -> Result<Ran<S::Post, K>, (ServeError, K)>
-    ensures promises { IfOk result (λ ran. RunPromises (service_by house.now.setup house.now.dictionary (I.forms house.now.information.now)) ran.accept_failed ran.journal.items ran.posts.items S.Post.scene S.Post.faults (K.held log) (K.held ran.log) (K.faults log) (K.faults ran.log)) }
+    ensures
+        promises { IfOk result
+        (λ ran. RunPromises (service_by house.now.setup house.now.dictionary (I.forms house.now.information.now))
+        ran.accept_failed ran.journal.items ran.posts.items S.Post.scene S.Post.faults (K.held log) (K.held ran.log)
+        (K.faults log) (K.faults ran.log)) }
     ensures some { IfOk result (λ _. 1 ≤ house.now.setup.workers) }
     ensures setup { IfOk result (λ ran. ran.core.ledger.setup ≡ house.now.setup) }
     ensures ledger { IfOk result (λ ran. StandsFor ran.core.ledger (kept_events ran.journal.items)) }
-    ensures listens { IfOk result (λ ran. Gains (S.listens site.old) (setup_place house.now.setup ∷ []) (S.listens site.new)) }
-    ensures error { IfErr result (λ e. IsNotServed e.0 (S.listens site.old) (S.listens site.new) (K.held log) (K.held e.1) (K.faults log) (K.faults e.1)
+    ensures listens { IfOk result (λ ran. Gains (S.listens site.old) (setup_place house.now.setup ∷ [])
+        (S.listens site.new)) }
+    ensures error { IfErr result (λ e. IsNotServed e.0 (S.listens site.old) (S.listens site.new) (K.held log)
+        (K.held e.1) (K.faults log) (K.faults e.1)
         (Rose (S.listen_faults site.old) (S.listen_faults site.new))) }
 {
     let Ok(place) = place_of(alloc, &house.setup) else {

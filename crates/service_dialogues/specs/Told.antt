@@ -9,4 +9,5 @@ sent_to talk = talk.sent
 
 -- what a session's children are told, the one before the login first; the user's is none where it says nothing
 abbrev pub told_in : Dialogue → List (List ℕ)
-told_in dialogue = dialogue.pre.told.items ∷ (if length dialogue.user.says.items == 0 then [] else dialogue.user.told.items ∷ [])
+told_in dialogue =
+    dialogue.pre.told.items ∷ (if length dialogue.user.says.items == 0 then [] else dialogue.user.told.items ∷ [])

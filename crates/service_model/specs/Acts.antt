@@ -56,7 +56,8 @@ written_by _ = []
 
 -- the bytes that a WRITE's message has to write
 abbrev pub written_bytes : Width → Option Message → List ℕ
-written_bytes width message = option_map_or (λ m. written_by (request_of width m.header.kind m.header.flags m.body)) message []
+written_bytes width message =
+    option_map_or (λ m. written_by (request_of width m.header.kind m.header.flags m.body)) message []
 
 -- an opening: a connection came and a child is started, or, if it was lost, the connection is closed
 abbrev pub opening_operations : ℕ → Decision → List Operation
@@ -89,9 +90,13 @@ export_operations session user = Finishes (Pre session) ∷ Starts user ∷ []
 abbrev pub operations_by : Settings → Place → Ask → Option Message → List Operation
 operations_by setup p asks.Begin message = opening_operations p.event.session p.event.decision
 operations_by setup p (asks.Challenge user now) message = ReadsClock now ∷ []
-operations_by setup p (asks.Export len) message = if is_permit p.event.decision then export_operations p.event.session (user_role setup p) else []
-operations_by setup p (asks.ReadAt handle offset max) message = if is_permit p.event.decision then read_operations handle (file_at setup p handle) offset max else []
-operations_by setup p (asks.WriteAt handle offset len) message = if is_permit p.event.decision then write_operations handle (file_at setup p handle) offset (written_bytes setup.frames message) else []
+operations_by setup p (asks.Export len) message =
+    if is_permit p.event.decision then export_operations p.event.session (user_role setup p) else []
+operations_by setup p (asks.ReadAt handle offset max) message =
+    if is_permit p.event.decision then read_operations handle (file_at setup p handle) offset max else []
+operations_by setup p (asks.WriteAt handle offset len) message =
+    if is_permit p.event.decision then write_operations handle (file_at setup p handle) offset
+        (written_bytes setup.frames message) else []
 operations_by setup p _ message = []
 
 -- the operations that an opening or a request calls for

@@ -36,22 +36,26 @@ abbrev pub name_of_opening : Option Event → Option Label
 name_of_opening opening = option_and_then (λ e. label_named e.ask) opening
 
 abbrev pub file_of : Option Account → Option Label → Option File
-file_of user name = option_and_then (λ account. option_map (λ label. record { uid = account.uid; name = label }) name) user
+file_of user name =
+    option_and_then (λ account. option_map (λ label. record { uid = account.uid; name = label }) name) user
 
 abbrev pub if_permitted : Decision → List Operation → List Operation
 if_permitted decision operations = if is_permit decision then operations else []
 
 abbrev pub account_challenge_text : Option Account → ℕ → List ℕ
-account_challenge_text user number = option_map_or (λ account. challenge_of account.algo number (seed_bytes account.seed)) user []
+account_challenge_text user number =
+    option_map_or (λ account. challenge_of account.algo number (seed_bytes account.seed)) user []
 
 abbrev pub imported_state : Option Account → List ℕ → List ℕ
-imported_state user exported = option_map_or (λ account. import_bytes account.uid (name_bytes account.name) exported) user []
+imported_state user exported =
+    option_map_or (λ account. import_bytes account.uid (name_bytes account.name) exported) user []
 
 abbrev pub outcome_value : Option ℕ → List ℕ → AnswerValue
 outcome_value failed body = option_map_or Device failed (Done body)
 
 abbrev pub reply_bytes : Width → Message → ℕ → Option AnswerValue → List ℕ
-reply_bytes width message session value = option_map_or (λ answer. spelling_of width (reply_message message session answer)) value []
+reply_bytes width message session value =
+    option_map_or (λ answer. spelling_of width (reply_message message session answer)) value []
 
 abbrev pub message_bytes : Width → Option Message → List ℕ
 message_bytes width message = option_map_or (spelling_of width) message []

@@ -1,5 +1,6 @@
 -- Believed: what one child had of a session.
-use Rattle.std.specs.Prelude.{◌≡◌, ◌≢◌, ℕ, true, false, List, [], ◌++◌, take, Option, Some, None, IsSomeAnd, option_and_then, option_to_list}
+use Rattle.std.specs.Prelude.{◌≡◌, ◌≢◌, ℕ, true, false, List, [], ◌++◌, take, Option, Some, None, IsSomeAnd}
+use Rattle.std.specs.Prelude.{option_and_then, option_to_list}
 use Rattle.std.specs.List.{AllByRecursion, flat_map}
 use Rattle.std.specs.Option.{option_map_or}
 use Rattle.imsg_frame.specs.Message.{spelling_of}
@@ -74,7 +75,8 @@ abbrev pub EndsSo : Width → PartEnd → Option Step → List ℕ → List ℕ 
 EndsSo width HandsOver None rest unread = ⊥
 EndsSo width HandsOver (Some step) rest unread = exports step.place.event ≡ true
 EndsSo width (EndsSession why) None rest unread = EndsAlone width why rest unread
-EndsSo width (EndsSession why) (Some step) rest unread = (ends_session step.place.event ≡ true) × (why ≡ why_of step.place.event.decision)
+EndsSo width (EndsSession why) (Some step) rest unread =
+    (ends_session step.place.event ≡ true) × (why ≡ why_of step.place.event.decision)
 
 -- the last answer was sent whole; if the link failed, at most a first part of it
 pub record LastSent (end : PartEnd) (whole sent : List ℕ) : Type 0 where
@@ -86,7 +88,8 @@ pub record IsPart (service : Service) (exported : List ℕ) (end : PartEnd) (par
   pub each : AllByRecursion (IsRequestStep service) (requests_of part)
   pub on : AllByRecursion GoesOn part.served
   pub taken : part.taken ≡ step_bytes service.setup.frames (requests_of part) ++ part.rest
-  pub sent : (last : List ℕ) × (part.sent ≡ answers service exported part.served ++ last) × LastSent end (answers service exported (option_to_list part.final)) last
+  pub sent : (last : List ℕ) × (part.sent ≡ answers service exported part.served ++ last)
+      × LastSent end (answers service exported (option_to_list part.final)) last
   pub ended : end ≢ EndsSession whys.LinkFault → EndsSo service.setup.frames end part.final part.rest part.unread
 
 -- the operations done for the request that ended a part

@@ -18,14 +18,17 @@ use Rattle.service_model.specs.Service.{Service}
 -- the ask that a request makes: a CHALLENGE at some moment, a REPLY with the readings of its text
 abbrev pub Asks : List (List ℕ) → RequestValue → Ask → Type 0
 Asks words requests.Banner ask = ask ≡ asks.Banner
-Asks words (requests.Challenge user) ask = (name : Name) × (now : ℕ) × (name_bytes name ≡ user) × (ask ≡ asks.Challenge name now)
-Asks words (requests.Reply text) ask = (spelled : Option ℕ) × (hex : Option ℕ) × AreCandidatesOf words text spelled hex × (ask ≡ asks.Reply spelled hex)
+Asks words (requests.Challenge user) ask =
+    (name : Name) × (now : ℕ) × (name_bytes name ≡ user) × (ask ≡ asks.Challenge name now)
+Asks words (requests.Reply text) ask =
+    (spelled : Option ℕ) × (hex : Option ℕ) × AreCandidatesOf words text spelled hex × (ask ≡ asks.Reply spelled hex)
 Asks words requests.Abandon ask = ask ≡ asks.Abandon
 Asks words (requests.Export state) ask = ask ≡ asks.Export (length state)
 Asks words requests.Import ask = ask ≡ asks.Import
 Asks words (requests.ReadAt handle offset max) ask = ask ≡ asks.ReadAt handle offset max
 Asks words (requests.WriteAt handle offset bytes) ask = ask ≡ asks.WriteAt handle offset (length bytes)
-Asks words (requests.OpenFile mode bytes) ask = (name : Label) × (label_bytes name ≡ bytes) × (ask ≡ asks.OpenFile mode name)
+Asks words (requests.OpenFile mode bytes) ask =
+    (name : Label) × (label_bytes name ≡ bytes) × (ask ≡ asks.OpenFile mode name)
 Asks words (requests.CloseFile handle) ask = ask ≡ asks.CloseFile handle
 Asks words (requests.Info number) ask = ask ≡ asks.Info number
 Asks words (requests.Note bytes) ask = (text : Note) × (note_bytes text ≡ bytes) × (ask ≡ asks.Note text)
@@ -33,7 +36,9 @@ Asks words requests.Finish ask = ask ≡ asks.Finish
 
 -- the ask of a message: that of the request that it is, or the rule that it breaks
 abbrev pub IsAskOf : Width → List (List ℕ) → Message → Ask → Type 0
-IsAskOf width words message ask = MatchResult (request_of width message.header.kind message.header.flags message.body) (λ value. Asks words value ask) (λ bad. ask ≡ asks.Bad bad.rule bad.detail)
+IsAskOf width words message ask =
+    MatchResult (request_of width message.header.kind message.header.flags message.body) (λ value. Asks words value ask)
+        (λ bad. ask ≡ asks.Bad bad.rule bad.detail)
 
 -- this is the ask that a child makes by this message, a whole frame
 pub record CameBy (service : Service) (message : Message) (ask : Ask) : Type 0 where

@@ -1,6 +1,7 @@
 -- Believed: one session of a worker, and all of them. A session whose end is itself lost ends for its own reason: its
 -- worker accepts once more, and then that opening is lost.
-use Rattle.std.specs.Prelude.{◌≡◌, ◌≢◌, ℕ, Bool, true, false, List, [], ◌∷◌, ◌++◌, map, Option, Some, None, IsSomeAnd, option_to_list}
+use Rattle.std.specs.Prelude.{◌≡◌, ◌≢◌, ℕ, Bool, true, false, List, [], ◌∷◌, ◌++◌, map, Option, Some, None, IsSomeAnd}
+use Rattle.std.specs.Prelude.{option_to_list}
 use Rattle.std.specs.List.{AllByRecursion, flat_map, list_any}
 use Rattle.std.specs.Option.{option_map_or}
 use Rattle.outside.specs.declared.act.Role.{Role}
@@ -32,7 +33,8 @@ all_steps sitting = sitting.opening ∷ flat_map requests_of sitting.parts ++ op
 
 -- no second child was served: the first ended the session, or the user's child could not be started
 abbrev pub EndsFirst : Service → Why → Part → Type 0
-EndsFirst service whys.KeeperFault pre = IsPart service [] HandsOver pre × (list_any is_failed_start (final_acts pre.final) ≡ true)
+EndsFirst service whys.KeeperFault pre =
+    IsPart service [] HandsOver pre × (list_any is_failed_start (final_acts pre.final) ≡ true)
 EndsFirst service why pre = IsPart service [] (EndsSession why) pre
 
 -- the first child handed over to the child of the user who logged in, and that one ended the session
@@ -47,8 +49,12 @@ pub record ChangesUser (service : Service) (why : Why) (pre user : Part) : Type 
 -- started
 abbrev pub AreParts : Service → Why → Step → List Part → Type 0
 AreParts service why opening [] = (list_any is_failed_start opening.acts ≡ true) × (why ≡ whys.KeeperFault)
-AreParts service why opening (pre ∷ []) = (list_any is_failed_start opening.acts ≡ false) × (pre.role ≡ Pre opening.place.event.session) × EndsFirst service why pre
-AreParts service why opening (pre ∷ user ∷ []) = (list_any is_failed_start opening.acts ≡ false) × (pre.role ≡ Pre opening.place.event.session) × ChangesUser service why pre user
+AreParts service why opening (pre ∷ []) =
+    (list_any is_failed_start opening.acts ≡ false) × (pre.role ≡ Pre opening.place.event.session)
+    × EndsFirst service why pre
+AreParts service why opening (pre ∷ user ∷ []) =
+    (list_any is_failed_start opening.acts ≡ false) × (pre.role ≡ Pre opening.place.event.session)
+    × ChangesUser service why pre user
 AreParts service why opening (pre ∷ user ∷ other ∷ parts) = ⊥
 
 -- the last child of a session, which is live at its end
@@ -72,7 +78,10 @@ pub record IsEnding (session : ℕ) (live : Role) (why : Why) (step : Step) : Ty
 -- what follows an opening: nothing if it was lost, otherwise the session's children and its end
 abbrev pub Follows : Service → Step → List Part → Option Step → Type 0
 Follows service opening parts None = (is_lost opening.place.event.decision ≡ true) × (parts ≡ [])
-Follows service opening parts (Some ending) = (is_permit opening.place.event.decision ≡ true) × ((why : Why) × IsEnding opening.place.event.session (live_role (Pre opening.place.event.session) parts) why ending × AreParts service why opening parts)
+Follows service opening parts (Some ending) =
+    (is_permit opening.place.event.decision ≡ true)
+    × ((why : Why) × IsEnding opening.place.event.session (live_role (Pre opening.place.event.session) parts) why ending
+    × AreParts service why opening parts)
 
 -- one whole session of a worker, from its opening to its end
 pub record IsSitting (service : Service) (sitting : Sitting) : Type 0 where
@@ -90,7 +99,8 @@ NoneBehindLoss (sitting ∷ behind) = (ends_worker sitting ≡ true → behind �
 
 -- these sessions, one after the other, are all of a worker's events; one whose opening was lost, or that ended by a
 -- loss, is the last
-pub record AreSittingsOf (service : Service) (journal : List Event) (worker : ℕ) (sittings : List Sitting) : Type 0 where
+pub record AreSittingsOf (service : Service) (journal : List Event) (worker : ℕ)
+    (sittings : List Sitting) : Type 0 where
   pub places : worker_places journal worker ≡ step_places (flat_map all_steps sittings)
   pub each : AllByRecursion (IsSitting service) sittings
   pub alone : NoneBehindLoss sittings
@@ -99,4 +109,5 @@ pub record AreSittingsOf (service : Service) (journal : List Event) (worker : �
 -- before
 abbrev pub AreAnswered : Service → List ℕ → List Part → Type 0
 AreAnswered service exported [] = Unit {0}
-AreAnswered service exported (part ∷ parts) = (part.sent ≡ answers service exported (requests_of part)) × AreAnswered service (exported_by part.final) parts
+AreAnswered service exported (part ∷ parts) =
+    (part.sent ≡ answers service exported (requests_of part)) × AreAnswered service (exported_by part.final) parts

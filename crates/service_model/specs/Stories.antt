@@ -38,7 +38,8 @@ talk_of part = record { role = part.role; taken = part.taken; sent = part.sent }
 
 -- all that a session's children sent, taken or left unread, is what the plan has for the connection with this number
 abbrev pub IsPlanned : List (List ℕ × List ℕ) → ℕ → Sitting → Type 0
-IsPlanned plan number sitting = AllByRecursion (λ part. part.taken ++ part.unread ≡ bytes_at part.role plan number) sitting.parts
+IsPlanned plan number sitting =
+    AllByRecursion (λ part. part.taken ++ part.unread ≡ bytes_at part.role plan number) sitting.parts
 
 -- each of these sessions has what the plan has for its connection, in order
 abbrev pub ArePlanned : List (List ℕ × List ℕ) → ℕ → List Sitting → Type 0

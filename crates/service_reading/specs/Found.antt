@@ -43,4 +43,5 @@ service_in forms files name = do
 
 -- the named file spells this setup, and the word list that it names has these words, if the files report
 abbrev pub IsServiceIn : List Key → Option Contents → List ℕ → Settings → List (List ℕ) → Type 0
-IsServiceIn forms contents name setup words = IfSome contents (λ files. service_in forms files name ≡ Ok (record { entries = entries_of setup; words = words }))
+IsServiceIn forms contents name setup words =
+    IfSome contents (λ files. service_in forms files name ≡ Ok (record { entries = entries_of setup; words = words }))

@@ -38,8 +38,10 @@ pub fn read_service<F: Files, I: Information>(
     name: &str,
     information: &I,
 ) -> Result<ServiceParts, ServiceError>
-    ensures service { IfOk result (λ parts. IsServiceIn (I.forms information.now) (F.contents files.new) name.now parts.setup parts.dictionary) }
-    ensures error { (error : ServiceError) → result ≡ Err error → IsServiceError (I.forms information.now) (F.contents files.new)
+    ensures service { IfOk result (λ parts. IsServiceIn (I.forms information.now) (F.contents files.new) name.now
+        parts.setup parts.dictionary) }
+    ensures error { (error : ServiceError) → result ≡ Err error → IsServiceError (I.forms information.now)
+        (F.contents files.new)
         name.now (Rose (F.read_faults files.old) (F.read_faults files.new)) error }
     ensures kept { Goes SameFiles (F.contents files.old) (F.contents files.new) }
     ensures read_faults { F.read_faults files.old ≤ F.read_faults files.new }

@@ -34,7 +34,8 @@ state_by _ = []
 
 -- the ask of a REPLY with this text
 abbrev pub IsReplyOf : List (List ℕ) → List ℕ → Ask → Type 0
-IsReplyOf words text ask = (spelled : Option ℕ) × (hex : Option ℕ) × AreCandidatesOf words text spelled hex × (ask ≡ asks.Reply spelled hex)
+IsReplyOf words text ask =
+    (spelled : Option ℕ) × (hex : Option ℕ) × AreCandidatesOf words text spelled hex × (ask ≡ asks.Reply spelled hex)
 
 -- a READ asks for some bytes, and for no more than one request transfers
 abbrev pub FitsPiece : Width → Ask → Type 0

@@ -1,5 +1,6 @@
 -- Inner: what is known of a session while its child is served.
-use Rattle.std.specs.Prelude.{◌≡◌, ℕ, ◌+◌, ◌≤◌, ◌<◌, ◌==◌, ◌&&◌, true, List, Option, Some, None, is_some, slice_get, if◌then◌else◌}
+use Rattle.std.specs.Prelude.{◌≡◌, ℕ, ◌+◌, ◌≤◌, ◌<◌, ◌==◌, ◌&&◌, true, List, Option, Some, None, is_some, slice_get}
+use Rattle.std.specs.Prelude.{if◌then◌else◌}
 use Rattle.service_model.specs.Users.{File}
 use Rattle.service_model.specs.Cases.{file_of, name_of_opening}
 use Rattle.request_catalogue.specs.declared.texts.Label.{Label}
@@ -36,7 +37,8 @@ file_in setup user handle = file_of (account_in setup user) (names_in user handl
 
 -- the name at a handle after an event: the one that it opens, none where it closes the handle, and else the one before
 abbrev pub name_after : Event → Option Label → ℕ → Option Label
-name_after e before handle = if opens_file e && handle_of e == handle then label_named e.ask else (if closes_file handle e then None else before)
+name_after e before handle =
+    if opens_file e && handle_of e == handle then label_named e.ask else (if closes_file handle e then None else before)
 
 -- an event of a user's session was noted
 pub record NotesFiles (e : Event) (old new : Option LoggedIn) : Type 0 where
@@ -50,8 +52,10 @@ pub record Knows (setup : Settings) (journal : List Event) (session : ℕ) (user
   pub account : is_some user ≡ true → account_named setup (verified_user journal session) ≡ account_in setup user
   pub files : (handle : ℕ) → name_of_opening (handle_opening journal session handle) ≡ names_in user handle
 
--- a session is served: it is open, what is known of it is so, and its worker has asks left for all that it may still ask and its end
-pub record IsServed (setup : Settings) (rights : Rights) (seen : List Event) (session : ℕ) (user : Option LoggedIn) : Type 0 where
+-- a session is served: it is open, what is known of it is so, and its
+-- worker has asks left for all that it may still ask and its end
+pub record IsServed (setup : Settings) (rights : Rights) (seen : List Event) (session : ℕ)
+    (user : Option LoggedIn) : Type 0 where
   pub serving : IsServing setup seen rights.worker session
   pub known : Knows setup seen session user
   pub left : setup.requests + 2 ≤ rights.left + ask_count seen session

@@ -41,7 +41,8 @@ pub record Whose : Type 0 where
   pub worker : ℕ
 
 abbrev pub whose : Service → List ℕ → ℕ → ℕ → Whose
-whose service exported session worker = record { service = service; exported = exported; session = session; worker = worker }
+whose service exported session worker =
+    record { service = service; exported = exported; session = session; worker = worker }
 
 -- the places that a worker gained
 pub record Steps (worker : ℕ) (steps : List Step) (old new : List Event) : Type 0 where
@@ -50,7 +51,9 @@ pub record Steps (worker : ℕ) (steps : List Step) (old new : List Event) : Typ
 -- what a child was sent for its request, by why its session ends after it, if it does
 abbrev pub Answers : Service → List ℕ → Turn → Step → List ℕ → Type 0
 Answers service exported turns.GoesOn step sent = GoesOn step × (sent ≡ answer_to service exported step)
-Answers service exported (turns.Ends why) step sent = LastSent (EndsSession why) (answer_to service exported step) sent × (EndsSession why ≢ by_link → EndsSo service.setup.frames (EndsSession why) (Some step) [] [])
+Answers service exported (turns.Ends why) step sent =
+    LastSent (EndsSession why) (answer_to service exported step) sent
+    × (EndsSession why ≢ by_link → EndsSo service.setup.frames (EndsSession why) (Some step) [] [])
 Answers service exported (turns.HandsOver e) step sent = ⊥
 
 -- a message was served: one step of the worker
@@ -70,7 +73,8 @@ pub record HasExported (w : Whose) (message : Message) (e : Event) (before after
   pub exported : exports e ≡ true
   pub came : CameBy w.service message e.ask
   pub session_is : e.session ≡ w.session
-  pub steps : Steps w.worker (record { place = place_of front e; message = Some message; acts = [] } ∷ []) before.seen after.seen
+  pub steps : Steps w.worker (record { place = place_of front e; message = Some message; acts = [] } ∷ []) before.seen
+      after.seen
   pub acts : Goes (Played [] [] []) before.scene after.scene
   pub bytes : Goes (Exchanged [] []) before.link after.link
   pub named : NamesAccount w.service.setup e
@@ -82,7 +86,8 @@ Serves w message (turns.HandsOver e) before after = HasExported w message e befo
 Serves w message turn before after = HasServed w message turn before after
 
 -- a session that goes on has made one ask more, and is served on
-pub record WentOn (setup : Settings) (session : ℕ) (rights_old : Rights) (old : List Event) (rights_new : Rights) (new : List Event) (user : Option LoggedIn) : Type 0 where
+pub record WentOn (setup : Settings) (session : ℕ) (rights_old : Rights) (old : List Event) (rights_new : Rights)
+    (new : List Event) (user : Option LoggedIn) : Type 0 where
   pub served : IsServed setup rights_new new session user
   pub asks : ask_count new session ≡ ask_count old session + 1
 
@@ -92,15 +97,19 @@ pub record IsNewUser (user : LoggedIn) (e : Event) : Type 0 where
   pub files : (handle : ℕ) → name_in user.files.names handle ≡ None
 
 -- a session whose user's child is next has made one ask more, and that child may be served
-pub record HandsWith (setup : Settings) (session : ℕ) (old : List Event) (rights_new : Rights) (new : List Event) (e : Event) : Type 0 where
+pub record HandsWith (setup : Settings) (session : ℕ) (old : List Event) (rights_new : Rights) (new : List Event)
+    (e : Event) : Type 0 where
   pub served : (logged_in : LoggedIn) → IsNewUser logged_in e → IsServed setup rights_new new session (Some logged_in)
   pub asks : ask_count new session ≡ ask_count old session + 1
 
--- what is left to a worker after a message: a session that goes on, that is still to be ended, or whose user's child is next
+-- what is left to a worker after a message: a session that goes on,
+-- that is still to be ended, or whose user's child is next
 abbrev pub Leaves : Settings → ℕ → Turn → Rights → List Event → Rights → List Event → Option LoggedIn → Type 0
-Leaves setup session turns.GoesOn rights_old old rights_new new user = WentOn setup session rights_old old rights_new new user
+Leaves setup session turns.GoesOn rights_old old rights_new new user =
+    WentOn setup session rights_old old rights_new new user
 Leaves setup session (turns.Ends why) rights_old old rights_new new user = IsStillOpen setup rights_new new session
-Leaves setup session (turns.HandsOver e) rights_old old rights_new new user = HandsWith setup session old rights_new new e
+Leaves setup session (turns.HandsOver e) rights_old old rights_new new user =
+    HandsWith setup session old rights_new new e
 
 -- what is kept of what a session exported: a permitted EXPORT hands on its message's body, and nothing else changes it
 pub record HasReplied (turn : Turn) (body : List ℕ) (old new : List ℕ) : Type 0 where

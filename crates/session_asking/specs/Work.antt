@@ -11,7 +11,8 @@ use Rattle.policy_model.specs.declared.event.Ask.{Ask}
 use Rattle.policy_model.specs.declared.event.Ask.TheVariants as asks
 use Rattle.policy_model.specs.declared.event.Decision.{Decision}
 use Rattle.policy_model.specs.declared.event.Decision.TheVariants as decisions
-use Rattle.service_model.specs.Acts.{Operation, ReadsFile, Receives, Sends, WritesFile, bytes_read, failed_device, operation_of, read_operations, write_operations}
+use Rattle.service_model.specs.Acts.{Operation, ReadsFile, Receives, Sends, WritesFile, bytes_read, failed_device}
+use Rattle.service_model.specs.Acts.{operation_of, read_operations, write_operations}
 use Rattle.service_model.specs.Cases.{if_permitted, imported_state, outcome_value}
 use Rattle.service_model.specs.Answers.{challenge_text, info_text}
 use Rattle.service_model.specs.Service.{Service}
@@ -23,8 +24,10 @@ use Rattle.session_asking.specs.declared.work.Work.TheVariants as works
 
 -- the operations of an ask after its decision, by the files of its session and the bytes to write
 abbrev pub done_operations : Ask → Decision → (ℕ → Option File) → List ℕ → List Operation
-done_operations (asks.ReadAt handle offset max) decision file bytes = if_permitted decision (read_operations handle (file handle) offset max)
-done_operations (asks.WriteAt handle offset len) decision file bytes = if_permitted decision (write_operations handle (file handle) offset bytes)
+done_operations (asks.ReadAt handle offset max) decision file bytes =
+    if_permitted decision (read_operations handle (file handle) offset max)
+done_operations (asks.WriteAt handle offset len) decision file bytes =
+    if_permitted decision (write_operations handle (file handle) offset bytes)
 done_operations _ decision file bytes = []
 
 abbrev pub work_operations : Work → List Operation
@@ -50,10 +53,12 @@ Fits (outcomes.Done len) room = len ≤ room
 Fits (outcomes.Failed device) room = (1 ≤ device) × (device ≤ 2)
 
 -- these operations were done, and this came of them
-pub record Does (operations : List Operation) (outcome : Outcome) (piece : List ℕ) (before after : Option Scene) : Type 0 where
+pub record Does (operations : List Operation) (outcome : Outcome) (piece : List ℕ)
+    (before after : Option Scene) : Type 0 where
   pub acts : List Act
   pub are : map operation_of acts ≡ operations
-  pub comes : outcome_value (slice_get (filter_map failed_device acts) 0) (flat_map bytes_read acts) ≡ told outcome piece
+  pub comes : outcome_value (slice_get (filter_map failed_device acts) 0) (flat_map bytes_read acts)
+      ≡ told outcome piece
   pub played : Goes (Played acts [] []) before after
 
 -- what is told of a permitted ask of a user with this account, where its operation came to this

@@ -8,7 +8,8 @@ ghost use Rattle.policy_model.specs.Asks.{came_by_frame, exports, is_proper};
 ghost use Rattle.request_catalogue.specs.Catalogue.{IsInRange, value_of};
 ghost use Rattle.service_model.specs.Acts.{written_by};
 ghost use Rattle.service_model.specs.Requests.{Asks};
-ghost use Rattle.session_asking.specs.Asking.{FitsPiece, IsReplyOf, IsRuleOfBad, IsTurnOf, clock_acts, read_value, state_by};
+ghost use Rattle.session_asking.specs.Asking.{FitsPiece, IsReplyOf, IsRuleOfBad, IsTurnOf, clock_acts, read_value};
+ghost use Rattle.session_asking.specs.Asking.{state_by};
 
 use crate::texts::Texts;
 use otp_words::{Dictionary, candidates};

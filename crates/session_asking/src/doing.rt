@@ -71,7 +71,8 @@ fn send<P: Post>(post: &mut P, conn: &mut P::Conn, bytes: &[u8]) -> Outcome
 
 /// Reads bytes of a user's file into the front of the piece.
 fn read_file<P: Post>(post: &mut P, file: &UserFile, offset: u64, piece: &mut [u8]) -> Outcome
-    ensures done { Does (ReadsFile file.now.uid file.now.name offset (length piece.old) ∷ []) result piece.new (P.scene post.old) (P.scene post.new) }
+    ensures done { Does (ReadsFile file.now.uid file.now.name offset (length piece.old) ∷ []) result piece.new
+        (P.scene post.old) (P.scene post.new) }
     ensures fits { Fits result (length piece.new) }
     ensures kept { NoneFell (P.faults post.old) (P.faults post.new) }
 {
@@ -83,7 +84,8 @@ fn read_file<P: Post>(post: &mut P, file: &UserFile, offset: u64, piece: &mut [u
 
 /// Writes bytes into a user's file.
 fn write_file<P: Post>(post: &mut P, file: &UserFile, offset: u64, bytes: &[u8]) -> Outcome
-    ensures done { (piece : List ℕ) → Does (WritesFile file.now.uid file.now.name offset bytes.now ∷ []) result piece (P.scene post.old) (P.scene post.new) }
+    ensures done { (piece : List ℕ) → Does (WritesFile file.now.uid file.now.name offset bytes.now ∷ []) result piece
+        (P.scene post.old) (P.scene post.new) }
     ensures fits { (room : ℕ) → Fits result room }
     ensures kept { NoneFell (P.faults post.old) (P.faults post.new) }
 {

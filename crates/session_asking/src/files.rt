@@ -39,7 +39,8 @@ impl OpenFiles {
     pub fn opened(mut self, handle: u32, name: Label) -> OpenFiles
         requires low { 1 ≤ handle }
         requires high { handle ≤ 8 }
-        ensures { (other : ℕ) → name_in result.names other ≡ (if handle == other then Some name else name_in self.names other) }
+        ensures { (other : ℕ) → name_in result.names other ≡ (if handle == other then Some name
+            else name_in self.names other) }
     {
         self.names[handle as usize - 1] = Some(name);
         self
@@ -47,7 +48,8 @@ impl OpenFiles {
 
     /// The same files, but that a handle is of none.
     pub fn closed(mut self, handle: u32) -> OpenFiles
-        ensures { (other : ℕ) → name_in result.names other ≡ (if handle == other then None else name_in self.names other) }
+        ensures { (other : ℕ) → name_in result.names other ≡ (if handle == other then None
+            else name_in self.names other) }
     {
         if handle != 0 && handle as usize <= FILES_MAX {
             self.names[handle as usize - 1] = None;

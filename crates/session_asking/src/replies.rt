@@ -34,7 +34,8 @@ impl Frames {
     pub(crate) fn reply(&mut self, message: &Header, session: u32, answer: &Answer<'_>) -> usize
         requires { replies.IsSendable self.old.width (replies.answer_of answer.now) }
         ensures within { result ≤ vec_len self.new.frame }
-        ensures frame { take result self.new.frame.items ≡ spelling_of self.old.width (composed_of (replies.reply_kind_of message.now.kind message.now.flags)
+        ensures frame { take result self.new.frame.items ≡ spelling_of self.old.width
+            (composed_of (replies.reply_kind_of message.now.kind message.now.flags)
             message.now.peerid session (replies.reply_of (replies.answer_of answer.now))) }
         ensures width { self.new.width ≡ self.old.width }
     {
@@ -62,7 +63,8 @@ fn write_frame(
     requires sendable { replies.IsSendable width (replies.answer_of answer.now) }
     requires room { length out.old ≡ frame_max width }
     ensures within { result ≤ frame_max width }
-    ensures frame { take result out.new ≡ spelling_of width (composed_of (replies.reply_kind_of message.now.kind message.now.flags)
+    ensures frame { take result out.new ≡ spelling_of width
+        (composed_of (replies.reply_kind_of message.now.kind message.now.flags)
         message.now.peerid session (replies.reply_of (replies.answer_of answer.now))) }
 {
     let len = HEADER_LEN + write_reply(width, answer, &mut out[HEADER_LEN..]);

@@ -35,19 +35,26 @@ pub fn serve_message<A: Turns, P: Post, L: LiveChild, T: Texts>(
     replies: &mut Replies<'_, T>,
 ) -> Turn
     requires may { A.may turns.old }
-    requires served { IsServed (T.service replies.old.texts.now).setup (A.rights turns.old) (A.seen turns.old) live.old.session live.old.user }
-    requires right { let width = (T.service replies.old.texts.now).setup.frames in IsMessage width (frame_max width) (message_of message.now) }
+    requires served { IsServed (T.service replies.old.texts.now).setup (A.rights turns.old) (A.seen turns.old)
+        live.old.session live.old.user }
+    requires right { let width = (T.service replies.old.texts.now).setup.frames in IsMessage width (frame_max width)
+        (message_of message.now) }
     requires setup { A.setup turns.old ≡ (T.service replies.old.texts.now).setup }
     requires width { replies.old.frames.width ≡ (T.service replies.old.texts.now).setup.frames }
-    ensures serves { Serves (whose (T.service replies.old.texts.now) (exported_bytes replies.old.exported) live.old.session (A.rights turns.old).worker) (message_of message.now) result
+    ensures serves { Serves (whose (T.service replies.old.texts.now) (exported_bytes replies.old.exported)
+        live.old.session (A.rights turns.old).worker) (message_of message.now) result
         (moment (A.seen turns.old) (P.scene post.old) (L.link live.old.child))
         (moment (A.seen turns.new) (P.scene post.new) (L.link live.new.child)) }
-    ensures leaves { Leaves (T.service replies.old.texts.now).setup live.old.session result (A.rights turns.old) (A.seen turns.old) (A.rights turns.new) (A.seen turns.new) live.new.user }
+    ensures leaves { Leaves (T.service replies.old.texts.now).setup live.old.session result (A.rights turns.old)
+        (A.seen turns.old) (A.rights turns.new) (A.seen turns.new) live.new.user }
     ensures rights { KeepsRights 1 (A.rights turns.old) (A.rights turns.new) }
     ensures turns { A.keeps turns.old turns.new × (A.setup turns.new ≡ A.setup turns.old) × A.may turns.new }
-    ensures child { (live.new.session ≡ live.old.session) × (L.role live.new.child ≡ L.role live.old.child) × (L.faults live.old.child ≤ L.faults live.new.child) }
-    ensures exported { HasReplied result message.now.body.now (exported_bytes replies.old.exported) (exported_bytes replies.new.exported) }
-    ensures replies { (replies.new.texts.now ≡ replies.old.texts.now) × (replies.new.frames.width ≡ replies.old.frames.width) }
+    ensures child { (live.new.session ≡ live.old.session) × (L.role live.new.child ≡ L.role live.old.child)
+        × (L.faults live.old.child ≤ L.faults live.new.child) }
+    ensures exported { HasReplied result message.now.body.now (exported_bytes replies.old.exported)
+        (exported_bytes replies.new.exported) }
+    ensures replies { (replies.new.texts.now ≡ replies.old.texts.now)
+        × (replies.new.frames.width ≡ replies.old.frames.width) }
     ensures user { is_some live.new.user ≡ is_some live.old.user }
     ensures once { (e : Event) → result ≡ Turn.HandsOver e → live.old.user ≡ None }
     ensures proper { IsProperTurn result }

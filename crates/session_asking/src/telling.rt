@@ -44,7 +44,9 @@ pub(crate) fn tell<T: Texts>(
     requires few { length source.now.state.now ≤ 8192 }
     requires fits { Fits outcome (length piece.old) }
     requires small { IsSmall event.now.ask event.now.decision }
-    ensures told { let service = T.service source.now.texts.now in told result piece.new ≡ told_of service source.now.state.now (account_in service.setup source.now.user.now) event.now.ask event.now.decision (told outcome piece.old) }
+    ensures told { let service = T.service source.now.texts.now in told result piece.new ≡ told_of service
+        source.now.state.now (account_in service.setup source.now.user.now) event.now.ask event.now.decision
+        (told outcome piece.old) }
     ensures fits { Fits result (length piece.new) }
     ensures len { length piece.new ≡ length piece.old }
 {
@@ -124,7 +126,8 @@ fn info<T: Texts>(
 ) -> usize
     requires room { 16000 ≤ length piece.old }
     ensures within { result ≤ length piece.new }
-    ensures text { take result piece.new ≡ info_text (T.service texts.now).forms number (account_in (T.service texts.now).setup user.now) sequence }
+    ensures text { take result piece.new ≡ info_text (T.service texts.now).forms number
+        (account_in (T.service texts.now).setup user.now) sequence }
 {
     let Some(account) = account_of(texts, user) else {
         return 0;
@@ -146,7 +149,8 @@ pub(crate) fn answer_of<'a>(decision: &Decision, outcome: &Outcome, piece: &'a [
     requires kept { is_lost decision.now ≡ false }
     requires named { NamesRule decision.now }
     requires fits { Fits outcome.now (length piece.now) }
-    ensures sendable { (width : Width) → length piece.now < body_max width → replies.IsSendable width (replies.answer_of result) }
+    ensures sendable { (width : Width) → length piece.now < body_max width
+        → replies.IsSendable width (replies.answer_of result) }
     ensures answer { Some (replies.answer_of result) ≡ answered (shown_of decision.now) (told outcome.now piece.now) }
 {
     match shown(decision) {

@@ -1,5 +1,6 @@
 -- Inner: what is decided by the accounts and the rows.
-use Rattle.std.specs.Prelude.{ℕ, ◌+◌, List, length, Option, Some, None, nat_eq, nat_le, nat_lt, slice_get, unwrap_or, if◌then◌else◌}
+use Rattle.std.specs.Prelude.{ℕ, ◌+◌, List, length, Option, Some, None, nat_eq, nat_le, nat_lt, slice_get, unwrap_or}
+use Rattle.std.specs.Prelude.{if◌then◌else◌}
 use Rattle.std.specs.List.{list_any}
 use Rattle.request_catalogue.specs.declared.rules.TheConstants.{NO_INFORMATION, NOT_GRANTED, NOT_IN_PHASE, TRIES_SPENT}
 use Rattle.request_catalogue.specs.declared.texts.Label.{Label}

@@ -5,7 +5,8 @@ use Rattle.policy_model.specs.Settings.{Settings}
 use Rattle.session_table.specs.declared.rows.SessionRow.{SessionRow}
 use Rattle.session_table.specs.Tables.{TableParts, row_at}
 
--- the accounts, with the setup and how many sessions may be opened; the rows, with how many were; and how many events were settled
+-- the accounts, with the setup and how many sessions may be opened; the
+-- rows, with how many were; and how many events were settled
 pub record CoreParts : Type 0 where
   pub ledger : LedgerParts
   pub table : TableParts

@@ -1,5 +1,6 @@
 -- Inner: the event that a core makes of an ask and a decision, and what the event makes of the core.
-use Rattle.std.specs.Prelude.{ℕ, ◌+◌, ◌&&◌, Bool, true, false, length, Option, Some, None, nat_le, nat_lt, unwrap_or, if◌then◌else◌}
+use Rattle.std.specs.Prelude.{ℕ, ◌+◌, ◌&&◌, Bool, true, false, length, Option, Some, None, nat_le, nat_lt, unwrap_or}
+use Rattle.std.specs.Prelude.{if◌then◌else◌}
 use Rattle.otp_ledger.specs.Accounts.{LedgerParts, ledger_holding, ledger_releasing, ledger_spending}
 use Rattle.policy_model.specs.declared.event.Ask.{Ask}
 use Rattle.policy_model.specs.declared.event.Decision.{Decision}
@@ -7,7 +8,8 @@ use Rattle.policy_model.specs.declared.event.Event.{Event}
 use Rattle.policy_model.specs.declared.phase.Phase.{Phase}
 use Rattle.policy_model.specs.declared.phase.Phase.TheVariants.{Challenged}
 use Rattle.policy_model.specs.declared.reading.TheConstants.{DECOYS_FROM}
-use Rattle.policy_model.specs.Asks.{accepts, challenge_name, is_end, is_permit, leaves, moment_of, opens, takes, value_of, label_named}
+use Rattle.policy_model.specs.Asks.{accepts, challenge_name, is_end, is_permit, leaves, moment_of, opens, takes}
+use Rattle.policy_model.specs.Asks.{value_of, label_named}
 use Rattle.policy_model.specs.Settings.{Settings}
 use Rattle.session_core.specs.Parts.{CoreParts, row_of}
 use Rattle.session_laws.specs.Judged.{event_by}
@@ -46,9 +48,11 @@ is_challenged _ = false
 abbrev pub may_hold : LedgerParts → SessionRow → Bool
 may_hold l row = is_challenged row.phase && nat_lt row.account (length l.accounts)
 
--- the accounts after a permitted CHALLENGE, after a permitted REPLY, and after an event by which the session gives up what it holds or ends
+-- the accounts after a permitted CHALLENGE, after a permitted REPLY, and after
+-- an event by which the session gives up what it holds or ends
 abbrev pub ledger_taking : LedgerParts → ℕ → Event → LedgerParts
-ledger_taking l number e = if nat_lt number (length l.accounts) then ledger_holding l number e.session (moment_of e.ask) else l
+ledger_taking l number e =
+    if nat_lt number (length l.accounts) then ledger_holding l number e.session (moment_of e.ask) else l
 
 abbrev pub ledger_accepting : LedgerParts → ℕ → Event → LedgerParts
 ledger_accepting l account e = ledger_releasing (ledger_spending l account (value_of e.decision)) account e.session

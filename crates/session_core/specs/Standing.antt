@@ -1,5 +1,6 @@
 -- Inner: what a core stands for: the journal of all events, of which it knows what the policy asks.
-use Rattle.std.specs.Prelude.{ℕ, ◌≡◌, ◌≤◌, ◌<◌, ◌+◌, ◌-◌, ◌^◌, ◌&&◌, Bool, true, false, List, length, Option, Some, None, is_none, is_some}
+use Rattle.std.specs.Prelude.{ℕ, ◌≡◌, ◌≤◌, ◌<◌, ◌+◌, ◌-◌, ◌^◌, ◌&&◌, Bool, true, false, List, length, Option, Some}
+use Rattle.std.specs.Prelude.{None, is_none, is_some}
 use Rattle.std.specs.List.{AllByRecursion}
 use Rattle.otp_ledger.specs.Accounts.{IsNextPassword, LedgerParts, state_at}
 use Rattle.otp_ledger.specs.Standing.{StandsFor}
@@ -16,7 +17,9 @@ use Rattle.session_laws.specs.Rooms.{login_count}
 use Rattle.session_table.specs.declared.rows.SessionRow.{SessionRow}
 use Rattle.session_table.specs.Tables.{FitsWorker, TableParts, TableStands, row_at}
 
--- a core stands for a journal: it is legal, without a lost decision and of the setup's workers; the rows and the accounts know of each session and each account what it says, and the counts are those of its openings and its events
+-- a core stands for a journal: it is legal, without a lost decision and of the
+-- setup's workers; the rows and the accounts know of each session and each account
+-- what it says, and the counts are those of its openings and its events
 pub record Stands (core : CoreParts) (journal : List Event) : Type 0 where
   pub legal : IsLegal (setup_of core) journal
   pub kept : has_lost journal ≡ false
@@ -66,7 +69,8 @@ pub record IsSpendable (l : LedgerParts) (account password : ℕ) : Type 0 where
 -- an event may be settled in the accounts, and in the rows
 pub record FitsAccounts (l : LedgerParts) (table : TableParts) (e : Event) : Type 0 where
   pub worker : e.worker < length table.rows
-  pub spends : (row : SessionRow) → row_at table e.worker ≡ Some row → accepts e ≡ true → IsSpendable l row.account (value_of e.decision)
+  pub spends : (row : SessionRow) → row_at table e.worker ≡ Some row → accepts e ≡ true
+      → IsSpendable l row.account (value_of e.decision)
 
 pub record FitsRows (table : TableParts) (e : Event) : Type 0 where
   pub worker : e.worker < length table.rows

@@ -3,7 +3,8 @@
 ghost use Rattle.std.specs.Prelude.{◌≡◌, ◌<◌, IfSome, length, nat_eq};
 ghost use Rattle.std.specs.List.{list_any};
 ghost use Rattle.std.specs.Option.{option_copied};
-ghost use Rattle.session_core.specs.Deciding.{account_at, challenge_by, idle_worker_decision, info_by, kind_by, open_by, open_worker_decision, reply_by, sequence_at, worker_decision};
+ghost use Rattle.session_core.specs.Deciding.{account_at, challenge_by, idle_worker_decision, info_by, kind_by};
+ghost use Rattle.session_core.specs.Deciding.{open_by, open_worker_decision, reply_by, sequence_at, worker_decision};
 ghost use Rattle.session_table.specs.Tables.{row_at};
 
 use otp_ledger::Ledger;

@@ -2,7 +2,9 @@
 
 ghost use Rattle.std.specs.Prelude.{◌≡◌, ◌≤◌, ◌<◌, ◌-◌, ◌^◌, length, Some, true, unwrap_or};
 ghost use Rattle.policy_model.specs.Asks.{accepts, value_of};
-ghost use Rattle.session_core.specs.Settling.{grant_for, grant_in, ledger_accepting, ledger_after, ledger_by, ledger_leaving, ledger_taking, may_hold, number_for, session_at, table_next};
+ghost use Rattle.session_core.specs.Settling.{grant_for, grant_in, ledger_accepting, ledger_after, ledger_by};
+ghost use Rattle.session_core.specs.Settling.{ledger_leaving, ledger_taking, may_hold, number_for, session_at};
+ghost use Rattle.session_core.specs.Settling.{table_next};
 ghost use Rattle.session_core.specs.Standing.{FitsAccounts, FitsRows, IsSpendable};
 ghost use Rattle.session_laws.specs.Judged.{event_session};
 ghost use Rattle.session_table.specs.Standing.{grant_number, grants_at};
@@ -174,7 +176,8 @@ fn settle_each(ledger: &mut Ledger, table: &mut Table, event: &Event)
     requires accounts { FitsAccounts ledger.old table.old event.now }
     requires rows { FitsRows table.old event.now }
     ensures accounts { ledger.new ≡ ledger_after ledger.old (row_at table.old event.now.worker) event.now }
-    ensures rows { table.new ≡ table_next table.old event.now (number_for ledger.old event.now) (grant_for ledger.old.setup (row_at table.old event.now.worker) event.now) }
+    ensures rows { table.new ≡ table_next table.old event.now (number_for ledger.old event.now)
+        (grant_for ledger.old.setup (row_at table.old event.now.worker) event.now) }
 {
     let number = number_for(ledger, event);
     let grant = grant_for(ledger.setup(), table, event);
@@ -203,7 +206,8 @@ pub(crate) fn settle(ledger: &mut Ledger, table: &mut Table, ask: &Ask, event: &
     requires rows { FitsRows table.old event.now }
     requires ask { ask.now ≡ event.now.ask }
     ensures accounts { ledger.new ≡ ledger_after ledger.old (row_at table.old event.now.worker) event.now }
-    ensures rows { table.new ≡ table_next table.old event.now (number_for ledger.old event.now) (grant_for ledger.old.setup (row_at table.old event.now.worker) event.now) }
+    ensures rows { table.new ≡ table_next table.old event.now (number_for ledger.old event.now)
+        (grant_for ledger.old.setup (row_at table.old event.now.worker) event.now) }
 {
     if is_use(event) {
         table.advance_use(event.worker, event);

@@ -101,7 +101,8 @@ impl Core {
     /// The verdict on an ask of a worker, over the events settled so far. It is never `Lost`.
     pub fn decide(&self, worker: u32, ask: &Ask) -> Decision
         requires worker { worker < self.now.ledger.setup.workers }
-        ensures verdict { (journal : List Event) → Stands self.now journal → result ≡ verdict_of self.now.ledger.setup journal worker ask.now }
+        ensures verdict { (journal : List Event) → Stands self.now journal → result ≡ verdict_of self.now.ledger.setup
+            journal worker ask.now }
     {
         self.judge(worker, ask)
     }
@@ -110,10 +111,12 @@ impl Core {
     /// account. A permitted opening has to be within the sessions that may be opened.
     pub fn settle(&mut self, worker: u32, ask: &Ask, decision: Decision) -> Event
         requires worker { worker < self.old.ledger.setup.workers }
-        requires decided { (journal : List Event) → Stands self.old journal → decision ≡ verdict_of self.old.ledger.setup journal worker ask.now }
+        requires decided { (journal : List Event) → Stands self.old journal
+            → decision ≡ verdict_of self.old.ledger.setup journal worker ask.now }
         requires room { HasRoom self.old (is_begin ask.now && is_permit decision) }
         ensures kept { KeepsSetup self.old self.new }
-        ensures event { (journal : List Event) → Stands self.old journal → result ≡ next_event self.old.ledger.setup journal worker ask.now }
+        ensures event { (journal : List Event) → Stands self.old journal → result ≡ next_event self.old.ledger.setup
+            journal worker ask.now }
         ensures stands { (journal : List Event) → Stands self.old journal → Stands self.new (journal ++ result ∷ []) }
     {
         let event = self.event_of(worker, ask, decision);
@@ -127,7 +130,8 @@ impl Core {
         requires worker { step.now.worker < self.old.ledger.setup.workers }
         requires room { HasRoom self.old (is_begin step.now.ask && is_none (row_of self.old step.now.worker)) }
         ensures kept { KeepsSetup self.old self.new }
-        ensures event { (journal : List Event) → Stands self.old journal → result ≡ next_event self.old.ledger.setup journal step.now.worker step.now.ask }
+        ensures event { (journal : List Event) → Stands self.old journal → result ≡ next_event self.old.ledger.setup
+            journal step.now.worker step.now.ask }
         ensures stands { (journal : List Event) → Stands self.old journal → Stands self.new (journal ++ result ∷ []) }
     {
         let decision = self.judge(step.worker, &step.ask);

@@ -8,12 +8,18 @@ use Rattle.policy_model.specs.Logins.{challenged_user, verified_user, was_decoye
 
 -- an event counts for its own session
 pub record CountsForItsOwn (journal : List Event) (e : Event) : Type 0 where
-  pub asked : ask_count (journal ++ e ∷ []) e.session ≡ ask_count journal e.session + (if came_by_frame e.ask then 1 else 0)
-  pub counted : (test : Event → Bool) → count_of (journal ++ e ∷ []) e.session test ≡ count_of journal e.session test + (if test e then 1 else 0)
-  pub seen : (test : Event → Bool) → has_event (journal ++ e ∷ []) e.session test ≡ (has_event journal e.session test || test e)
-  pub challenged : challenged_user (journal ++ e ∷ []) e.session ≡ (if takes e then challenge_name e.ask else challenged_user journal e.session)
-  pub decoyed : was_decoyed (journal ++ e ∷ []) e.session ≡ (if takes e then nat_le DECOYS_FROM (value_of e.decision) else was_decoyed journal e.session)
-  pub verified : verified_user (journal ++ e ∷ []) e.session ≡ (if accepts e then challenged_user journal e.session else verified_user journal e.session)
+  pub asked : ask_count (journal ++ e ∷ []) e.session ≡ ask_count journal e.session + (if came_by_frame e.ask then 1
+      else 0)
+  pub counted : (test : Event → Bool) → count_of (journal ++ e ∷ []) e.session test ≡ count_of journal e.session test
+      + (if test e then 1 else 0)
+  pub seen : (test : Event → Bool) → has_event (journal ++ e ∷ []) e.session test ≡ (has_event journal e.session test
+      || test e)
+  pub challenged : challenged_user (journal ++ e ∷ []) e.session ≡ (if takes e then challenge_name e.ask
+      else challenged_user journal e.session)
+  pub decoyed : was_decoyed (journal ++ e ∷ []) e.session ≡ (if takes e then nat_le DECOYS_FROM (value_of e.decision)
+      else was_decoyed journal e.session)
+  pub verified : verified_user (journal ++ e ∷ []) e.session ≡ (if accepts e then challenged_user journal e.session
+      else verified_user journal e.session)
 
 -- and leaves any other as it is
 pub record LeavesOthers (journal : List Event) (e : Event) (session : ℕ) : Type 0 where

@@ -1,5 +1,6 @@
 -- Inner: what one more event makes of a session's live handles, and what holds of them in every legal journal.
-use Rattle.std.specs.Prelude.{ℕ, ◌≡◌, ◌≢◌, ◌≤◌, ◌<◌, ◌==◌, true, not, List, [], ◌∷◌, ◌++◌, filter, length, map, None, if◌then◌else◌}
+use Rattle.std.specs.Prelude.{ℕ, ◌≡◌, ◌≢◌, ◌≤◌, ◌<◌, ◌==◌, true, not, List, [], ◌∷◌, ◌++◌, filter, length, map, None}
+use Rattle.std.specs.Prelude.{if◌then◌else◌}
 use Rattle.std.specs.List.{list_all}
 use Rattle.policy_model.specs.declared.event.Event.{Event}
 use Rattle.policy_model.specs.Asks.{closes_file, opens_file}
@@ -14,7 +15,8 @@ handles_after live e = filter (λ o. not (closes_file (handle_of o) e)) live ++ 
 -- the live handles of all sessions after one more event
 pub record HandlesGoOn (journal : List Event) (e : Event) : Type 0 where
   pub own : live_handles_of (journal ++ e ∷ []) e.session ≡ handles_after (live_handles_of journal e.session) e
-  pub other : (session : ℕ) → e.session ≢ session → live_handles_of (journal ++ e ∷ []) session ≡ live_handles_of journal session
+  pub other : (session : ℕ) → e.session ≢ session → live_handles_of (journal ++ e ∷ []) session ≡ live_handles_of
+      journal session
 
 -- a session has at most 8 live handles, each of 1 to 8, and no two are the same
 pub record HandlesDiffer (journal : List Event) (session : ℕ) : Type 0 where

@@ -29,7 +29,8 @@ request_decision requests session phase asked ask decision =
     else (if asked == requests then Deny ASKS_SPENT requests
     else decision)
 
--- a request of a kind, by its cell of the phase table, whether one of the kind was permitted, and what else is decided of it
+-- a request of a kind, by its cell of the phase table, whether one of
+-- the kind was permitted, and what else is decided of it
 abbrev pub cell_decision : Row → Bool → Ask → Decision → Decision
 cell_decision row had ask decision =
     if not row.permitted then Deny NOT_IN_PHASE (request_number ask)
@@ -52,4 +53,5 @@ event_session session openings _ _ = session
 
 -- the event of a worker with its open session, by how many were opened
 abbrev pub event_by : ℕ → ℕ → ℕ → Ask → Decision → Event
-event_by worker session openings ask decision = record { worker = worker; session = event_session session openings ask decision; ask = ask; decision = decision }
+event_by worker session openings ask decision =
+    record { worker = worker; session = event_session session openings ask decision; ask = ask; decision = decision }

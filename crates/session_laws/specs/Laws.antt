@@ -34,11 +34,13 @@ pub record HandlesAreApart (journal : List Event) : Type 0 where
   pub differ : (session : ℕ) → HandlesDiffer journal session
   pub before : (session : ℕ) → has_event journal session exports ≡ false → live_handles_of journal session ≡ []
 
--- each holder is in Challenged for the user that it holds; a session holds one user at most, which is the one that it is challenged for, and none where the challenge is a decoy or the session isn't in Challenged
+-- each holder is in Challenged for the user that it holds; a session holds one user at most, which is the one that
+-- it is challenged for, and none where the challenge is a decoy or the session isn't in Challenged
 pub record HoldersAreTied (setup : Settings) (journal : List Event) : Type 0 where
   pub tied : AreTied setup journal
   pub one : (session : ℕ) → HoldsOneAtMost journal session
-  pub only : (session number : ℕ) (user : Name) → IsInRange setup → challenged_user journal session ≡ Some user → account_number setup user ≡ Some number → HoldsOnly setup journal session number
+  pub only : (session number : ℕ) (user : Name) → IsInRange setup → challenged_user journal session ≡ Some user
+      → account_number setup user ≡ Some number → HoldsOnly setup journal session number
   pub decoyed : (session : ℕ) → was_decoyed journal session ≡ true → HoldsNone journal session
   pub unchallenged : (session : ℕ) → phase_of journal session ≢ Challenged → HoldsNone journal session
 
@@ -58,10 +60,16 @@ pub record BeginsFresh (journal : List Event) (e : Event) : Type 0 where
   pub fresh : opens e ≡ true → IsFresh (journal ++ e ∷ []) e.session
   pub least : opens_file e ≡ true → GivesLeast journal e
 
--- a CHALLENGE for a user reserves the user just where the user can log in; a REPLY that is accepted is the next password of the user that the session holds; every user but the one that is reserved and the one that the session is challenged for stays as it was, and so does this one where it is no permitted REPLY and the session doesn't leave whom it holds
+-- a CHALLENGE for a user reserves the user just where the user can log in; a REPLY that is
+-- accepted is the next password of the user that the session holds; every user but the one that is
+-- reserved and the one that the session is challenged for stays as it was, and so does this one
+-- where it is no permitted REPLY and the session doesn't leave whom it holds
 pub record ChangesOneUser (setup : Settings) (journal : List Event) (e : Event) : Type 0 where
   pub reserved : (user : Name) → reserves user e ≡ true → ReservesLive setup journal e user
-  pub live : (user : Name) (account : Account) → IsInRange setup → takes_user user e ≡ true → account_of setup user ≡ Some account → is_live journal account ≡ true → reserves user e ≡ true
+  pub live : (user : Name) (account : Account) → IsInRange setup → takes_user user e ≡ true → account_of setup user
+      ≡ Some account → is_live journal account ≡ true → reserves user e ≡ true
   pub accepted : accepts e ≡ true → AcceptsNext setup journal e
-  pub others : (user : Name) → reserves user e ≡ false → challenged_user journal e.session ≢ Some user → LeavesUser journal e user
-  pub left : (user : Name) → reserves user e ≡ false → accepts e ≡ false → (leaves e ≡ true → is_holder e.session (holder_of journal user) ≡ false) → LeavesUser journal e user
+  pub others : (user : Name) → reserves user e ≡ false → challenged_user journal e.session ≢ Some user
+      → LeavesUser journal e user
+  pub left : (user : Name) → reserves user e ≡ false → accepts e ≡ false
+      → (leaves e ≡ true → is_holder e.session (holder_of journal user) ≡ false) → LeavesUser journal e user

@@ -17,7 +17,8 @@ pub record IsChallenged (setup : Settings) (journal : List Event) (session : ℕ
   pub challenged : challenged_user journal session ≡ Some user
   pub known : was_decoyed journal session ≡ false → HasAccount setup user
 
--- a session whose reply was accepted is logged in as the user that it was challenged for, by no decoy, and the user has an account
+-- a session whose reply was accepted is logged in as the user that it was
+-- challenged for, by no decoy, and the user has an account
 pub record IsLoggedIn (setup : Settings) (journal : List Event) (session : ℕ) : Type 0 where
   pub user : Name
   pub challenged : challenged_user journal session ≡ Some user

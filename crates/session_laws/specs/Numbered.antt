@@ -17,7 +17,8 @@ pub record IsNumbered (setup : Settings) (user : Name) (number : ℕ) (account :
 
 -- a session holds none of the accounts but the one with this number
 pub record HoldsOnly (setup : Settings) (journal : List Event) (session number : ℕ) : Type 0 where
-  pub only : (n : ℕ) (account : Account) → slice_get setup.accounts n ≡ Some account → is_holder session (holder_of journal account.name) ≡ true → n ≡ number
+  pub only : (n : ℕ) (account : Account) → slice_get setup.accounts n ≡ Some account
+      → is_holder session (holder_of journal account.name) ≡ true → n ≡ number
 
 -- a session holds nobody
 pub record HoldsNone (journal : List Event) (session : ℕ) : Type 0 where

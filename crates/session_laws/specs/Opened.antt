@@ -13,7 +13,8 @@ use Rattle.policy_model.specs.Phases.{phase_of}
 pub record AreApart (journal : List Event) : Type 0 where
   pub apart : (v w : ℕ) → v ≢ w → open_session_of journal v ≢ 0 → open_session_of journal v ≢ open_session_of journal w
 
--- a session was just opened: it stands before its login, has asked for nothing, was permitted nothing, and has no user and no handle
+-- a session was just opened: it stands before its login, has asked for
+-- nothing, was permitted nothing, and has no user and no handle
 pub record IsFresh (journal : List Event) (session : ℕ) : Type 0 where
   pub phase : phase_of journal session ≡ Pre
   pub asked : ask_count journal session ≡ 0

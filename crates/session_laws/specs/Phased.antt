@@ -6,7 +6,8 @@ use Rattle.policy_model.specs.declared.phase.Phase.TheVariants.{Pre, Challenged,
 use Rattle.policy_model.specs.Asks.{accepts, ends_session, exports, is_login_step, opens, takes}
 use Rattle.policy_model.specs.Phases.{phase_of}
 
--- an event of a session before its login: it ends, its user's child runs, it is logged in, it has challenged or has given up, or it stays
+-- an event of a session before its login: it ends, its user's child runs, it
+-- is logged in, it has challenged or has given up, or it stays
 abbrev pub early_after : Phase → Event → Phase
 early_after phase e =
     if ends_session e then Over

@@ -6,13 +6,15 @@ use Rattle.policy_model.specs.declared.event.Event.{Event}
 use Rattle.policy_model.specs.declared.phase.Phase.TheVariants.{Challenged}
 use Rattle.policy_model.specs.Asks.{leaves, value_of}
 use Rattle.policy_model.specs.Journal.{is_own}
-use Rattle.policy_model.specs.Logins.{account_of, challenged_user, current_sequence, holder_of, is_live, last_taking_of, replies_of, was_decoyed}
+use Rattle.policy_model.specs.Logins.{account_of, challenged_user, current_sequence, holder_of, is_live, last_taking_of}
+use Rattle.policy_model.specs.Logins.{replies_of, was_decoyed}
 use Rattle.policy_model.specs.Phases.{is_over, phase_of}
 use Rattle.policy_model.specs.Settings.{Settings}
 use Rattle.policy_model.specs.Verdict.{is_next_password}
 use Rattle.session_laws.specs.Numbered.{IsNumbered}
 
--- what an event that doesn't reserve the user makes of its holder: none where the holder's session leaves, else as before
+-- what an event that doesn't reserve the user makes of its holder:
+-- none where the holder's session leaves, else as before
 abbrev pub holder_after : Option ℕ → Event → Option ℕ
 holder_after None e = None
 holder_after (Some session) e = if is_own session leaves e then None else Some session
@@ -30,7 +32,8 @@ pub record AreTied (setup : Settings) (journal : List Event) : Type 0 where
 
 -- a session holds no user but the one that it is challenged for
 pub record HoldsOneAtMost (journal : List Event) (session : ℕ) : Type 0 where
-  pub one : (user other : Name) → holder_of journal user ≡ Some session → holder_of journal other ≡ Some session → user ≡ other
+  pub one : (user other : Name) → holder_of journal user ≡ Some session → holder_of journal other ≡ Some session
+      → user ≡ other
 
 -- what an event leaves of a user: no reply, no taking, and the holder as before
 pub record LeavesUser (journal : List Event) (e : Event) (user : Name) : Type 0 where
@@ -38,7 +41,8 @@ pub record LeavesUser (journal : List Event) (e : Event) (user : Name) : Type 0 
   pub taking : last_taking_of (journal ++ e ∷ []) user ≡ last_taking_of journal user
   pub holder : holder_of (journal ++ e ∷ []) user ≡ holder_of journal user
 
--- a permitted REPLY: the session held the user that it was challenged for, whose next password this is, and who had passwords left
+-- a permitted REPLY: the session held the user that it was challenged for,
+-- whose next password this is, and who had passwords left
 pub record AcceptsNext (setup : Settings) (journal : List Event) (e : Event) : Type 0 where
   pub user : Name
   pub account : Account

@@ -9,7 +9,8 @@ ghost use Rattle.policy_model.specs.Legal.{IsLegal};
 ghost use Rattle.policy_model.specs.Settings.{Settings};
 ghost use Rattle.policy_model.specs.Verdict.{verdict_of};
 ghost use Rattle.session_laws.specs.Handled.{HandlesGoOn};
-ghost use Rattle.session_laws.specs.Laws.{BeginsFresh, ChangesOneUser, CountsOnce, FollowsLegal, HandlesAreApart, HoldersAreTied, SessionsAreApart, SessionsHaveUsers};
+ghost use Rattle.session_laws.specs.Laws.{BeginsFresh, ChangesOneUser, CountsOnce, FollowsLegal, HandlesAreApart};
+ghost use Rattle.session_laws.specs.Laws.{HoldersAreTied, SessionsAreApart, SessionsHaveUsers};
 ghost use Rattle.session_laws.specs.Phased.{IsPhasedBy};
 
 /// A session's phase after an event follows from its phase before and from that event alone.
@@ -42,7 +43,8 @@ pub fn handles_are_apart()
 /// A session that was just opened has asked for nothing, was permitted nothing and holds nothing, and
 /// an OPEN gives the least handle that isn't live.
 pub fn sessions_begin_fresh()
-    ensures { (setup : Settings) (journal : List Event) (e : Event) → FollowsLegal setup journal e → BeginsFresh journal e }
+    ensures { (setup : Settings) (journal : List Event) (e : Event) → FollowsLegal setup journal e
+        → BeginsFresh journal e }
 {}
 
 /// A session that holds a user is in Challenged for that user, by no decoy, the user has passwords
@@ -62,10 +64,12 @@ pub fn sessions_have_users()
 /// password; and every user but the one that is reserved and the one that the session is challenged
 /// for stays as it was.
 pub fn events_change_one_user()
-    ensures { (setup : Settings) (journal : List Event) (e : Event) → FollowsLegal setup journal e → ChangesOneUser setup journal e }
+    ensures { (setup : Settings) (journal : List Event) (e : Event) → FollowsLegal setup journal e
+        → ChangesOneUser setup journal e }
 {}
 
 /// The policy decides every ask, also one that names a rule out of its range.
 pub fn every_ask_is_decided()
-    ensures { (setup : Settings) (journal : List Event) (worker : ℕ) (ask : Ask) → is_lost (verdict_of setup journal worker ask) ≡ false }
+    ensures { (setup : Settings) (journal : List Event) (worker : ℕ) (ask : Ask)
+        → is_lost (verdict_of setup journal worker ask) ≡ false }
 {}

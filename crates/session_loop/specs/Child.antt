@@ -1,5 +1,6 @@
 -- Inner: what serving a child did, turn by turn.
-use Rattle.std.specs.Prelude.{◌≡◌, ◌≢◌, ℕ, ◌+◌, ◌-◌, ◌*◌, ◌<◌, ◌≤◌, Bool, true, false, List, [], ◌∷◌, ◌++◌, Option, Some, None, option_to_list, is_some}
+use Rattle.std.specs.Prelude.{◌≡◌, ◌≢◌, ℕ, ◌+◌, ◌-◌, ◌*◌, ◌<◌, ◌≤◌, Bool, true, false, List, [], ◌∷◌, ◌++◌, Option}
+use Rattle.std.specs.Prelude.{Some, None, option_to_list, is_some}
 use Rattle.std.specs.List.{AllByRecursion}
 use Rattle.imsg_frame.specs.Held.{Held}
 use Rattle.imsg_frame.specs.Message.{Message}
@@ -63,7 +64,8 @@ pub record Concludes (w : Whose) (why : Why) (before after : Moment) (held : Lis
   pub last : List ℕ
   pub bytes : Goes (Exchanged received (answers w.service w.exported served ++ last)) before.link after.link
   pub sent : LastSent (EndsSession why) (answers w.service w.exported (option_to_list final)) last
-  pub ended : EndsSession why ≢ by_link → EndsSo w.service.setup.frames (EndsSession why) final rest (left_in after.link)
+  pub ended : EndsSession why ≢ by_link → EndsSo w.service.setup.frames (EndsSession why) final rest
+      (left_in after.link)
 
 -- the step of an EXPORT that came by a message
 abbrev pub export_step : List Event → Event → Message → Step
@@ -89,7 +91,8 @@ pub record HandsOn (w : Whose) (e : Event) (state : List ℕ) (before after : Mo
   pub named : NamesAccount w.service.setup e
   pub role : user_role w.service.setup e ≡ role_of e.session (user_at w.service.setup (place_of front e))
 
--- one turn of serving a child: it goes on, its session ends, or another child is next; state is what was exported after the turn
+-- one turn of serving a child: it goes on, its session ends, or another
+-- child is next; state is what was exported after the turn
 abbrev pub TurnTaken : Whose → Turn → List ℕ → Moment → Moment → List ℕ → List ℕ → Type 0
 TurnTaken w turns.GoesOn state before after held_old held_new = Proceeds w before after held_old held_new
 TurnTaken w (turns.Ends why) state before after held_old held_new = Concludes w why before after held_old
@@ -101,13 +104,18 @@ PartTaken w turns.GoesOn state before after held = ⊥
 PartTaken w (turns.Ends why) state before after held = Concludes w why before after held
 PartTaken w (turns.HandsOver e) state before after held = HandsOn w e state before after held
 
--- bytes were received after those that are held, or the child's bytes ended in front of a whole message, or its link failed
+-- bytes were received after those that are held, or the child's bytes
+-- ended in front of a whole message, or its link failed
 abbrev pub Receives : Width → Turn → List ℕ → List ℕ → Option Link → Option Link → Type 0
-Receives width turns.GoesOn held_old held_new link_old link_new = (received : List ℕ) × (held_old ++ received ≡ held_new) × Goes (Exchanged received []) link_old link_new
-Receives width (turns.Ends why) held_old held_new link_old link_new = Goes (Exchanged [] []) link_old link_new × (EndsSession why ≢ by_link → EndsSo width (EndsSession why) None held_old (left_in link_new))
+Receives width turns.GoesOn held_old held_new link_old link_new =
+    (received : List ℕ) × (held_old ++ received ≡ held_new) × Goes (Exchanged received []) link_old link_new
+Receives width (turns.Ends why) held_old held_new link_old link_new =
+    Goes (Exchanged [] []) link_old link_new × (EndsSession why ≢ by_link → EndsSo width (EndsSession why) None held_old
+    (left_in link_new))
 Receives width (turns.HandsOver e) held_old held_new link_old link_new = ⊥
 
--- what is left to do for a session: its asks, and within one of them the bytes that the reader has room for, fewer than 65,537
+-- what is left to do for a session: its asks, and within one of them the
+-- bytes that the reader has room for, fewer than 65,537
 abbrev pub work_left : ℕ → ℕ → ℕ → ℕ → ℕ
 work_left requests max asks held = (requests + 1 - asks) * 65537 + (max - held)
 
@@ -129,23 +137,31 @@ abbrev pub KeepsState : Turn → List ℕ → List ℕ → Type 0
 KeepsState turn old new = ((e : Event) → turn ≢ turns.HandsOver e) → new ≡ old
 
 -- a worker's asks of a session that goes on are just those that the journal counts
-pub record CountsAsks (session : ℕ) (rights_old : Rights) (old : List Event) (rights_new : Rights) (new : List Event) : Type 0 where
+pub record CountsAsks (session : ℕ) (rights_old : Rights) (old : List Event) (rights_new : Rights)
+    (new : List Event) : Type 0 where
   pub worker : rights_new.worker ≡ rights_old.worker
   pub made : rights_new.left + ask_count new session ≡ rights_old.left + ask_count old session
 
 -- a worker whose session is to be ended has made at most one ask more than the session may
-pub record EndsWithin (setup : Settings) (session : ℕ) (rights_old : Rights) (old : List Event) (rights_new : Rights) : Type 0 where
+pub record EndsWithin (setup : Settings) (session : ℕ) (rights_old : Rights) (old : List Event)
+    (rights_new : Rights) : Type 0 where
   pub worker : rights_new.worker ≡ rights_old.worker
   pub left : rights_old.left + ask_count old session ≤ rights_new.left + setup.requests + 1
 
 -- what is left to a worker after a turn, or a part
 abbrev pub SpendsOn : Settings → ℕ → Turn → Rights → List Event → Rights → List Event → Option LoggedIn → Type 0
-SpendsOn setup session turns.GoesOn rights_old old rights_new new user = IsServed setup rights_new new session user × CountsAsks session rights_old old rights_new new
-SpendsOn setup session (turns.Ends why) rights_old old rights_new new user = IsStillOpen setup rights_new new session × EndsWithin setup session rights_old old rights_new
-SpendsOn setup session (turns.HandsOver e) rights_old old rights_new new user = ((logged_in : LoggedIn) → IsNewUser logged_in e → IsServed setup rights_new new session (Some logged_in)) × CountsAsks session rights_old old rights_new new
+SpendsOn setup session turns.GoesOn rights_old old rights_new new user =
+    IsServed setup rights_new new session user × CountsAsks session rights_old old rights_new new
+SpendsOn setup session (turns.Ends why) rights_old old rights_new new user =
+    IsStillOpen setup rights_new new session × EndsWithin setup session rights_old old rights_new
+SpendsOn setup session (turns.HandsOver e) rights_old old rights_new new user =
+    ((logged_in : LoggedIn) → IsNewUser logged_in e → IsServed setup rights_new new session (Some logged_in))
+    × CountsAsks session rights_old old rights_new new
 
 -- a child is being served: how the worker stands now against where its serving began
-pub record IsUnderway (service : Service) (exported : List ℕ) (session : ℕ) (rights_old rights_new : Rights) (before now : Moment) (user_old user_new : Option LoggedIn) (held_old held_new : List ℕ) (same_service : Service) (same_exported : List ℕ) (same_session : ℕ) : Type 0 where
+pub record IsUnderway (service : Service) (exported : List ℕ) (session : ℕ) (rights_old rights_new : Rights)
+    (before now : Moment) (user_old user_new : Option LoggedIn) (held_old held_new : List ℕ) (same_service : Service)
+    (same_exported : List ℕ) (same_session : ℕ) : Type 0 where
   pub service_is : same_service ≡ service
   pub exported_is : same_exported ≡ exported
   pub session_is : same_session ≡ session

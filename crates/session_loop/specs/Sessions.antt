@@ -1,5 +1,6 @@
 -- Inner: what the children of a session had, and how it ended.
-use Rattle.std.specs.Prelude.{◌≡◌, ◌≢◌, ℕ, ◌+◌, ◌<◌, ◌≤◌, true, false, List, [], ◌∷◌, ◌++◌, map, Option, Some, None, Result, Ok, Err}
+use Rattle.std.specs.Prelude.{◌≡◌, ◌≢◌, ℕ, ◌+◌, ◌<◌, ◌≤◌, true, false, List, [], ◌∷◌, ◌++◌, map, Option, Some, None}
+use Rattle.std.specs.Prelude.{Result, Ok, Err}
 use Rattle.std.specs.List.{AllByRecursion, flat_map, list_any}
 use Rattle.outside.specs.declared.act.Act.{Act}
 use Rattle.outside.specs.declared.act.Act.TheVariants.{Accept, HangUp}
@@ -47,7 +48,8 @@ pub record HasEnd (session worker : ℕ) (live : Role) (why : Why) (done : List 
 
 -- a worker's open session was ended: whatever is done for its end stands in the step
 pub record EndsOpen (worker : ℕ) (why : Why) (old new : List Event) : Type 0 where
-  pub by : (live : Role) (done : List Act) → map operation_of done ≡ ending_operations live why → HasEnd (open_session_of old worker) worker live why done old new
+  pub by : (live : Role) (done : List Act) → map operation_of done ≡ ending_operations live why
+      → HasEnd (open_session_of old worker) worker live why done old new
 
 -- a worker has no session any more, or a decision was lost
 pub record IsOver (setup : Settings) (worker : ℕ) (seen : List Event) : Type 0 where
@@ -65,7 +67,8 @@ abbrev pub IsPlannedPart : Part → Scene → Scene → Type 0
 IsPlannedPart part b a = part.taken ++ part.unread ≡ bytes_at part.role b.plan (came_count b.acts)
 
 -- a child was served to the end of its session and given back, and the session ended
-pub record HasPart (w : Whose) (live : Role) (why : Why) (old new : List Event) (before after : Option Scene) : Type 0 where
+pub record HasPart (w : Whose) (live : Role) (why : Why) (old new : List Event)
+    (before after : Option Scene) : Type 0 where
   pub part : Part
   pub role : part.role ≡ live
   pub is : IsPart w.service w.exported (EndsSession why) part
@@ -73,7 +76,8 @@ pub record HasPart (w : Whose) (live : Role) (why : Why) (old new : List Event) 
   pub ending : Step
   pub ends : IsEnding w.session live why ending
   pub steps : Steps w.worker (requests_of part ++ ending ∷ []) old new
-  pub played : Goes (Played (step_acts (requests_of part ++ ending ∷ [])) (talk_of part ∷ []) (part.unread ∷ [])) before after
+  pub played : Goes (Played (step_acts (requests_of part ++ ending ∷ [])) (talk_of part ∷ []) (part.unread ∷ []))
+      before after
   pub planned : Goes (IsPlannedPart part) before after
 
 -- a session ended by a fault of a link or a start only where such a count rose
@@ -88,17 +92,22 @@ pub record SpendsAtMost (most : ℕ) (old new : Rights) : Type 0 where
   pub left : old.left ≤ new.left + most
 
 -- a worker whose session has ended has made at most its asks and two more: one beyond the limit, and the end
-pub record LeavesWithin (setup : Settings) (session : ℕ) (rights_old : Rights) (old : List Event) (rights_new : Rights) : Type 0 where
+pub record LeavesWithin (setup : Settings) (session : ℕ) (rights_old : Rights) (old : List Event)
+    (rights_new : Rights) : Type 0 where
   pub worker : rights_new.worker ≡ rights_old.worker
   pub left : rights_old.left + ask_count old session ≤ rights_new.left + setup.requests + 2
 
 -- what followed the change to the user's child: it was served to the end of the session, or could not be started
-abbrev pub AfterChange : Whose → Role → Role → Result (Unit {0}) Failed → Why → List Event → List Event → Option Scene → Option Scene → Type 0
+abbrev pub AfterChange : Whose → Role → Role → Result (Unit {0}) Failed → Why → List Event → List Event → Option Scene
+    → Option Scene → Type 0
 AfterChange w pre user (Ok done) why old new mid after = HasPart w user why old new mid after
-AfterChange w pre user (Err failed) why old new mid after = (why ≡ whys.KeeperFault) × HasEnd w.session w.worker pre whys.KeeperFault (HangUp ∷ []) old new × Did HangUp mid after
+AfterChange w pre user (Err failed) why old new mid after =
+    (why ≡ whys.KeeperFault) × HasEnd w.session w.worker pre whys.KeeperFault (HangUp ∷ []) old new
+    × Did HangUp mid after
 
 -- the child before the login was changed for the user's, and the session was served to its end
-pub record HasSecond (w : Whose) (pre : Role) (link : Option Link) (user : Role) (why : Why) (old new : List Event) (before after : Option Scene) : Type 0 where
+pub record HasSecond (w : Whose) (pre : Role) (link : Option Link) (user : Role) (why : Why) (old new : List Event)
+    (before after : Option Scene) : Type 0 where
   pub outcome : Result (Unit {0}) Failed
   pub mid : Option Scene
   pub change : ChangesChild pre link user outcome before mid
@@ -106,29 +115,38 @@ pub record HasSecond (w : Whose) (pre : Role) (link : Option Link) (user : Role)
 
 -- a user's child may be served in a session, for the account that an EXPORT names
 abbrev pub MayHandOver : Settings → Rights → List Event → ℕ → Event → Type 0
-MayHandOver setup rights seen session e = (logged_in : LoggedIn) → IsNewUser logged_in e → IsServed setup rights seen session (Some logged_in)
+MayHandOver setup rights seen session e =
+    (logged_in : LoggedIn) → IsNewUser logged_in e → IsServed setup rights seen session (Some logged_in)
 
 -- what followed the start of a session's first child: what the children had, and the end
-pub record HasChildren (service : Service) (session worker : ℕ) (why : Why) (old new : List Event) (before after : Option Scene) : Type 0 where
+pub record HasChildren (service : Service) (session worker : ℕ) (why : Why) (old new : List Event)
+    (before after : Option Scene) : Type 0 where
   pub parts : List Part
-  pub are : (opening : Step) → list_any is_failed_start opening.acts ≡ false → opening.place.event.session ≡ session → AreParts service why opening parts
+  pub are : (opening : Step) → list_any is_failed_start opening.acts ≡ false → opening.place.event.session ≡ session
+      → AreParts service why opening parts
   pub ending : Step
   pub ends : IsEnding session (live_role (Pre session) parts) why ending
   pub steps : Steps worker (flat_map requests_of parts ++ ending ∷ []) old new
-  pub played : Goes (Played (step_acts (flat_map requests_of parts ++ ending ∷ [])) (map talk_of parts) (map (λ part. part.unread) parts)) before after
-  pub planned : Goes (λ b a. AllByRecursion (λ part. part.taken ++ part.unread ≡ bytes_at part.role b.plan (came_count b.acts)) parts) before after
+  pub played : Goes (Played (step_acts (flat_map requests_of parts ++ ending ∷ [])) (map talk_of parts)
+      (map (λ part. part.unread) parts)) before after
+  pub planned : Goes (λ b a. AllByRecursion (λ part. part.taken ++ part.unread ≡ bytes_at part.role b.plan
+      (came_count b.acts)) parts) before after
 
 -- what followed the opening of a session: the start of its first child, what the children had, and the end
-pub record HasRest (service : Service) (session worker : ℕ) (why : Why) (old new : List Event) (before after : Option Scene) : Type 0 where
+pub record HasRest (service : Service) (session worker : ℕ) (why : Why) (old new : List Event)
+    (before after : Option Scene) : Type 0 where
   pub start : Act
   pub asked_for : operation_of start ≡ Starts (Pre session)
   pub parts : List Part
-  pub are : (opening : Step) → list_any is_failed_start opening.acts ≡ list_any is_failed_start (start ∷ []) → opening.place.event.session ≡ session → AreParts service why opening parts
+  pub are : (opening : Step) → list_any is_failed_start opening.acts ≡ list_any is_failed_start (start ∷ [])
+      → opening.place.event.session ≡ session → AreParts service why opening parts
   pub ending : Step
   pub ends : IsEnding session (live_role (Pre session) parts) why ending
   pub steps : Steps worker (flat_map requests_of parts ++ ending ∷ []) old new
-  pub played : Goes (Played (start ∷ step_acts (flat_map requests_of parts ++ ending ∷ [])) (map talk_of parts) (map (λ part. part.unread) parts)) before after
-  pub planned : Goes (λ b a. AllByRecursion (λ part. part.taken ++ part.unread ≡ bytes_at part.role b.plan (came_count b.acts)) parts) before after
+  pub played : Goes (Played (start ∷ step_acts (flat_map requests_of parts ++ ending ∷ [])) (map talk_of parts)
+      (map (λ part. part.unread) parts)) before after
+  pub planned : Goes (λ b a. AllByRecursion (λ part. part.taken ++ part.unread ≡ bytes_at part.role b.plan
+      (came_count b.acts)) parts) before after
 
 -- why a session ended, as its end tells; none ends where its opening is lost
 abbrev pub EndsFor : Why → Option Step → Type 0
@@ -136,7 +154,8 @@ EndsFor why None = why ≡ whys.LogLost
 EndsFor why (Some ending) = ending.place.event.ask ≡ End why
 
 -- one session was served over a connection that came
-pub record HasSitting (service : Service) (worker : ℕ) (why : Why) (old new : List Event) (before after : Option Scene) : Type 0 where
+pub record HasSitting (service : Service) (worker : ℕ) (why : Why) (old new : List Event)
+    (before after : Option Scene) : Type 0 where
   pub sitting : Sitting
   pub is : IsSitting service sitting
   pub ended : EndsFor why sitting.ending
@@ -153,9 +172,13 @@ pub record MayOpen (setup : Settings) (rights : Rights) (seen : List Event) : Ty
   pub left : setup.requests + 3 ≤ rights.left
 
 -- a session was opened for a worker, or its opening is lost
-pub record Opens (service : Service) (rights_old : Rights) (old : List Event) (rights_new : Rights) (new : List Event) (e : Event) : Type 0 where
+pub record Opens (service : Service) (rights_old : Rights) (old : List Event) (rights_new : Rights) (new : List Event)
+    (e : Event) : Type 0 where
   pub over : is_lost e.decision ≡ true → IsOver service.setup rights_old.worker new
   pub served : is_lost e.decision ≡ false → IsServed service.setup rights_new new e.session None
   pub asks : is_lost e.decision ≡ false → ask_count new e.session ≡ 0
-  pub lost : is_lost e.decision ≡ true → (before after : Option Scene) → Did HangUp before after → HasSitting service rights_old.worker whys.LogLost old new before after
-  pub sat : is_lost e.decision ≡ false → (why : Why) (last : List Event) (before after : Option Scene) → HasRest service e.session rights_old.worker why new last before after → HasSitting service rights_old.worker why old last before after
+  pub lost : is_lost e.decision ≡ true → (before after : Option Scene) → Did HangUp before after
+      → HasSitting service rights_old.worker whys.LogLost old new before after
+  pub sat : is_lost e.decision ≡ false → (why : Why) (last : List Event) (before after : Option Scene)
+      → HasRest service e.session rights_old.worker why new last before after → HasSitting service rights_old.worker why
+      old last before after

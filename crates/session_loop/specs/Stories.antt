@@ -14,7 +14,8 @@ use Rattle.service_model.specs.Ends.{is_keeper_end, is_link_end}
 use Rattle.service_model.specs.Places.{step_places}
 use Rattle.service_model.specs.Service.{Service}
 use Rattle.service_model.specs.Sittings.{IsSitting, NoneBehindLoss, Sitting, all_steps}
-use Rattle.service_model.specs.Stories.{AcceptFailed, ArePlanned, LastAccept, NoAcceptBehindLoss, NoneLeft, Unasked, parts_of, story_acts, talk_of}
+use Rattle.service_model.specs.Stories.{AcceptFailed, ArePlanned, LastAccept, NoAcceptBehindLoss, NoneLeft, Unasked}
+use Rattle.service_model.specs.Stories.{parts_of, story_acts, talk_of}
 use Rattle.session_asking.specs.Serving.{Steps}
 use Rattle.session_turns.specs.Joins.{Rights}
 use Rattle.session_loop.specs.declared.worker.WorkerEnd.{WorkerEnd}
@@ -35,16 +36,19 @@ abbrev pub asks_among : (Ask → Bool) → List Place → ℕ
 asks_among test places = count_by (λ p. test p.event.ask) places
 
 -- sessions of a worker, one after the other, and its last accept
-pub record HasSittings (service : Service) (worker : ℕ) (sittings : List Sitting) (last : LastAccept) (old new : List Event) (before after : Option Scene) : Type 0 where
+pub record HasSittings (service : Service) (worker : ℕ) (sittings : List Sitting) (last : LastAccept)
+    (old new : List Event) (before after : Option Scene) : Type 0 where
   pub each : AllByRecursion (IsSitting service) sittings
   pub steps : Steps worker (flat_map all_steps sittings) old new
-  pub played : Goes (Played (story_acts sittings last) (map talk_of (parts_of sittings)) (map (λ part. part.unread) (parts_of sittings))) before after
+  pub played : Goes (Played (story_acts sittings last) (map talk_of (parts_of sittings))
+      (map (λ part. part.unread) (parts_of sittings))) before after
   pub planned : Goes (λ b a. ArePlanned b.plan (came_count b.acts) sittings) before after
 
 -- each end by a fault of a link or of a start raised the count of those
 pub record EndsCounted (sittings : List Sitting) (faults_old faults_new : Faults) : Type 0 where
   pub link : RoseBy (asks_among is_link_end (step_places (flat_map all_steps sittings))) faults_old.link faults_new.link
-  pub keeper : RoseBy (asks_among is_keeper_end (step_places (flat_map all_steps sittings))) faults_old.keeper faults_new.keeper
+  pub keeper : RoseBy (asks_among is_keeper_end (step_places (flat_map all_steps sittings))) faults_old.keeper
+      faults_new.keeper
 
 -- the last accept of a worker that ended so
 abbrev pub last_of : WorkerEnd → LastAccept
@@ -54,13 +58,15 @@ last_of ends.AcceptFault = AcceptFailed
 last_of ends.LogLost = Unasked
 
 -- all that a worker did before it ended so
-pub record HasStory (service : Service) (worker : ℕ) (end : WorkerEnd) (old new : List Event) (before after : Option Scene) (faults_old faults_new : Faults) : Type 0 where
+pub record HasStory (service : Service) (worker : ℕ) (end : WorkerEnd) (old new : List Event)
+    (before after : Option Scene) (faults_old faults_new : Faults) : Type 0 where
   pub sittings : List Sitting
   pub are : HasSittings service worker sittings (last_of end) old new before after
   pub alone : NoneBehindLoss sittings
   pub halted : NoAcceptBehindLoss sittings (last_of end)
   pub all : end ≡ ends.AllServed → length sittings ≡ service.setup.connections
-  pub lost : end ≡ ends.LogLost → 1 ≤ count_by (λ p. is_lost p.event.decision) (step_places (flat_map all_steps sittings))
+  pub lost : end ≡ ends.LogLost → 1 ≤ count_by (λ p. is_lost p.event.decision)
+      (step_places (flat_map all_steps sittings))
   pub counted : EndsCounted sittings faults_old faults_new
 
 -- a worker ended because an accept failed

@@ -9,7 +9,8 @@ ghost use Rattle.request_catalogue.specs.Widths.{frame_max};
 ghost use Rattle.session_asking.specs.Known.{IsServed};
 ghost use Rattle.session_asking.specs.Made.{exported_bytes};
 ghost use Rattle.session_asking.specs.Serving.{IsProperTurn, moment, whose};
-ghost use Rattle.session_loop.specs.Child.{Advances, IsForSessions, IsStillReading, KeepsState, PartTaken, Receives, SpendsOn, TurnTaken, ends_part};
+ghost use Rattle.session_loop.specs.Child.{Advances, IsForSessions, IsStillReading, KeepsState, PartTaken, Receives};
+ghost use Rattle.session_loop.specs.Child.{SpendsOn, TurnTaken, ends_part};
 
 use child_keeper::LiveChild;
 use imsg_frame::{Frame, Next, Reader};
@@ -29,7 +30,8 @@ fn receive<L: LiveChild>(child: &mut L, reader: &mut Reader) -> Turn
     ensures max { reader.new.max ≡ reader.old.max }
     ensures reads { IsStillReading result (length reader.old.bytes) (length reader.new.bytes) reader.new.max }
     ensures proper { IsProperTurn result }
-    ensures received { Receives reader.old.width result reader.old.bytes reader.new.bytes (L.link child.old) (L.link child.new) }
+    ensures received { Receives reader.old.width result reader.old.bytes reader.new.bytes (L.link child.old)
+        (L.link child.new) }
     ensures fault { result ≡ Turn.Ends Why.LinkFault → 0 < L.faults child.new }
     ensures kept { L.faults child.old ≤ L.faults child.new }
     ensures role { L.role child.new ≡ L.role child.old }
@@ -63,21 +65,27 @@ fn serve_turn<A: Turns, P: Post, L: LiveChild, T: Texts>(
     replies: &mut Replies<'_, T>,
 ) -> Turn
     requires may { A.may turns.old }
-    requires served { IsServed (T.service replies.old.texts.now).setup (A.rights turns.old) (A.seen turns.old) live.old.session live.old.user }
+    requires served { IsServed (T.service replies.old.texts.now).setup (A.rights turns.old) (A.seen turns.old)
+        live.old.session live.old.user }
     requires setup { A.setup turns.old ≡ (T.service replies.old.texts.now).setup }
     requires width { replies.old.frames.width ≡ (T.service replies.old.texts.now).setup.frames }
     requires frames { IsForSessions (T.service replies.old.texts.now).setup.frames reader.old }
-    ensures taken { TurnTaken (whose (T.service replies.old.texts.now) (exported_bytes replies.old.exported) live.old.session (A.rights turns.old).worker) result (exported_bytes replies.new.exported)
+    ensures taken { TurnTaken (whose (T.service replies.old.texts.now) (exported_bytes replies.old.exported)
+        live.old.session (A.rights turns.old).worker) result (exported_bytes replies.new.exported)
         (moment (A.seen turns.old) (P.scene post.old) (L.link live.old.child))
         (moment (A.seen turns.new) (P.scene post.new) (L.link live.new.child))
         reader.old.bytes reader.new.bytes }
-    ensures spends { SpendsOn (T.service replies.old.texts.now).setup live.old.session result (A.rights turns.old) (A.seen turns.old) (A.rights turns.new) (A.seen turns.new) live.new.user }
+    ensures spends { SpendsOn (T.service replies.old.texts.now).setup live.old.session result (A.rights turns.old)
+        (A.seen turns.old) (A.rights turns.new) (A.seen turns.new) live.new.user }
     ensures advances { result ≡ Turn.GoesOn → let setup = (T.service replies.old.texts.now).setup in
-        Advances setup.requests (frame_max setup.frames) (ask_count (A.seen turns.old) live.old.session) (ask_count (A.seen turns.new) live.old.session) (length reader.old.bytes) (length reader.new.bytes) }
+        Advances setup.requests (frame_max setup.frames) (ask_count (A.seen turns.old) live.old.session)
+        (ask_count (A.seen turns.new) live.old.session) (length reader.old.bytes) (length reader.new.bytes) }
     ensures turns { A.keeps turns.old turns.new × (A.setup turns.new ≡ A.setup turns.old) × A.may turns.new }
-    ensures child { (live.new.session ≡ live.old.session) × (L.role live.new.child ≡ L.role live.old.child) × (L.faults live.old.child ≤ L.faults live.new.child) }
+    ensures child { (live.new.session ≡ live.old.session) × (L.role live.new.child ≡ L.role live.old.child)
+        × (L.faults live.old.child ≤ L.faults live.new.child) }
     ensures exported { KeepsState result (exported_bytes replies.old.exported) (exported_bytes replies.new.exported) }
-    ensures replies { (replies.new.texts.now ≡ replies.old.texts.now) × (replies.new.frames.width ≡ replies.old.frames.width) }
+    ensures replies { (replies.new.texts.now ≡ replies.old.texts.now)
+        × (replies.new.frames.width ≡ replies.old.frames.width) }
     ensures frames { IsForSessions (T.service replies.old.texts.now).setup.frames reader.new }
     ensures user { is_some live.new.user ≡ is_some live.old.user }
     ensures once { (e : Event) → result ≡ Turn.HandsOver e → is_some live.old.user ≡ false }
@@ -115,19 +123,24 @@ pub fn serve_child<A: Turns, P: Post, L: LiveChild, T: Texts>(
     replies: &mut Replies<'_, T>,
 ) -> Turn
     requires may { A.may turns.old }
-    requires served { IsServed (T.service replies.old.texts.now).setup (A.rights turns.old) (A.seen turns.old) live.old.session live.old.user }
+    requires served { IsServed (T.service replies.old.texts.now).setup (A.rights turns.old) (A.seen turns.old)
+        live.old.session live.old.user }
     requires setup { A.setup turns.old ≡ (T.service replies.old.texts.now).setup }
     requires width { replies.old.frames.width ≡ (T.service replies.old.texts.now).setup.frames }
     requires frames { IsForSessions (T.service replies.old.texts.now).setup.frames reader.old }
-    ensures taken { PartTaken (whose (T.service replies.old.texts.now) (exported_bytes replies.old.exported) live.old.session (A.rights turns.old).worker) result (exported_bytes replies.new.exported)
+    ensures taken { PartTaken (whose (T.service replies.old.texts.now) (exported_bytes replies.old.exported)
+        live.old.session (A.rights turns.old).worker) result (exported_bytes replies.new.exported)
         (moment (A.seen turns.old) (P.scene post.old) (L.link live.old.child))
         (moment (A.seen turns.new) (P.scene post.new) (L.link live.new.child))
         reader.old.bytes }
-    ensures spends { SpendsOn (T.service replies.old.texts.now).setup live.old.session result (A.rights turns.old) (A.seen turns.old) (A.rights turns.new) (A.seen turns.new) live.new.user }
+    ensures spends { SpendsOn (T.service replies.old.texts.now).setup live.old.session result (A.rights turns.old)
+        (A.seen turns.old) (A.rights turns.new) (A.seen turns.new) live.new.user }
     ensures turns { A.keeps turns.old turns.new × (A.setup turns.new ≡ A.setup turns.old) × A.may turns.new }
-    ensures child { (live.new.session ≡ live.old.session) × (L.role live.new.child ≡ L.role live.old.child) × (L.faults live.old.child ≤ L.faults live.new.child) }
+    ensures child { (live.new.session ≡ live.old.session) × (L.role live.new.child ≡ L.role live.old.child)
+        × (L.faults live.old.child ≤ L.faults live.new.child) }
     ensures exported { KeepsState result (exported_bytes replies.old.exported) (exported_bytes replies.new.exported) }
-    ensures replies { (replies.new.texts.now ≡ replies.old.texts.now) × (replies.new.frames.width ≡ replies.old.frames.width) }
+    ensures replies { (replies.new.texts.now ≡ replies.old.texts.now)
+        × (replies.new.frames.width ≡ replies.old.frames.width) }
     ensures frames { IsForSessions (T.service replies.old.texts.now).setup.frames reader.new }
     ensures once { (e : Event) → result ≡ Turn.HandsOver e → is_some live.old.user ≡ false }
     ensures proper { IsProperTurn result }

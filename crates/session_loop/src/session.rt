@@ -11,7 +11,8 @@ ghost use Rattle.session_asking.specs.Serving.{whose};
 ghost use Rattle.service_model.specs.Service.{Service};
 ghost use Rattle.session_turns.specs.Joins.{KeepsRights};
 ghost use Rattle.session_loop.specs.Child.{IsForSessions};
-ghost use Rattle.session_loop.specs.Sessions.{EndHasCause, HasChildren, HasPart, HasRest, HasSecond, HasSitting, IsOver, LeavesWithin, MayHandOver, MayOpen, Opens, SpendsAtMost};
+ghost use Rattle.session_loop.specs.Sessions.{EndHasCause, HasChildren, HasPart, HasRest, HasSecond, HasSitting};
+ghost use Rattle.session_loop.specs.Sessions.{IsOver, LeavesWithin, MayHandOver, MayOpen, Opens, SpendsAtMost};
 
 use crate::child::serve_child;
 use crate::ending::{close_pre, close_user, end_session};
@@ -43,20 +44,25 @@ fn serve_user<A: Turns, P: Post, T: Texts>(
     replies: &mut Replies<'_, T>,
 ) -> Why
     requires may { A.may turns.old }
-    requires served { IsServed (T.service replies.old.texts.now).setup (A.rights turns.old) (A.seen turns.old) live.session live.user }
+    requires served { IsServed (T.service replies.old.texts.now).setup (A.rights turns.old) (A.seen turns.old)
+        live.session live.user }
     requires some { is_some live.user ≡ true }
     requires setup { A.setup turns.old ≡ (T.service replies.old.texts.now).setup }
     requires width { replies.old.frames.width ≡ (T.service replies.old.texts.now).setup.frames }
     requires frames { IsForSessions (T.service replies.old.texts.now).setup.frames reader.old }
     requires child { let child = user_child live.child in
-        IsNewChild (P.Child.role child) (P.Child.role child) (P.Child.link child) (P.Child.faults child) (P.scene post.old) }
-    ensures part { HasPart (whose (T.service replies.old.texts.now) (exported_bytes replies.old.exported) live.session (A.rights turns.old).worker) (P.Child.role (user_child live.child)) result
+        IsNewChild (P.Child.role child) (P.Child.role child) (P.Child.link child) (P.Child.faults child)
+        (P.scene post.old) }
+    ensures part { HasPart (whose (T.service replies.old.texts.now) (exported_bytes replies.old.exported) live.session
+        (A.rights turns.old).worker) (P.Child.role (user_child live.child)) result
         (A.seen turns.old) (A.seen turns.new) (P.scene post.old) (P.scene post.new) }
     ensures over { IsOver (T.service replies.old.texts.now).setup (A.rights turns.old).worker (A.seen turns.new) }
-    ensures rights { LeavesWithin (T.service replies.old.texts.now).setup live.session (A.rights turns.old) (A.seen turns.old) (A.rights turns.new) }
+    ensures rights { LeavesWithin (T.service replies.old.texts.now).setup live.session (A.rights turns.old)
+        (A.seen turns.old) (A.rights turns.new) }
     ensures cause { EndHasCause result (P.faults post.old) (P.faults post.new) }
     ensures turns { A.keeps turns.old turns.new × (A.setup turns.new ≡ A.setup turns.old) × A.may turns.new }
-    ensures replies { (replies.new.texts.now ≡ replies.old.texts.now) × (replies.new.frames.width ≡ replies.old.frames.width) }
+    ensures replies { (replies.new.texts.now ≡ replies.old.texts.now)
+        × (replies.new.frames.width ≡ replies.old.frames.width) }
     ensures frames { IsForSessions (T.service replies.old.texts.now).setup.frames reader.new }
 {
     reader.clear();
@@ -99,18 +105,23 @@ fn hand_over<A: Turns, P: Post, T: Texts>(
     requires may { A.may turns.old }
     requires exported { exports handed.event ≡ true }
     requires known { NamesAccount (T.service replies.old.texts.now).setup handed.event }
-    requires served { MayHandOver (T.service replies.old.texts.now).setup (A.rights turns.old) (A.seen turns.old) handed.live.session handed.event }
+    requires served { MayHandOver (T.service replies.old.texts.now).setup (A.rights turns.old) (A.seen turns.old)
+        handed.live.session handed.event }
     requires setup { A.setup turns.old ≡ (T.service replies.old.texts.now).setup }
     requires width { replies.old.frames.width ≡ (T.service replies.old.texts.now).setup.frames }
     requires frames { IsForSessions (T.service replies.old.texts.now).setup.frames reader.old }
     ensures second { let child = pre_child handed.live.child in
-        HasSecond (whose (T.service replies.old.texts.now) (exported_bytes replies.old.exported) handed.live.session (A.rights turns.old).worker) (P.Child.role child) (P.Child.link child) (user_role (T.service replies.old.texts.now).setup handed.event) result
+        HasSecond (whose (T.service replies.old.texts.now) (exported_bytes replies.old.exported) handed.live.session
+        (A.rights turns.old).worker) (P.Child.role child) (P.Child.link child)
+        (user_role (T.service replies.old.texts.now).setup handed.event) result
         (A.seen turns.old) (A.seen turns.new) (P.scene post.old) (P.scene post.new) }
     ensures over { IsOver (T.service replies.old.texts.now).setup (A.rights turns.old).worker (A.seen turns.new) }
-    ensures rights { LeavesWithin (T.service replies.old.texts.now).setup handed.live.session (A.rights turns.old) (A.seen turns.old) (A.rights turns.new) }
+    ensures rights { LeavesWithin (T.service replies.old.texts.now).setup handed.live.session (A.rights turns.old)
+        (A.seen turns.old) (A.rights turns.new) }
     ensures cause { EndHasCause result (P.faults post.old) (P.faults post.new) }
     ensures turns { A.keeps turns.old turns.new × (A.setup turns.new ≡ A.setup turns.old) × A.may turns.new }
-    ensures replies { (replies.new.texts.now ≡ replies.old.texts.now) × (replies.new.frames.width ≡ replies.old.frames.width) }
+    ensures replies { (replies.new.texts.now ≡ replies.old.texts.now)
+        × (replies.new.frames.width ≡ replies.old.frames.width) }
     ensures frames { IsForSessions (T.service replies.old.texts.now).setup.frames reader.new }
 {
     let Handed { live, event } = handed;
@@ -155,20 +166,24 @@ fn serve_pre<A: Turns, P: Post, T: Texts>(
     replies: &mut Replies<'_, T>,
 ) -> Why
     requires may { A.may turns.old }
-    requires served { IsServed (T.service replies.old.texts.now).setup (A.rights turns.old) (A.seen turns.old) live.session live.user }
+    requires served { IsServed (T.service replies.old.texts.now).setup (A.rights turns.old) (A.seen turns.old)
+        live.session live.user }
     requires setup { A.setup turns.old ≡ (T.service replies.old.texts.now).setup }
     requires width { replies.old.frames.width ≡ (T.service replies.old.texts.now).setup.frames }
     requires frames { IsForSessions (T.service replies.old.texts.now).setup.frames reader.old }
     requires nothing { exported_bytes replies.old.exported ≡ [] }
     requires child { let child = pre_child live.child in
-        IsNewChild (Role.Pre live.session) (P.Child.role child) (P.Child.link child) (P.Child.faults child) (P.scene post.old) }
+        IsNewChild (Role.Pre live.session) (P.Child.role child) (P.Child.link child) (P.Child.faults child)
+        (P.scene post.old) }
     ensures children { HasChildren (T.service replies.old.texts.now) live.session (A.rights turns.old).worker result
         (A.seen turns.old) (A.seen turns.new) (P.scene post.old) (P.scene post.new) }
     ensures over { IsOver (T.service replies.old.texts.now).setup (A.rights turns.old).worker (A.seen turns.new) }
-    ensures rights { LeavesWithin (T.service replies.old.texts.now).setup live.session (A.rights turns.old) (A.seen turns.old) (A.rights turns.new) }
+    ensures rights { LeavesWithin (T.service replies.old.texts.now).setup live.session (A.rights turns.old)
+        (A.seen turns.old) (A.rights turns.new) }
     ensures cause { EndHasCause result (P.faults post.old) (P.faults post.new) }
     ensures turns { A.keeps turns.old turns.new × (A.setup turns.new ≡ A.setup turns.old) × A.may turns.new }
-    ensures replies { (replies.new.texts.now ≡ replies.old.texts.now) × (replies.new.frames.width ≡ replies.old.frames.width) }
+    ensures replies { (replies.new.texts.now ≡ replies.old.texts.now)
+        × (replies.new.frames.width ≡ replies.old.frames.width) }
     ensures frames { IsForSessions (T.service replies.old.texts.now).setup.frames reader.new }
 {
     reader.clear();
@@ -195,7 +210,8 @@ fn serve_pre<A: Turns, P: Post, T: Texts>(
 fn open_session<A: Turns>(turns: &mut A) -> Event
     requires may { A.may turns.old }
     requires may_open { MayOpen (A.setup turns.old) (A.rights turns.old) (A.seen turns.old) }
-    ensures opens { (service : Service) → service.setup ≡ A.setup turns.old → Opens service (A.rights turns.old) (A.seen turns.old) (A.rights turns.new) (A.seen turns.new) result }
+    ensures opens { (service : Service) → service.setup ≡ A.setup turns.old → Opens service (A.rights turns.old)
+        (A.seen turns.old) (A.rights turns.new) (A.seen turns.new) result }
     ensures rights { KeepsRights 1 (A.rights turns.old) (A.rights turns.new) }
     ensures turns { A.keeps turns.old turns.new × (A.setup turns.new ≡ A.setup turns.old) × A.may turns.new }
 {
@@ -211,17 +227,20 @@ fn serve_opened<A: Turns, P: Post, T: Texts>(
     replies: &mut Replies<'_, T>,
 ) -> Why
     requires may { A.may turns.old }
-    requires served { IsServed (T.service replies.old.texts.now).setup (A.rights turns.old) (A.seen turns.old) opened.session None }
+    requires served { IsServed (T.service replies.old.texts.now).setup (A.rights turns.old) (A.seen turns.old)
+        opened.session None }
     requires setup { A.setup turns.old ≡ (T.service replies.old.texts.now).setup }
     requires width { replies.old.frames.width ≡ (T.service replies.old.texts.now).setup.frames }
     requires frames { IsForSessions (T.service replies.old.texts.now).setup.frames reader.old }
     ensures rest { HasRest (T.service replies.old.texts.now) opened.session (A.rights turns.old).worker result
         (A.seen turns.old) (A.seen turns.new) (P.scene post.old) (P.scene post.new) }
     ensures over { IsOver (T.service replies.old.texts.now).setup (A.rights turns.old).worker (A.seen turns.new) }
-    ensures rights { LeavesWithin (T.service replies.old.texts.now).setup opened.session (A.rights turns.old) (A.seen turns.old) (A.rights turns.new) }
+    ensures rights { LeavesWithin (T.service replies.old.texts.now).setup opened.session (A.rights turns.old)
+        (A.seen turns.old) (A.rights turns.new) }
     ensures cause { EndHasCause result (P.faults post.old) (P.faults post.new) }
     ensures turns { A.keeps turns.old turns.new × (A.setup turns.new ≡ A.setup turns.old) × A.may turns.new }
-    ensures replies { (replies.new.texts.now ≡ replies.old.texts.now) × (replies.new.frames.width ≡ replies.old.frames.width) }
+    ensures replies { (replies.new.texts.now ≡ replies.old.texts.now)
+        × (replies.new.frames.width ≡ replies.old.frames.width) }
     ensures frames { IsForSessions (T.service replies.old.texts.now).setup.frames reader.new }
 {
     let Opened { session, conn } = opened;
@@ -263,10 +282,12 @@ pub fn run_session<A: Turns, P: Post, T: Texts>(
     ensures sitting { HasSitting (T.service replies.old.texts.now) (A.rights turns.old).worker result
         (A.seen turns.old) (A.seen turns.new) (P.scene post.old) (P.scene post.new) }
     ensures over { IsOver (T.service replies.old.texts.now).setup (A.rights turns.old).worker (A.seen turns.new) }
-    ensures rights { SpendsAtMost ((T.service replies.old.texts.now).setup.requests + 3) (A.rights turns.old) (A.rights turns.new) }
+    ensures rights { SpendsAtMost ((T.service replies.old.texts.now).setup.requests + 3) (A.rights turns.old)
+        (A.rights turns.new) }
     ensures cause { EndHasCause result (P.faults post.old) (P.faults post.new) }
     ensures turns { A.keeps turns.old turns.new × (A.setup turns.new ≡ A.setup turns.old) × A.may turns.new }
-    ensures replies { (replies.new.texts.now ≡ replies.old.texts.now) × (replies.new.frames.width ≡ replies.old.frames.width) }
+    ensures replies { (replies.new.texts.now ≡ replies.old.texts.now)
+        × (replies.new.frames.width ≡ replies.old.frames.width) }
     ensures frames { IsForSessions (T.service replies.old.texts.now).setup.frames reader.new }
 {
     let opening = open_session(turns);

@@ -47,11 +47,13 @@ pub fn serve_worker<A: Turns, P: Post, T: Texts>(
     requires width { replies.old.frames.width ≡ (T.service replies.old.texts.now).setup.frames }
     requires frames { IsForSessions (T.service replies.old.texts.now).setup.frames reader.old }
     ensures story { HasStory (T.service replies.old.texts.now) (A.rights turns.old).worker result
-        (A.seen turns.old) (A.seen turns.new) (P.scene post.old) (P.scene post.new) (P.faults post.old) (P.faults post.new) }
+        (A.seen turns.old) (A.seen turns.new) (P.scene post.old) (P.scene post.new) (P.faults post.old)
+        (P.faults post.new) }
     ensures over { IsOver (T.service replies.old.texts.now).setup (A.rights turns.old).worker (A.seen turns.new) }
     ensures turns { A.keeps turns.old turns.new × (A.setup turns.new ≡ A.setup turns.old) × A.may turns.new }
     ensures worker { (A.rights turns.new).worker ≡ (A.rights turns.old).worker }
-    ensures replies { (replies.new.texts.now ≡ replies.old.texts.now) × (replies.new.frames.width ≡ replies.old.frames.width) }
+    ensures replies { (replies.new.texts.now ≡ replies.old.texts.now)
+        × (replies.new.frames.width ≡ replies.old.frames.width) }
     ensures frames { IsForSessions (T.service replies.old.texts.now).setup.frames reader.new }
     ensures accept_fault { result ≡ WorkerEnd.AcceptFault → 0 < (P.faults post.new).accept }
 {

@@ -1,5 +1,6 @@
 -- Inner: the files that a session has open, as a list.
-use Rattle.std.specs.Prelude.{ℕ, ◌≡◌, ◌++◌, ◌≤◌, ◌==◌, ◌||◌, Bool, true, List, [], ◌∷◌, filter, length, not, Option, Some, None, is_none, nat_le, unwrap_or, if◌then◌else◌}
+use Rattle.std.specs.Prelude.{ℕ, ◌≡◌, ◌++◌, ◌≤◌, ◌==◌, ◌||◌, Bool, true, List, [], ◌∷◌, filter, length, not, Option}
+use Rattle.std.specs.Prelude.{Some, None, is_none, nat_le, unwrap_or, if◌then◌else◌}
 use Rattle.std.specs.List.{find}
 use Rattle.request_catalogue.specs.declared.rules.TheConstants.{HANDLES_SPENT, MODE_LACKING, NO_HANDLE}
 use Rattle.request_catalogue.specs.declared.texts.Label.{Label}
@@ -35,7 +36,8 @@ without handle live = filter (λ file. not (file.handle == handle)) live
 -- the handles are different ones of 1 to a number
 abbrev pub AreUpTo : ℕ → List LiveHandle → Type 0
 AreUpTo most [] = Unit {0}
-AreUpTo most (file ∷ live) = (1 ≤ file.handle) × (file.handle ≤ most) × (is_free file.handle live ≡ true) × AreUpTo most live
+AreUpTo most (file ∷ live) =
+    (1 ≤ file.handle) × (file.handle ≤ most) × (is_free file.handle live ≡ true) × AreUpTo most live
 
 -- the handles are different ones of 1 to 8
 abbrev pub AreHandles : List LiveHandle → Type 0

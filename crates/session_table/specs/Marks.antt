@@ -1,5 +1,6 @@
 -- Inner: which kinds of requests a session was permitted, as a test by each kind's number.
-use Rattle.std.specs.Prelude.{◌≡◌, ◌==◌, ◌||◌, Bool, true, false, List, Option, Some, None, replicate, slice_index_or, slice_set, if◌then◌else◌}
+use Rattle.std.specs.Prelude.{◌≡◌, ◌==◌, ◌||◌, Bool, true, false, List, Option, Some, None, replicate, slice_index_or}
+use Rattle.std.specs.Prelude.{slice_set, if◌then◌else◌}
 use Rattle.request_catalogue.specs.declared.kind.Kind.{Kind}
 use Rattle.request_catalogue.specs.Kinds.{kind_number}
 use Rattle.policy_model.specs.declared.event.Event.{Event}

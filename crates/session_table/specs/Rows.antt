@@ -12,7 +12,8 @@ use Rattle.session_table.specs.Marks.{marks_after, no_marks}
 
 -- a session that was just opened
 abbrev pub new_row : ℕ → SessionRow
-new_row session = record { session = session; account = 0; phase = Pre; bits = no_marks; asked = 0; tries = 0; handles = [] }
+new_row session =
+    record { session = session; account = 0; phase = Pre; bits = no_marks; asked = 0; tries = 0; handles = [] }
 
 -- after an event of the session that doesn't open it: a CHALLENGE is for this account, an OPEN for this grant
 abbrev pub row_after : SessionRow → Event → ℕ → ℕ → SessionRow

@@ -1,5 +1,6 @@
 -- Inner: what a journal says of a session, and a row that knows it.
-use Rattle.std.specs.Prelude.{ℕ, ◌≡◌, ◌<◌, ◌+◌, Bool, true, false, List, [], ◌∷◌, ◌++◌, Option, Some, None, is_some, length, map, nat_le, position, slice_get, unwrap_or, if◌then◌else◌}
+use Rattle.std.specs.Prelude.{ℕ, ◌≡◌, ◌<◌, ◌+◌, Bool, true, false, List, [], ◌∷◌, ◌++◌, Option, Some, None, is_some}
+use Rattle.std.specs.Prelude.{length, map, nat_le, position, slice_get, unwrap_or, if◌then◌else◌}
 use Rattle.std.specs.List.{list_all}
 use Rattle.request_catalogue.specs.declared.kind.Kind.{Kind}
 use Rattle.request_catalogue.specs.declared.texts.Label.{Label}
@@ -10,7 +11,8 @@ use Rattle.policy_model.specs.declared.phase.Phase.{Phase}
 use Rattle.policy_model.specs.declared.phase.Phase.TheVariants.{Pre, Challenged, Verified, User}
 use Rattle.policy_model.specs.declared.reading.TheConstants.{DECOYS_FROM}
 use Rattle.policy_model.specs.Asks.{label_named}
-use Rattle.policy_model.specs.Asks.{accepts, challenge_name, exports, is_denied_reply, opens, opens_file, permits_kind, takes, value_of}
+use Rattle.policy_model.specs.Asks.{accepts, challenge_name, exports, is_denied_reply, opens, opens_file, permits_kind}
+use Rattle.policy_model.specs.Asks.{takes, value_of}
 use Rattle.policy_model.specs.Handles.{live_handles_of}
 use Rattle.policy_model.specs.Journal.{ask_count, count_of, has_event, openings_of}
 use Rattle.policy_model.specs.Logins.{challenged_user, verified_user, was_decoyed}
@@ -30,11 +32,15 @@ number_by setup (Some user) = account_number setup user
 
 -- the account that a permitted CHALLENGE is for: that of its user, and the number of accounts for a decoy
 abbrev pub account_taken : Settings → Event → Option ℕ
-account_taken setup e = if nat_le DECOYS_FROM (value_of e.decision) then Some (length setup.accounts) else number_by setup (challenge_name e.ask)
+account_taken setup e =
+    if nat_le DECOYS_FROM (value_of e.decision) then Some (length setup.accounts)
+    else number_by setup (challenge_name e.ask)
 
 -- the account that a session's last permitted CHALLENGE is for
 abbrev pub account_challenged : Settings → List Event → ℕ → Option ℕ
-account_challenged setup journal session = if was_decoyed journal session then Some (length setup.accounts) else number_by setup (challenged_user journal session)
+account_challenged setup journal session =
+    if was_decoyed journal session then Some (length setup.accounts)
+    else number_by setup (challenged_user journal session)
 
 -- the phases from a challenge on, those from the login on, and those before the user's own child
 abbrev pub has_taken : Phase → Bool
@@ -86,13 +92,15 @@ pub record RowStands (setup : Settings) (row : SessionRow) (journal : List Event
   pub handles : row.handles ≡ map (file_by (grants_at setup row.account)) (live_handles_of journal s)
   pub granted : list_all (is_granted (grants_at setup row.account)) (live_handles_of journal s) ≡ true
 
--- an event fits a session's row: what it permits is for the row's phase, and the account and the grant are those that it names
+-- an event fits a session's row: what it permits is for the row's phase,
+-- and the account and the grant are those that it names
 pub record FitsRow (setup : Settings) (row : SessionRow) (e : Event) (number grant : ℕ) : Type 0 where
   pub later : opens e ≡ false
   pub taking : takes e ≡ true → (row.phase ≡ Pre) × (account_taken setup e ≡ Some number)
   pub accepting : accepts e ≡ true → (row.phase ≡ Challenged) × (row.account < length setup.accounts)
   pub exporting : exports e ≡ true → row.phase ≡ Verified
-  pub opening : opens_file e ≡ true → (row.phase ≡ User) × (grant_number (grants_at setup row.account) (label_named e.ask) ≡ Some grant)
+  pub opening : opens_file e ≡ true → (row.phase ≡ User)
+      × (grant_number (grants_at setup row.account) (label_named e.ask) ≡ Some grant)
 
 -- the account and the grant are those that an event of the session names
 pub record NamesFit (setup : Settings) (row : SessionRow) (e : Event) (number grant : ℕ) : Type 0 where
@@ -101,8 +109,11 @@ pub record NamesFit (setup : Settings) (row : SessionRow) (e : Event) (number gr
 
 -- a row stands for a session that one more event opens
 pub record StandsNew (session : ℕ) (row : SessionRow) : Type 0 where
-  pub by_journal : (setup : Settings) (journal : List Event) (e : Event) → AreNumbered journal (openings_of journal) → opens e ≡ true → e.session ≡ session → session ≡ openings_of journal + 1 → RowStands setup row (journal ++ e ∷ []) session
+  pub by_journal : (setup : Settings) (journal : List Event) (e : Event) → AreNumbered journal (openings_of journal)
+      → opens e ≡ true → e.session ≡ session → session ≡ openings_of journal + 1
+      → RowStands setup row (journal ++ e ∷ []) session
 
 -- what a row becomes stands for a journal and one event more of the session
 pub record StandsAfter (old : SessionRow) (e : Event) (number grant : ℕ) (new : SessionRow) : Type 0 where
-  pub by_journal : (setup : Settings) (journal : List Event) → RowStands setup old journal e.session → FitsRow setup old e number grant → RowStands setup new (journal ++ e ∷ []) e.session
+  pub by_journal : (setup : Settings) (journal : List Event) → RowStands setup old journal e.session
+      → FitsRow setup old e number grant → RowStands setup new (journal ++ e ∷ []) e.session

@@ -1,5 +1,6 @@
 -- Inner: the rows of all workers, and a table that knows what a journal says of each worker's session.
-use Rattle.std.specs.Prelude.{ℕ, ◌≡◌, ◌≢◌, ◌<◌, ◌+◌, ◌-◌, ◌^◌, ◌&&◌, true, false, List, [], ◌∷◌, ◌++◌, Option, Some, None, length, replicate, slice_index_or, slice_set}
+use Rattle.std.specs.Prelude.{ℕ, ◌≡◌, ◌≢◌, ◌<◌, ◌+◌, ◌-◌, ◌^◌, ◌&&◌, true, false, List, [], ◌∷◌, ◌++◌, Option, Some}
+use Rattle.std.specs.Prelude.{None, length, replicate, slice_index_or, slice_set}
 use Rattle.policy_model.specs.declared.event.Event.{Event}
 use Rattle.policy_model.specs.Asks.{is_end, is_lost, is_permit, opens}
 use Rattle.policy_model.specs.Journal.{open_session_of, openings_of}
@@ -30,7 +31,8 @@ new_table workers = record { rows = replicate workers None; begun = 0 }
 
 -- the worker opens the next session
 abbrev pub table_begun : TableParts → ℕ → TableParts
-table_begun table worker = record { rows = slice_set table.rows worker (Some (new_row (table.begun + 1))); begun = table.begun + 1 }
+table_begun table worker =
+    record { rows = slice_set table.rows worker (Some (new_row (table.begun + 1))); begun = table.begun + 1 }
 
 -- the worker's session ends
 abbrev pub table_ended : TableParts → ℕ → TableParts
@@ -46,7 +48,8 @@ abbrev pub rows_after : List (Option SessionRow) → ℕ → Event → ℕ → �
 rows_after rows worker e account grant = slice_set rows worker (worker_after (row_in rows worker) e account grant)
 
 abbrev pub table_after : TableParts → ℕ → Event → ℕ → ℕ → TableParts
-table_after table worker e account grant = record { rows = rows_after table.rows worker e account grant; begun = table.begun }
+table_after table worker e account grant =
+    record { rows = rows_after table.rows worker e account grant; begun = table.begun }
 
 -- there is room for one more ask and one more denied reply, and a file that is opened has a new handle
 pub record FitsCounts (row : SessionRow) (e : Event) : Type 0 where
@@ -87,12 +90,17 @@ pub record StandsOpen (workers : ℕ) (table : TableParts) : Type 0 where
 
 -- what a table becomes stands for a journal and one event more, by which the worker opens a session
 pub record StandsBegun (old : TableParts) (worker : ℕ) (new : TableParts) : Type 0 where
-  pub by_journal : (setup : Settings) (journal : List Event) (e : Event) → TableStands setup old journal → Follows setup journal worker e → opens e ≡ true → TableStands setup new (journal ++ e ∷ [])
+  pub by_journal : (setup : Settings) (journal : List Event) (e : Event) → TableStands setup old journal
+      → Follows setup journal worker e → opens e ≡ true → TableStands setup new (journal ++ e ∷ [])
 
 -- so with an event by which the worker's session ends
 pub record StandsEnded (old : TableParts) (worker : ℕ) (new : TableParts) : Type 0 where
-  pub by_journal : (setup : Settings) (journal : List Event) (e : Event) → TableStands setup old journal → Follows setup journal worker e → is_end e.ask ≡ true → is_permit e.decision ≡ true → TableStands setup new (journal ++ e ∷ [])
+  pub by_journal : (setup : Settings) (journal : List Event) (e : Event) → TableStands setup old journal
+      → Follows setup journal worker e → is_end e.ask ≡ true → is_permit e.decision ≡ true
+      → TableStands setup new (journal ++ e ∷ [])
 
 -- so with an event that neither opens nor ends a session
 pub record StandsKept (old : TableParts) (worker : ℕ) (e : Event) (number grant : ℕ) (new : TableParts) : Type 0 where
-  pub by_journal : (setup : Settings) (journal : List Event) → TableStands setup old journal → Follows setup journal worker e → opens e ≡ false → (is_end e.ask && is_permit e.decision) ≡ false → NamesFound setup (row_at old worker) e number grant → TableStands setup new (journal ++ e ∷ [])
+  pub by_journal : (setup : Settings) (journal : List Event) → TableStands setup old journal
+      → Follows setup journal worker e → opens e ≡ false → (is_end e.ask && is_permit e.decision) ≡ false
+      → NamesFound setup (row_at old worker) e number grant → TableStands setup new (journal ++ e ∷ [])

@@ -5,7 +5,8 @@ ghost use Rattle.std.specs.List.{find};
 ghost use Rattle.std.specs.Option.{option_copied};
 ghost use Rattle.policy_model.specs.Settings.{same_label};
 ghost use Rattle.policy_model.specs.Cases.{grant_verdict};
-ghost use Rattle.session_table.specs.Files.{FitsFiles, IsNewHandle, close_decision, file_at, files_after, free_of, is_free, look_of, open_decision, use_decision, without};
+ghost use Rattle.session_table.specs.Files.{FitsFiles, IsNewHandle, close_decision, file_at, files_after, free_of};
+ghost use Rattle.session_table.specs.Files.{is_free, look_of, open_decision, use_decision, without};
 ghost use Rattle.session_table.specs.Standing.{grant_number};
 ghost use Rattle.session_table.specs.Judging.{IsCloseVerdict, IsOpenVerdict, IsUseVerdict};
 

@@ -3,7 +3,8 @@
 ghost use Rattle.std.specs.Prelude.{◌≡◌, ◌<◌, ◌-◌, ◌^◌, ◌+◌, None, IfOk, is_none, is_some, true, length, slice_set};
 ghost use Rattle.std.specs.Option.{option_copied};
 ghost use Rattle.session_table.specs.Rows.{is_use};
-ghost use Rattle.session_table.specs.Tables.{FitsWorker, StandsBegun, StandsEnded, StandsKept, StandsOpen, new_table, row_at, rows_after, table_after, table_begun, table_ended};
+ghost use Rattle.session_table.specs.Tables.{FitsWorker, StandsBegun, StandsEnded, StandsKept, StandsOpen, new_table};
+ghost use Rattle.session_table.specs.Tables.{row_at, rows_after, table_after, table_begun, table_ended};
 
 use crate::rows::SessionRow;
 use policy_model::Event;

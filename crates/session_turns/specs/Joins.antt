@@ -22,7 +22,8 @@ pub record KeepsRights (asks : ℕ) (old new : Rights) : Type 0 where
   pub worker : new.worker ≡ old.worker
   pub made : new.left + asks ≡ old.left
 
--- events of others say nothing of a session: how many asks it made, whether it exported, who is logged in, which files are open
+-- events of others say nothing of a session: how many asks it made,
+-- whether it exported, who is logged in, which files are open
 pub record SessionStays (session : ℕ) (old new : List Event) : Type 0 where
   pub asks : ask_count new session ≡ ask_count old session
   pub exported : has_event new session exports ≡ has_event old session exports

@@ -27,7 +27,8 @@ rights_of pass = record { worker = pass.number; left = pass.quota - length pass.
 abbrev pub OpenedBy : Settings → Option Opened → Type 0
 OpenedBy setup terms = (opened : Opened) × (terms ≡ Some opened) × (opened.setup ≡ setup)
 
--- the pass is of this cell, which is over a book of this setup; its number is a worker's, its own events are all that what it has seen holds of that worker, and what it has seen is a run
+-- the pass is of this cell, which is over a book of this setup; its number is a worker's, its own
+-- events are all that what it has seen holds of that worker, and what it has seen is a run
 pub record IsPassAt (setup : Settings) (place : CellFacts (Option Opened)) (pass : BookPass) : Type 0 where
   pub here : pass.cell ≡ place.id
   pub same : pass.terms ≡ place.terms
@@ -57,9 +58,11 @@ pub record IsCalled (old new : BookPass) (ask : Ask) (e : Event) : Type 0 where
   pub reply : (worker_of e ≡ old.number) × (e.ask ≡ ask)
 
 -- a closure that makes the calls of a cell
-pub record IsCaller {F P : Type 0} (g : Shared F (MutBor P × (Ask × Unit {0})) (Event × (MutBor P × Unit {0}))) (facts : P → BookPass) (place : CellFacts (Option Opened)) (f : F) : Type 0 where
+pub record IsCaller {F P : Type 0} (g : Shared F (MutBor P × (Ask × Unit {0})) (Event × (MutBor P × Unit {0})))
+    (facts : P → BookPass) (place : CellFacts (Option Opened)) (f : F) : Type 0 where
   pub can : (p : MutBor P) (ask : Ask) → MayCall place (facts p.now) ask → g.pre f (p, (ask, tt))
-  pub gives : (p q : MutBor P) (ask : Ask) (e : Event) → MayCall place (facts p.now) ask → g.post f (p, (ask, tt)) (e, (q, tt)) → IsCalled (facts p.now) (facts q.now) ask e
+  pub gives : (p q : MutBor P) (ask : Ask) (e : Event) → MayCall place (facts p.now) ask
+      → g.post f (p, (ask, tt)) (e, (q, tt)) → IsCalled (facts p.now) (facts q.now) ask e
 
 -- what is fixed of a book
 abbrev pub opened_of : BookParts → Opened
@@ -71,4 +74,5 @@ OwnsAll pass = replies_of worker_of pass.number pass.seen ≡ pass.mine
 
 -- the journal begins with what a pass has seen, and holds no more of its worker
 abbrev pub IsHeldBy : List Event → BookPass → Type 0
-IsHeldBy journal pass = StartsWith journal pass.seen × (worker_places journal pass.number ≡ worker_places pass.seen pass.number)
+IsHeldBy journal pass =
+    StartsWith journal pass.seen × (worker_places journal pass.number ≡ worker_places pass.seen pass.number)

@@ -19,7 +19,8 @@ use Rattle.setup_reading.specs.declared.reading.SetupFileError.TheVariants as er
 
 -- the setup that a file's bytes spell, or the first fault; a file has at most 8,388,608 bytes
 unfoldable pub judged_setup : List ℕ → Result SetupEntries SetupFault
-judged_setup bytes = demand_at (top keys.File) rules.TooLong (then_some (nat_le (length bytes) 8388608) bytes) >>= setup_of
+judged_setup bytes =
+    demand_at (top keys.File) rules.TooLong (then_some (nat_le (length bytes) 8388608) bytes) >>= setup_of
 
 -- what the named file says of a setup, if there is such a file
 abbrev pub setup_in : Contents → List ℕ → Option (Result SetupEntries SetupFault)
@@ -34,7 +35,8 @@ abbrev pub IsSetupError : Option Contents → List ℕ → Type 0 → SetupFileE
 IsSetupError contents name ReadFailed errors.Failed = ReadFailed
 IsSetupError contents name ReadFailed errors.OutOfMemory = Unit {0}
 IsSetupError contents name ReadFailed errors.Missing = IfSome contents (λ files. setup_in files name ≡ None)
-IsSetupError contents name ReadFailed (errors.Refused fault) = IfSome contents (λ files. setup_in files name ≡ Some (Err fault))
+IsSetupError contents name ReadFailed (errors.Refused fault) =
+    IfSome contents (λ files. setup_in files name ≡ Some (Err fault))
 
 -- the errors that are handed on
 abbrev pub error_of_front : FrontError → SetupFileError

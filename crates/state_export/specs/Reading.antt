@@ -19,7 +19,9 @@ pub record Field : Type 0 where
 
 -- the content of a field whose length is in range, and the bytes after it
 abbrev pub content_of : ℕ → ℕ → ℕ → List ℕ → Result Field StateFault
-content_of low high len bytes = demand Length (then_some (nat_le low len && nat_le len high && nat_le len (length bytes)) (record { content = take len bytes; behind = drop len bytes }))
+content_of low high len bytes =
+    demand Length (then_some (nat_le low len && nat_le len high && nat_le len (length bytes))
+        (record { content = take len bytes; behind = drop len bytes }))
 
 -- the field at the front of these bytes, if it has this tag and a content of `low` to `high` bytes
 abbrev pub field_of : ℕ → ℕ → ℕ → List ℕ → Result Field StateFault
@@ -35,7 +37,8 @@ state_of bytes = do
   terminal ← field_of 1 0 64 fields
   unread ← field_of 2 0 4096 terminal.behind
   counts ← field_of 3 8 8 unread.behind
-  demand Trailing (then_some (length counts.behind == 0) (record { terminal = terminal.content; unread = unread.content; lines = number_at w32 0 counts.content; bytes = number_at w32 4 counts.content }))
+  demand Trailing (then_some (length counts.behind == 0) (record { terminal = terminal.content; unread = unread.content;
+      lines = number_at w32 0 counts.content; bytes = number_at w32 4 counts.content }))
 
 -- the import record of a user and a state, or the state's fault
 abbrev pub imported : ℕ → List ℕ → Result StateValue StateFault → Result ImportValue ImportFault
@@ -46,6 +49,7 @@ imported uid user (Err fault) = Err (InState fault)
 unfoldable pub import_of : List ℕ → Result ImportValue ImportFault
 import_of bytes = do
   there ← demand Head (then_some (nat_le 5 (length bytes)) bytes)
-  user ← demand Head (then_some (nat_le (slice_index there 4) (length (drop 5 there))) (take (slice_index there 4) (drop 5 there)))
+  user ← demand Head (then_some (nat_le (slice_index there 4) (length (drop 5 there)))
+      (take (slice_index there 4) (drop 5 there)))
   named ← demand Head (then_some (is_name user) user)
   imported (number_at w32 0 there) named (state_of (drop (slice_index there 4) (drop 5 there)))

@@ -53,11 +53,14 @@ fn put_import(uid: u32, user: &Name, state: &[u8], out: &mut [u8]) -> usize
 /// Reads the import record that the bytes spell; otherwise their first fault.
 pub fn read_import(body: &[u8]) -> Result<Import<'_>, ImportFault>
     // What is read is in range and spelled so.
-    ensures found { IfOk result (λ i. let v = import_value i in IsImport v × (body.now ≡ import_bytes v.uid v.user (state_bytes v.state))) }
+    ensures found { IfOk result (λ i. let v = import_value i in IsImport v
+        × (body.now ≡ import_bytes v.uid v.user (state_bytes v.state))) }
     // What is in range and spelled so is read.
-    ensures only { (v : ImportValue) → IsImport v → body.now ≡ import_bytes v.uid v.user (state_bytes v.state) → IsOkAnd result (λ i. import_value i ≡ v) }
+    ensures only { (v : ImportValue) → IsImport v → body.now ≡ import_bytes v.uid v.user (state_bytes v.state)
+        → IsOkAnd result (λ i. import_value i ≡ v) }
     // The record or the first fault.
-    ensures exact { MatchResult result (λ i. import_of body.now ≡ Ok (import_value i)) (λ e. import_of body.now ≡ Err e) }
+    ensures exact { MatchResult result (λ i. import_of body.now ≡ Ok (import_value i)) (λ e. import_of body.now
+        ≡ Err e) }
 {
     import_of(body)
 }

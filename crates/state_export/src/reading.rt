@@ -21,7 +21,8 @@ pub fn read_state(bytes: &[u8]) -> Result<State<'_>, StateFault>
     // What is read is in range and spelled so.
     ensures found { IfOk result (λ s. IsState (value_of s) × (bytes.now ≡ state_bytes (value_of s))) }
     // What is in range and spelled so is read.
-    ensures only { (value : StateValue) → IsState value → bytes.now ≡ state_bytes value → IsOkAnd result (λ s. value_of s ≡ value) }
+    ensures only { (value : StateValue) → IsState value → bytes.now ≡ state_bytes value
+        → IsOkAnd result (λ s. value_of s ≡ value) }
     // The state or the first fault.
     ensures exact { MatchResult result (λ s. state_of bytes.now ≡ Ok (value_of s)) (λ e. state_of bytes.now ≡ Err e) }
 {
@@ -52,7 +53,9 @@ fn state_of(bytes: &[u8]) -> Result<State<'_>, StateFault>
 /// The field at the front of the bytes, with this tag and a content of low to high bytes.
 #[tactic(auto, unfolding(request_catalogue::specs::Fields::number_at))]
 fn field_of(tag: u8, low: usize, high: usize, bytes: &[u8]) -> Result<Field<'_>, StateFault>
-    ensures read { MatchResult result (λ f. field_of tag low high bytes.now ≡ Ok (record { content = f.content.now; behind = f.behind.now })) (λ e. field_of tag low high bytes.now ≡ Err e) }
+    ensures read { MatchResult result (λ f. field_of tag low high bytes.now
+        ≡ Ok (record { content = f.content.now; behind = f.behind.now })) (λ e. field_of tag low high bytes.now
+        ≡ Err e) }
     ensures len { IfOk result (λ f. (low ≤ length f.content.now) × (length f.content.now ≤ high)) }
 {
     let [found, first, second, rest @ ..] = bytes else {
@@ -71,7 +74,9 @@ fn field_of(tag: u8, low: usize, high: usize, bytes: &[u8]) -> Result<Field<'_>,
 
 /// The content of so many bytes, from low to high, and what stands after it.
 fn content_of(low: usize, high: usize, len: usize, bytes: &[u8]) -> Result<Field<'_>, StateFault>
-    ensures read { MatchResult result (λ f. content_of low high len bytes.now ≡ Ok (record { content = f.content.now; behind = f.behind.now })) (λ e. content_of low high len bytes.now ≡ Err e) }
+    ensures read { MatchResult result (λ f. content_of low high len bytes.now
+        ≡ Ok (record { content = f.content.now; behind = f.behind.now })) (λ e. content_of low high len bytes.now
+        ≡ Err e) }
     ensures len { IfOk result (λ f. (low ≤ length f.content.now) × (length f.content.now ≤ high)) }
 {
     if !is_length(low, high, len, bytes) {

@@ -40,7 +40,8 @@ fn put_field(out: &mut [u8], at: usize, tag: u8, content: &[u8]) -> usize
     requires few { length content.now ≤ 4096 }
     requires room { at + 3 + length content.now ≤ length out.old }
     ensures end { result ≡ at + length (field_bytes tag content.now) }
-    ensures out { out.new ≡ take at out.old ++ field_bytes tag content.now ++ drop (at + length (field_bytes tag content.now)) out.old }
+    ensures out { out.new ≡ take at out.old ++ field_bytes tag content.now
+        ++ drop (at + length (field_bytes tag content.now)) out.old }
 {
     let at = put(out, at, &[tag]);
     let at = put(out, at, &(content.len() as u16).to_le_bytes());

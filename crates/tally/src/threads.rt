@@ -81,7 +81,8 @@ where
     requires room { O.passes object * O.quota object < 2 ^ 64 }
     requires proper { O.proper call }
     requires quota { times ≤ O.quota object }
-    ensures calls { IfOk result (λ o. (n : ℕ) → n < O.passes object → length (replies_of O.owner n (O.history o)) ≡ times) }
+    ensures calls { IfOk result (λ o. (n : ℕ) → n < O.passes object → length (replies_of O.owner n (O.history o))
+        ≡ times) }
     ensures owners { IfOk result (λ o. All (λ r. O.owner r < O.passes object) (O.history o)) }
     ensures legal { IfOk result (λ o. O.legal (O.terms o) (O.history o)) }
     ensures err { IfErr result (λ e. e.0 ≡ object) }

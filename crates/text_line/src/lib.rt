@@ -100,7 +100,8 @@ const FRONT_MAX: usize = 19;
 /// they are too many.
 #[tactic(auto, using(crate::proofs::Digits::digits))]
 fn front_of(digits: &[u8]) -> Option<u64>
-    ensures { result ≡ then_some (all_ascii_digits digits.now && nat_le (length digits.now) FRONT_MAX) (digits_value 10 digits.now) }
+    ensures { result ≡ then_some (all_ascii_digits digits.now && nat_le (length digits.now) FRONT_MAX)
+        (digits_value 10 digits.now) }
 {
     if digits.len() > FRONT_MAX {
         return None;
@@ -114,7 +115,8 @@ fn front_of(digits: &[u8]) -> Option<u64>
 
 /// The number that a last digit makes after a front, where 64 bits hold it.
 fn with_digit(front: u64, last: u8) -> Option<u64>
-    ensures { let number = front * 10 + digit_value last in result ≡ then_some (is_ascii_digit last && nat_lt number (2 ^ 64)) number }
+    ensures { let number = front * 10 + digit_value last in result ≡ then_some (is_ascii_digit last
+        && nat_lt number (2 ^ 64)) number }
 {
     front.checked_mul(10)?.checked_add(digit_of(last)?)
 }

@@ -1,5 +1,6 @@
 -- Inner: the rule of a cell between any two steps, and what each step tells.
-use Rattle.std.specs.Prelude.{◌≡◌, ℕ, ◌+◌, ◌*◌, ◌^◌, ◌==◌, ◌<◌, ◌≤◌, ◌≢◌, ◌⊎◌, List, [], ◌∷◌, ◌++◌, length, true, false, MatchBool}
+use Rattle.std.specs.Prelude.{◌≡◌, ℕ, ◌+◌, ◌*◌, ◌^◌, ◌==◌, ◌<◌, ◌≤◌, ◌≢◌, ◌⊎◌, List, [], ◌∷◌, ◌++◌, length, true, false}
+use Rattle.std.specs.Prelude.{MatchBool}
 use Rattle.std.specs.Prelude.{Option as Maybe, Some, None}
 use mathlib.Core.Option.{Option, none, some}
 use lib.ListN.{get_elem?}
@@ -49,11 +50,14 @@ pub data Covers {R T : Type 0} (v : View R T) (n : ℕ) : Type 0 where
 
 -- what the pass knew is still known: by itself, or as what was taken in
 abbrev pub KeptIn : {R T : Type 0} → View R T → PassFacts R T → Type 0
-KeptIn v p = ((v.number ≡ p.number) × (v.seen ≡ p.seen) × (v.mine ≡ p.mine)) ⊎ Among v.folded (record { number = p.number; seen = p.seen; mine = p.mine })
+KeptIn v p = ((v.number ≡ p.number) × (v.seen ≡ p.seen) × (v.mine ≡ p.mine))
+    ⊎ Among v.folded (record { number = p.number; seen = p.seen; mine = p.mine })
 
-module _ {O R T : Type 0} (history : O → List R) (owner : R → ℕ) (setting : O → Setting T) (legal : T → List R → Type 0) where
+module _ {O R T : Type 0} (history : O → List R) (owner : R → ℕ) (setting : O → Setting T) (legal : T → List R
+    → Type 0) where
   -- a pass has seen a beginning of the history, and knows its own replies; who has the turn has seen all
-  pub record Fits (t : Setting T) (homes : List (Option O)) (log : List R) (holder : ℕ) (seat : ℕ) (v : View R T) : Type 0 where
+  pub record Fits (t : Setting T) (homes : List (Option O)) (log : List R) (holder : ℕ) (seat : ℕ) (v : View R T) : Type
+      0 where
     pub seen : StartsWith log v.seen
     pub mine : v.live ≡ true → replies_of owner v.number log ≡ v.mine
     pub setting_same : v.live ≡ true → setting_of v ≡ t
@@ -78,11 +82,15 @@ module _ {O R T : Type 0} (history : O → List R) (owner : R → ℕ) (setting 
     pub held : turn ≢ 0 → (u : View R T) × (get_elem? s.views holder ≡ some u) × (u.holding ≡ true)
     pub fits : (seat : ℕ) (v : View R T) → get_elem? s.views seat ≡ some v → Fits t s.homes log holder seat v
     -- no two passes have one number
-    pub apart : (i j n : ℕ) (v w : View R T) → get_elem? s.views i ≡ some v → get_elem? s.views j ≡ some w → Covers v n → Covers w n → i ≡ j
+    pub apart : (i j n : ℕ) (v w : View R T) → get_elem? s.views i ≡ some v → get_elem? s.views j ≡ some w → Covers v n
+        → Covers w n → i ≡ j
 
   -- the seat has the turn and the object, and has seen all of its history
   abbrev pub HasTurn : Me O (View R T) → Me O (View R T) → Type 0
-  HasTurn me me' = (y : O) × (me'.1 ≡ (0, y) ∷ me.1) × (me'.0 ≡ record me.0 { seen = history y; holding = true }) × StartsWith (history y) me.0.seen × (replies_of owner me.0.number (history y) ≡ me.0.mine) × legal me.0.terms (history y) × (setting y ≡ setting_of me.0) × (me.0.number < me.0.passes)
+  HasTurn me me' =
+      (y : O) × (me'.1 ≡ (0, y) ∷ me.1) × (me'.0 ≡ record me.0 { seen = history y; holding = true })
+      × StartsWith (history y) me.0.seen × (replies_of owner me.0.number (history y) ≡ me.0.mine)
+      × legal me.0.terms (history y) × (setting y ≡ setting_of me.0) × (me.0.number < me.0.passes)
 
   -- the turn was taken if it was free
   abbrev pub Took : Me O (View R T) → ℕ → Me O (View R T) → Type 0
@@ -90,15 +98,22 @@ module _ {O R T : Type 0} (history : O → List R) (owner : R → ℕ) (setting 
 
   -- the object has given one reply more, to this pass
   abbrev pub HasReply : Me O (View R T) → Type 0
-  HasReply me = (y : O) × (r : R) × (me.1 ≡ (0, y) ∷ []) × ((me.0.holding ≡ true) × IsSingle me.0) × (history y ≡ me.0.seen ++ r ∷ []) × (owner r ≡ me.0.number) × (length me.0.mine < me.0.quota) × legal me.0.terms (history y) × (setting y ≡ setting_of me.0)
+  HasReply me =
+      (y : O) × (r : R) × (me.1 ≡ (0, y) ∷ []) × ((me.0.holding ≡ true) × IsSingle me.0)
+      × (history y ≡ me.0.seen ++ r ∷ []) × (owner r ≡ me.0.number) × (length me.0.mine < me.0.quota)
+      × legal me.0.terms (history y) × (setting y ≡ setting_of me.0)
 
   -- the reply has joined the history
   abbrev pub Counted : Me O (View R T) → Me O (View R T) → Type 0
-  Counted me me' = (y : O) → me.1 ≡ (0, y) ∷ [] → me' ≡ (record me.0 { seen = history y; mine = replies_of owner me.0.number (history y) }, me.1)
+  Counted me me' =
+      (y : O) → me.1 ≡ (0, y) ∷ []
+      → me' ≡ (record me.0 { seen = history y; mine = replies_of owner me.0.number (history y) }, me.1)
 
   -- the object's replies have all joined the history
   abbrev pub IsCounted : Me O (View R T) → Type 0
-  IsCounted me = (y : O) × (me.1 ≡ (0, y) ∷ []) × (me.0.holding ≡ true) × (me.0.live ≡ true) × (history y ≡ me.0.seen) × (setting y ≡ setting_of me.0)
+  IsCounted me =
+      (y : O) × (me.1 ≡ (0, y) ∷ []) × (me.0.holding ≡ true) × (me.0.live ≡ true) × (history y ≡ me.0.seen)
+      × (setting y ≡ setting_of me.0)
 
   -- the turn was given back, with the object
   abbrev pub Gave : Me O (View R T) → Me O (View R T) → Type 0
@@ -106,20 +121,26 @@ module _ {O R T : Type 0} (history : O → List R) (owner : R → ℕ) (setting 
 
   -- the pass made one call, and its reply is the last of what was seen
   abbrev pub MadeCall : Me O (View R T) → R → Me O (View R T) → Type 0
-  MadeCall me r me' = (log : List R) × (me' ≡ (record me.0 { seen = log; mine = me.0.mine ++ r ∷ []; holding = false }, [])) × StartsWith log me.0.seen × EndsWith log r × legal me.0.terms log × (replies_of owner me.0.number log ≡ me.0.mine ++ r ∷ [])
+  MadeCall me r me' =
+      (log : List R) × (me' ≡ (record me.0 { seen = log; mine = me.0.mine ++ r ∷ []; holding = false }, []))
+      × StartsWith log me.0.seen × EndsWith log r × legal me.0.terms log
+      × (replies_of owner me.0.number log ≡ me.0.mine ++ r ∷ [])
 
   -- once every pass was taken in, the object is at home, with what each has seen and made
   pub record Back (t : Setting T) (v : View R T) (o : O) : Type 0 where
     pub seen : StartsWith (history o) v.seen
     pub mine : replies_of owner v.number (history o) ≡ v.mine
-    pub marks : (m : Mark R) → Among v.folded m → StartsWith (history o) m.seen × (replies_of owner m.number (history o) ≡ m.mine)
+    pub marks : (m : Mark R) → Among v.folded m → StartsWith (history o) m.seen
+        × (replies_of owner m.number (history o) ≡ m.mine)
     pub same : setting o ≡ t
     pub legal_all : legal t.terms (history o)
     pub within : IsWithin owner t.passes t.quota (history o)
 
 -- a pass of this number that can give all above it, and has seen nothing
 abbrev pub pass_from : {R T : Type 0} → Setting T → ℕ → View R T
-pass_from t n = record { number = n; terms = t.terms; passes = t.passes; quota = t.quota; seen = []; mine = []; holding = false; live = true; from = n + 1; until = t.passes; folded = [] }
+pass_from t n =
+    record { number = n; terms = t.terms; passes = t.passes; quota = t.quota; seen = []; mine = []; holding = false;
+        live = true; from = n + 1; until = t.passes; folded = [] }
 
 abbrev pub newcomer : {R T : Type 0} → Setting T → View R T
 newcomer t = pass_from t 0
@@ -139,4 +160,5 @@ joined v w = record v { folded = mark_of w ∷ v.folded }
 
 -- what a pass is that was taken in
 abbrev pub spent : {R T : Type 0} → T → View R T
-spent t = record { number = 0; terms = t; passes = 0; quota = 0; seen = []; mine = []; holding = false; live = false; from = 0; until = 0; folded = [] }
+spent t = record { number = 0; terms = t; passes = 0; quota = 0; seen = []; mine = []; holding = false; live = false;
+    from = 0; until = 0; folded = [] }

@@ -1,7 +1,9 @@
 //! The cell.
-ghost use Rattle.std.specs.Prelude.{◌≡◌, ℕ, ◌+◌, ◌*◌, ◌<◌, ◌≤◌, ◌^◌, List, [], ◌∷◌, ◌++◌, length, vec_len, vec_capacity, true, false, Some, None, IfOk, IfErr};
+ghost use Rattle.std.specs.Prelude.{◌≡◌, ℕ, ◌+◌, ◌*◌, ◌<◌, ◌≤◌, ◌^◌, List, [], ◌∷◌, ◌++◌, length, vec_len};
+ghost use Rattle.std.specs.Prelude.{vec_capacity, true, false, Some, None, IfOk, IfErr};
 ghost use Rattle.std.specs.List.{All};
-ghost use Rattle.turn_cell.specs.Facts.{StartsWith, EndsWith, replies_of, IsSamePass, IsCellOf, AreNewPasses, AreAllPasses, HoldsPass, first_passes, cell_facts};
+ghost use Rattle.turn_cell.specs.Facts.{StartsWith, EndsWith, replies_of, IsSamePass, IsCellOf, AreNewPasses};
+ghost use Rattle.turn_cell.specs.Facts.{AreAllPasses, HoldsPass, first_passes, cell_facts};
 ghost use Rattle.turn_cell.specs.Turns.{setting_at, LegalAt, IsSeatAt, Covers, KeptIn, Back, newcomer, pass_from};
 
 use crate::object::Object;
@@ -144,7 +146,8 @@ fn deal<O: Object>(top: &CellTable<O>, first: PassSeat<O>, count: u32, passes: &
     requires count { (count ≡ O.passes top.now.key.value) × (0 < count) }
     requires room { O.passes top.now.key.value * O.quota top.now.key.value < 2 ^ 64 }
     requires empty { (passes.old.items ≡ []) × (count ≤ vec_capacity passes.old) }
-    ensures { passes.new.items ≡ first_passes (cell_facts O.terms O.passes O.quota top.now.table_id top.now.key.value) count }
+    ensures { passes.new.items ≡ first_passes (cell_facts O.terms O.passes O.quota top.now.table_id top.now.key.value)
+        count }
 {
     let mut seat = first;
     let mut number = 0;

@@ -1,7 +1,8 @@
 // The steps of a cell, on its table and a seat.
 ghost use Rattle.std.specs.Prelude.{◌≡◌, ℕ, ◌<◌, [], ◌∷◌, length, true, false, MatchBool};
 ghost use Rattle.turn_cell.specs.Facts.{replies_of};
-ghost use Rattle.turn_cell.specs.Turns.{setting_at, LegalAt, IsSeatAt, IsIdle, IsSingle, HasTurn, HasReply, Counted, IsCounted, Gave, MadeCall, kept_of, given_of, joined};
+ghost use Rattle.turn_cell.specs.Turns.{setting_at, LegalAt, IsSeatAt, IsIdle, IsSingle, HasTurn, HasReply, Counted};
+ghost use Rattle.turn_cell.specs.Turns.{IsCounted, Gave, MadeCall, kept_of, given_of, joined};
 
 use crate::object::Object;
 use crate::pass::PassSeat;
@@ -85,7 +86,8 @@ fn take<O: Object, W: Wait>(rt: &W, top: &CellTable<O>, seat: &mut PassSeat<O>)
     requires table { IsSeatAt seat.old.table_id top.now.table_id }
     requires idle { IsIdle seat.old.me }
     ensures table { seat.new.table_id ≡ seat.old.table_id }
-    ensures took { HasTurn O.history O.owner (setting_at O.terms O.passes O.quota) (LegalAt O.legal) seat.old.me seat.new.me }
+    ensures took { HasTurn O.history O.owner (setting_at O.terms O.passes O.quota) (LegalAt O.legal) seat.old.me
+        seat.new.me }
 {
     if try_take(top, seat, HELD) || try_often(top, seat, HELD) {
         return;
@@ -107,7 +109,8 @@ fn count<O: Object>(top: &CellTable<O>, seat: &mut PassSeat<O>)
     requires table { IsSeatAt seat.old.table_id top.now.table_id }
     requires reply { HasReply O.history O.owner (setting_at O.terms O.passes O.quota) (LegalAt O.legal) seat.old.me }
     ensures table { seat.new.table_id ≡ seat.old.table_id }
-    ensures counted { Counted O.history O.owner (setting_at O.terms O.passes O.quota) (LegalAt O.legal) seat.old.me seat.new.me }
+    ensures counted { Counted O.history O.owner (setting_at O.terms O.passes O.quota) (LegalAt O.legal) seat.old.me
+        seat.new.me }
 {
     top.fetch_add::<Counting<O>>(seat, COUNT, 1);
 }
@@ -117,7 +120,8 @@ fn give<O: Object>(top: &CellTable<O>, seat: &mut PassSeat<O>)
     requires table { IsSeatAt seat.old.table_id top.now.table_id }
     requires counted { IsCounted O.history O.owner (setting_at O.terms O.passes O.quota) (LegalAt O.legal) seat.old.me }
     ensures table { seat.new.table_id ≡ seat.old.table_id }
-    ensures gave { Gave O.history O.owner (setting_at O.terms O.passes O.quota) (LegalAt O.legal) seat.old.me seat.new.me }
+    ensures gave { Gave O.history O.owner (setting_at O.terms O.passes O.quota) (LegalAt O.legal) seat.old.me
+        seat.new.me }
 {
     if top.swap::<Giving<O>>(seat, TURN, FREE) == AWAITED {
         top.wake_one(TURN);
@@ -138,7 +142,8 @@ pub(crate) fn make_call<O: Object, W: Wait>(
     requires proper { O.proper call }
     requires quota { length seat.old.me.0.mine < seat.old.me.0.quota }
     ensures table { seat.new.table_id ≡ seat.old.table_id }
-    ensures made { MadeCall O.history O.owner (setting_at O.terms O.passes O.quota) (LegalAt O.legal) seat.old.me result seat.new.me }
+    ensures made { MadeCall O.history O.owner (setting_at O.terms O.passes O.quota) (LegalAt O.legal) seat.old.me result
+        seat.new.me }
     ensures reply { (O.owner result ≡ number) × (O.call_of result ≡ call) }
 {
     take(rt, top, seat);

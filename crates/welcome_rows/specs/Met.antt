@@ -46,7 +46,8 @@ pub record CanBeReady (setup : Settings) (user : Name) (response : List ℕ) : T
 
 -- an event of another session that asks for the user, or an accepted REPLY of this one
 abbrev pub stands_in_way : Name → ℕ → Event → Bool
-stands_in_way user session e = (asks_for user e.ask && not (e.session == session)) || (accepts e && e.session == session)
+stands_in_way user session e =
+    (asks_for user e.ask && not (e.session == session)) || (accepts e && e.session == session)
 
 -- before each event that asks for the user there is none that stands in the way of its session
 abbrev pub IsAskedAlone : List Event → Name → Type 0

@@ -2,7 +2,8 @@
 
 use super::*;
 
-/// The replies of a dialogue in which bob logs in: the child before the login leaves what it didn't use, and its link ends.
+/// The replies of a dialogue in which bob logs in: the child before the
+/// login leaves what it didn't use, and its link ends.
 const LOGIN_REPLIES: &str = "\
     0101 00 'OTP login'\n\
     0801 00\n\

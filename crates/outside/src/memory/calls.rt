@@ -1,8 +1,11 @@
-ghost use Rattle.std.specs.Prelude.{◌≡◌, ◌↔◌, ◌+◌, ◌<◌, ◌≤◌, [], ◌∷◌, drop, IfOk, IfSome, IsErr, IsSome, length, min, None, Ok, OnErr, OnOk, OnSome, take};
+ghost use Rattle.std.specs.Prelude.{◌≡◌, ◌↔◌, ◌+◌, ◌<◌, ◌≤◌, [], ◌∷◌, drop, IfOk, IfSome, IsErr, IsSome, length, min};
+ghost use Rattle.std.specs.Prelude.{None, Ok, OnErr, OnOk, OnSome, take};
 ghost use Rattle.request_catalogue.specs.TextBytes.{label_bytes};
 ghost use Rattle.outside.specs.Repeating.{items_after, next_item};
-ghost use Rattle.outside.specs.Faults.{AcceptCounts, ConnCounts, CountNothing, FinishCounts, NoneFell, StartCounts, VaultCounts, count_after};
-ghost use Rattle.outside.specs.Scene.{Did, GivenBack, IsUnused, accepted_outcome, came_count, planned_bytes, received_outcome, started_outcome};
+ghost use Rattle.outside.specs.Faults.{AcceptCounts, ConnCounts, CountNothing, FinishCounts, NoneFell, StartCounts};
+ghost use Rattle.outside.specs.Faults.{VaultCounts, count_after};
+ghost use Rattle.outside.specs.Scene.{Did, GivenBack, IsUnused, accepted_outcome, came_count, planned_bytes};
+ghost use Rattle.outside.specs.Scene.{received_outcome, started_outcome};
 ghost use Rattle.outside.specs.Told.{Goes, next_count};
 ghost use Rattle.outside.specs.Vaults.{FileWritten, piece_from};
 
@@ -21,7 +24,9 @@ use std::alloc::AllocError;
 use std::mem;
 
 impl Post for MemPost {
-    ghost use Rattle.outside.specs.MemPost.{HasReceived, accept_failure, client_left, conn_piece, conn_recv_failure, conn_send_failure, faults_of, post_schedule, scene_of, start_failure, users_files, vault_read_failure, vault_write_failure};
+    ghost use Rattle.outside.specs.MemPost.{HasReceived, accept_failure, client_left, conn_piece, conn_recv_failure};
+    ghost use Rattle.outside.specs.MemPost.{conn_send_failure, faults_of, post_schedule, scene_of, start_failure};
+    ghost use Rattle.outside.specs.MemPost.{users_files, vault_read_failure, vault_write_failure};
     ghost use Rattle.outside.specs.MemStream.{faults_of as stream_faults, link_of, role_of, stream_schedule};
 
     type Conn = MemConn;

@@ -1,4 +1,5 @@
-ghost use Rattle.std.specs.Prelude.{◌≡◌, ◌↔◌, ◌≤◌, [], ◌++◌, drop, IfOk, IfSome, IsErr, IsSome, IsTrue, length, OnErr, OnOk, option_map, Some, None, take};
+ghost use Rattle.std.specs.Prelude.{◌≡◌, ◌↔◌, ◌≤◌, [], ◌++◌, drop, IfOk, IfSome, IsErr, IsSome, IsTrue, length, OnErr};
+ghost use Rattle.std.specs.Prelude.{OnOk, option_map, Some, None, take};
 ghost use Rattle.std.specs.List.{position};
 ghost use Rattle.std.specs.Str.{bytes_eq};
 ghost use Rattle.outside.specs.MemFiles.{file_of};
@@ -119,7 +120,8 @@ fn place_of(pairs: &[(Word, Bytes)], name: &Word) -> Option<usize>
 }
 
 impl Files for MemFiles {
-    ghost use Rattle.outside.specs.MemFiles.{contents_of, files_schedule, read_failure, read_faults_of, replace_failure, replace_faults_of};
+    ghost use Rattle.outside.specs.MemFiles.{contents_of, files_schedule, read_failure, read_faults_of};
+    ghost use Rattle.outside.specs.MemFiles.{replace_failure, replace_faults_of};
 
     ghost contents = { contents_of };
 

@@ -1,4 +1,5 @@
-ghost use Rattle.std.specs.Prelude.{◌≡◌, ◌↔◌, ◌<◌, ◌≤◌, [], All, IfOk, IfSome, IsSome, IsTrue, length, None, OnErr, OnOk, option_map, Some};
+ghost use Rattle.std.specs.Prelude.{◌≡◌, ◌↔◌, ◌<◌, ◌≤◌, [], All, IfOk, IfSome, IsSome, IsTrue, length, None, OnErr};
+ghost use Rattle.std.specs.Prelude.{OnOk, option_map, Some};
 ghost use Rattle.request_catalogue.specs.TextBytes.{label_bytes};
 ghost use Rattle.outside.specs.Faults.{AreCounts};
 ghost use Rattle.outside.specs.Told.{Goes};

@@ -1,4 +1,5 @@
-ghost use Rattle.std.specs.Prelude.{◌≡◌, ◌↔◌, ◌≤◌, [], ◌∷◌, ◌++◌, All, IfOk, IfSome, IsOk, IsSome, IsTrue, length, OnErr, OnOk, Some, vec_len};
+ghost use Rattle.std.specs.Prelude.{◌≡◌, ◌↔◌, ◌≤◌, [], ◌∷◌, ◌++◌, All, IfOk, IfSome, IsOk, IsSome, IsTrue, length};
+ghost use Rattle.std.specs.Prelude.{OnErr, OnOk, Some, vec_len};
 ghost use Rattle.outside.specs.Faults.{count_after};
 ghost use Rattle.outside.specs.Places.{places_listened};
 ghost use Rattle.outside.specs.Scene.{IsFresh};

@@ -1,4 +1,5 @@
-ghost use Rattle.std.specs.Prelude.{◌≡◌, ◌↔◌, ◌<◌, ◌≤◌, [], All, drop, IfOk, IfSome, IsErr, IsSome, IsSomeAnd, IsTrue, length, min, OnErr, OnOk, OnSome, Ok, Some};
+ghost use Rattle.std.specs.Prelude.{◌≡◌, ◌↔◌, ◌<◌, ◌≤◌, [], All, drop, IfOk, IfSome, IsErr, IsSome, IsSomeAnd, IsTrue};
+ghost use Rattle.std.specs.Prelude.{length, min, OnErr, OnOk, OnSome, Ok, Some};
 ghost use Rattle.outside.specs.Repeating.{items_after, next_item};
 ghost use Rattle.outside.specs.Failures.{bytes_let_out};
 ghost use Rattle.outside.specs.Link.{Exchanged, SendsPart, received_bytes};

@@ -2,7 +2,8 @@ ghost use Rattle.std.specs.Prelude.{◌≡◌, ◌≤◌, [], drop, IfOk, length
 ghost use Rattle.std.specs.List.{position};
 ghost use Rattle.request_catalogue.specs.TextBytes.{label_bytes};
 ghost use Rattle.outside.specs.Told.{Goes};
-ghost use Rattle.outside.specs.Vaults.{FileSet, FileWritten, is_users_file, overwritten, piece_from, users_file, vault_of};
+ghost use Rattle.outside.specs.Vaults.{FileSet, FileWritten, is_users_file, overwritten, piece_from, users_file};
+ghost use Rattle.outside.specs.Vaults.{vault_of};
 
 use super::files::copy_from;
 use crate::bytes::Bytes;

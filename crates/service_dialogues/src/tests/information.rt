@@ -14,7 +14,8 @@ use std::test::Fail;
 /// A user's name and number.
 #[tactic(auto, unfolding(info_hooks::specs::Said::said))]
 fn person_form() -> Form
-    ensures { (card : Card) → said result card ≡ codes "name=" ++ name_bytes card.name ++ codes " uid=" ++ decimal card.uid ++ [] }
+    ensures { (card : Card) → said result card ≡ codes "name=" ++ name_bytes card.name ++ codes " uid="
+        ++ decimal card.uid ++ [] }
 {
     Form::of(&[
         Piece::Fixed(Short::of(b"name=")),
@@ -27,7 +28,8 @@ fn person_form() -> Form
 /// Says a user's name and number.
 fn say_person(card: &Card) -> InfoText
     requires { IsCard card.now }
-    ensures { info_bytes result ≡ codes "name=" ++ name_bytes card.now.name ++ codes " uid=" ++ decimal card.now.uid ++ [] }
+    ensures { info_bytes result ≡ codes "name=" ++ name_bytes card.now.name ++ codes " uid=" ++ decimal card.now.uid
+        ++ [] }
 {
     person_form().say(card)
 }
@@ -35,7 +37,8 @@ fn say_person(card: &Card) -> InfoText
 /// The longest text: eight pieces of 32 bytes.
 #[tactic(auto, unfolding(info_hooks::specs::Said::said))]
 fn long_form() -> Form
-    ensures { (card : Card) → let x = codes "xxxxxxxxxxxxxxxxxxxxxxxxxxxxxxxx" in said result card ≡ x ++ x ++ x ++ x ++ x ++ x ++ x ++ x ++ [] }
+    ensures { (card : Card) → let x = codes "xxxxxxxxxxxxxxxxxxxxxxxxxxxxxxxx" in said result card ≡ x ++ x ++ x ++ x
+        ++ x ++ x ++ x ++ x ++ [] }
 {
     let piece = Piece::Fixed(Short::of(b"xxxxxxxxxxxxxxxxxxxxxxxxxxxxxxxx"));
     Form::of(&[piece; 8])
@@ -44,7 +47,8 @@ fn long_form() -> Form
 /// Says the longest text.
 fn say_long(card: &Card) -> InfoText
     requires { IsCard card.now }
-    ensures { let x = codes "xxxxxxxxxxxxxxxxxxxxxxxxxxxxxxxx" in info_bytes result ≡ x ++ x ++ x ++ x ++ x ++ x ++ x ++ x ++ [] }
+    ensures { let x = codes "xxxxxxxxxxxxxxxxxxxxxxxxxxxxxxxx" in info_bytes result ≡ x ++ x ++ x ++ x ++ x ++ x ++ x
+        ++ x ++ [] }
 {
     long_form().say(card)
 }
