@@ -103,7 +103,8 @@ pub record FaultEndsAreCounted {P : Type 0} (faults : P → Faults) (journal : L
   pub keeper : (worker : ℕ) (post : P) → slice_get posts worker ≡ Some post → ends_by is_keeper_end journal worker
       ≤ (faults post).keeper
 
--- each post, if it reports, counts exactly the failed accepts and starts that it reports
+-- each post, if it reports, counts exactly the failed operations that it reports: accepts, starts, and those on
+-- connections and users' files
 pub record FaultsAreCounted {P : Type 0} (scene : P → Option Scene) (faults : P → Faults)
     (posts : List P) : Type 0 where
   pub each : (worker : ℕ) (post : P) → slice_get posts worker ≡ Some post

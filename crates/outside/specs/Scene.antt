@@ -7,7 +7,7 @@ use Rattle.outside.specs.declared.act.Role.TheVariants.{Pre, User}
 use Rattle.outside.specs.declared.act.Accepted.{Accepted}
 use Rattle.outside.specs.declared.act.Accepted.TheVariants.{Came, NoneLeft, Failed as AcceptFailed}
 use Rattle.outside.specs.declared.act.Act.{Act}
-use Rattle.outside.specs.declared.act.Act.TheVariants.{Accept, Finish, Start}
+use Rattle.outside.specs.declared.act.Act.TheVariants.{Accept, ConnRecv, ConnSend, Finish, Start, VaultRead, VaultWrite}
 use Rattle.outside.specs.declared.act.Talk.{Talk}
 use Rattle.outside.specs.declared.faults.Faults.{Faults}
 use Rattle.outside.specs.Faults.{AreCounts}
@@ -108,11 +108,27 @@ abbrev pub is_failed_start : Act → Bool
 is_failed_start (Start role (Err failed)) = true
 is_failed_start _ = false
 
+-- an operation is a receiving from the client or a sending to it, and it failed
+abbrev pub is_failed_conn : Act → Bool
+is_failed_conn (ConnRecv max (Err failed)) = true
+is_failed_conn (ConnSend bytes (Err failed)) = true
+is_failed_conn _ = false
+
+-- an operation is a reading of a user's file or a writing into it, and it failed
+abbrev pub is_failed_vault : Act → Bool
+is_failed_vault (VaultRead uid name offset max (Err failed)) = true
+is_failed_vault (VaultWrite uid name offset bytes (Err failed)) = true
+is_failed_vault _ = false
+
 -- so many faults as a count of 64 bits shows them: it stops at its greatest number
 abbrev pub counted : ℕ → ℕ
 counted number = min number (2 ^ 64 - 1)
 
--- a post counts exactly the failed accepts and starts that it reports, up to the greatest number of a count
+-- a post counts exactly the failed operations that it reports, up to
+-- the greatest number of a count: accepts, starts, and
+-- those on connections and users' files
 pub record CountsAsTold (scene : Scene) (faults : Faults) : Type 0 where
   pub accept : faults.accept ≡ counted (count_by is_failed_accept scene.acts)
   pub keeper : faults.keeper ≡ counted (count_by is_failed_start scene.acts)
+  pub conn : faults.conn ≡ counted (count_by is_failed_conn scene.acts)
+  pub vault : faults.vault ≡ counted (count_by is_failed_vault scene.acts)

@@ -17,6 +17,6 @@ scene_with t plan =
 abbrev pub HasCome : Transcript → ℕ → Type 0
 HasCome t came = IsTrue t.telling → came_count t.acts.items ≡ came
 
--- of accepts and starts so many are counted as are told as failed
+-- so many operations are counted as are told as failed
 abbrev pub AreTold : Transcript → Vec Script Global → Faults → Type 0
 AreTold t scripts faults = IfSome (scene_with t (plan_of scripts.items)) (λ s. CountsAsTold s faults)

@@ -25,7 +25,7 @@ pub trait Post: Drop + Send {
     // How many faults it had, by kind.
     ghost faults: { Self → Faults };
 
-    // As many accepts and starts are counted as are told as failed.
+    // As many operations are counted as are told as failed.
     ghost counts_as_told: { (post : Self) → IfSome (scene post) (λ s. CountsAsTold s (faults post)) };
 
     /// Waits for the next connection. `None`: no connection will come any more.

@@ -13,8 +13,8 @@ invariant_of-self-2-clause-counted c =
 
 pub invariant_of-self-clause-told : goal.invariant_of-self-clause-told
 invariant_of-self-clause-told c =
-    told_did _ _ _ refl refl (c.act.ensures.did (plan_of c.args.self.now.scripts.items)) c.args.self.now.told
+    told_did _ _ _ refl refl refl refl (c.act.ensures.did (plan_of c.args.self.now.scripts.items)) c.args.self.now.told
 
 pub invariant_of-self-2-clause-told : goal.invariant_of-self-2-clause-told
 invariant_of-self-2-clause-told c =
-    told_did _ _ _ refl refl (c.act-2.ensures.did (plan_of c.args.self.now.scripts.items)) c.args.self.now.told
+    told_did _ _ _ refl refl refl refl (c.act-2.ensures.did (plan_of c.args.self.now.scripts.items)) c.args.self.now.told

@@ -9,4 +9,4 @@ invariant_of-self-clause-counted c =
 
 pub invariant_of-self-clause-told : goal.invariant_of-self-clause-told
 invariant_of-self-clause-told c =
-    told_did _ _ _ refl refl (c.act.ensures.did (plan_of c.args.self.now.scripts.items)) c.args.self.now.told
+    told_did _ _ _ refl refl refl refl (c.act.ensures.did (plan_of c.args.self.now.scripts.items)) c.args.self.now.told

@@ -9,5 +9,5 @@ invariant_of-self c = record {
   in_scripts = c.args.self.now.in_scripts;
   some_moment = rw c.take.ensures.after (length-items_after c.args.self.now.moments c.args.self.now.some_moment);
   counted = λ t. omega (arith, c.act.ensures.came c.args.self.now.came c.args.self.now.counted t);
-  told = told_did _ _ _ refl refl (c.act.ensures.did (plan_of c.args.self.now.scripts.items)) c.args.self.now.told;
+  told = told_did _ _ _ refl refl refl refl (c.act.ensures.did (plan_of c.args.self.now.scripts.items)) c.args.self.now.told;
 }

@@ -9,4 +9,4 @@ invariant_of-self-clause-counted c =
 
 pub invariant_of-self-clause-told : goal.invariant_of-self-clause-told
 invariant_of-self-clause-told c =
-    told_did_if _ (plan_of c.args.self.now.scripts.items) c.args.self.now.transcript c.act_if.new.self (search rules) (search rules) c.act_if.ensures.did c.act_if.ensures.silent c.args.self.now.told
+    told_did_if _ (plan_of c.args.self.now.scripts.items) c.args.self.now.transcript c.act_if.new.self (search rules) (search rules) (search rules) (search rules) c.act_if.ensures.did c.act_if.ensures.silent c.args.self.now.told

@@ -17,12 +17,12 @@ invariant_of-self-2-clause-counted c =
 
 pub invariant_of-self-clause-told : goal.invariant_of-self-clause-told
 invariant_of-self-clause-told c =
-    counts_did _ _ _ _ _ (c.act.ensures.did (plan_of c.args.self.now.scripts.items)) (record { accept = c.saturating_add-self-then-is_some.ensures; keeper = refl }) c.args.self.now.told
+    counts_did _ _ _ _ _ (c.act.ensures.did (plan_of c.args.self.now.scripts.items)) (record { accept = c.saturating_add-self-then-is_some.ensures; keeper = refl; conn = refl; vault = refl }) c.args.self.now.told
 
 pub invariant_of-self-then-self-len-clause-told : goal.invariant_of-self-then-self-len-clause-told
 invariant_of-self-then-self-len-clause-told c =
-    counts_did _ _ _ _ _ (c.act-then-self-len.ensures.did (plan_of c.args.self.now.scripts.items)) (record { accept = refl; keeper = refl }) c.args.self.now.told
+    counts_did _ _ _ _ _ (c.act-then-self-len.ensures.did (plan_of c.args.self.now.scripts.items)) (record { accept = refl; keeper = refl; conn = refl; vault = refl }) c.args.self.now.told
 
 pub invariant_of-self-2-clause-told : goal.invariant_of-self-2-clause-told
 invariant_of-self-2-clause-told c =
-    counts_did _ _ _ _ _ (c.act-2.ensures.did (plan_of c.args.self.now.scripts.items)) (record { accept = refl; keeper = refl }) c.args.self.now.told
+    counts_did _ _ _ _ _ (c.act-2.ensures.did (plan_of c.args.self.now.scripts.items)) (record { accept = refl; keeper = refl; conn = refl; vault = refl }) c.args.self.now.told

@@ -10,7 +10,7 @@ invariant_of-self c = record {
   some_cut = c.args.self.now.some_cut;
   some_moment = c.args.self.now.some_moment;
   counted = λ t. omega (arith, c.act.ensures.came c.args.self.now.came c.args.self.now.counted t);
-  told = counts_did _ _ _ _ _ (c.act.ensures.did (plan_of c.args.self.now.scripts.items)) (record { accept = refl; keeper = refl }) c.args.self.now.told;
+  told = counts_did _ _ _ _ _ (c.act.ensures.did (plan_of c.args.self.now.scripts.items)) (record { accept = refl; keeper = refl; conn = c.saturating_add-self-then-is_some.ensures; vault = refl }) c.args.self.now.told;
 }
 
 pub invariant_of-self-in-Ok : goal.invariant_of-self-in-Ok
@@ -20,7 +20,7 @@ invariant_of-self-in-Ok c = record {
   some_cut = c.args.self.now.some_cut;
   some_moment = c.args.self.now.some_moment;
   counted = λ t. omega (arith, c.act-in-Ok.ensures.came c.args.self.now.came c.args.self.now.counted t);
-  told = counts_did _ _ _ _ _ (c.act-in-Ok.ensures.did (plan_of c.args.self.now.scripts.items)) (record { accept = refl; keeper = refl }) c.args.self.now.told;
+  told = counts_did _ _ _ _ _ (c.act-in-Ok.ensures.did (plan_of c.args.self.now.scripts.items)) (record { accept = refl; keeper = refl; conn = refl; vault = refl }) c.args.self.now.told;
 }
 
 pub invariant_of-self-in-Err : goal.invariant_of-self-in-Err

@@ -1,6 +1,6 @@
-use Rattle.std.proofs.Common.{arith, refl}
+use Rattle.std.proofs.Common.{◌∙◌, arith, refl}
 use Rattle.outside.specs.Script.{plan_of}
-use Rattle.outside.proofs.Counted.{counts_ceased, counts_did}
+use Rattle.outside.proofs.Counted.{counts_ceased, counts_did, sending_counts}
 use Rattle.outside.proofs.memory.calls.MemPostPost.conn_send.Goals as goal
 
 pub invariant_of-self-clause-counted : goal.invariant_of-self-clause-counted
@@ -13,7 +13,7 @@ invariant_of-self-in-Err-clause-counted c =
 
 pub invariant_of-self-clause-told : goal.invariant_of-self-clause-told
 invariant_of-self-clause-told c =
-    counts_did _ _ _ _ _ (c.act.ensures.did (plan_of c.args.self.now.scripts.items)) (record { accept = refl; keeper = refl }) c.args.self.now.told
+    counts_did _ _ _ _ _ (c.act.ensures.did (plan_of c.args.self.now.scripts.items)) (record { accept = refl; keeper = refl; conn = c.count_after-self.ensures ∙ sending_counts _ _ _; vault = refl }) c.args.self.now.told
 
 pub invariant_of-self-in-Err-clause-told : goal.invariant_of-self-in-Err-clause-told
 invariant_of-self-in-Err-clause-told c =

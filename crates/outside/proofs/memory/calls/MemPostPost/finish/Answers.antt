@@ -9,4 +9,4 @@ invariant_of-self-clause-counted c =
 
 pub invariant_of-self-clause-told : goal.invariant_of-self-clause-told
 invariant_of-self-clause-told c =
-    counts_given_back _ _ _ _ _ _ (c.finish.ensures.act (plan_of c.args.self.now.scripts.items)) refl refl c.args.self.now.told
+    counts_given_back _ _ _ _ _ _ (c.finish.ensures.act (plan_of c.args.self.now.scripts.items)) refl refl refl refl c.args.self.now.told

@@ -11,5 +11,5 @@ invariant_of-self c = record {
   some_cut = c.args.self.now.some_cut;
   some_moment = rw c.take.ensures.after (length-items_after c.args.self.now.moments c.args.self.now.some_moment);
   counted = λ t. omega (arith, c.act.ensures.came c.args.self.now.came c.args.self.now.counted t);
-  told = counts_did _ _ _ _ _ (c.act.ensures.did (plan_of c.args.self.now.scripts.items)) (record { accept = refl; keeper = refl }) c.args.self.now.told;
+  told = counts_did _ _ _ _ _ (c.act.ensures.did (plan_of c.args.self.now.scripts.items)) (record { accept = refl; keeper = refl; conn = refl; vault = refl }) c.args.self.now.told;
 }

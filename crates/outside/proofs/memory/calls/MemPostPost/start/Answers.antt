@@ -13,8 +13,8 @@ invariant_of-self-2-clause-counted c =
 
 pub invariant_of-self-clause-told : goal.invariant_of-self-clause-told
 invariant_of-self-clause-told c =
-    counts_did _ _ _ _ _ (c.act.ensures.did (plan_of c.args.self.now.scripts.items)) (record { accept = refl; keeper = c.saturating_add-self-then-is_some.ensures }) c.args.self.now.told
+    counts_did _ _ _ _ _ (c.act.ensures.did (plan_of c.args.self.now.scripts.items)) (record { accept = refl; keeper = c.saturating_add-self-then-is_some.ensures; conn = refl; vault = refl }) c.args.self.now.told
 
 pub invariant_of-self-2-clause-told : goal.invariant_of-self-2-clause-told
 invariant_of-self-2-clause-told c =
-    counts_did _ _ _ _ _ (c.act-2.ensures.did (plan_of c.args.self.now.scripts.items)) (record { accept = refl; keeper = refl }) c.args.self.now.told
+    counts_did _ _ _ _ _ (c.act-2.ensures.did (plan_of c.args.self.now.scripts.items)) (record { accept = refl; keeper = refl; conn = refl; vault = refl }) c.args.self.now.told

@@ -10,7 +10,7 @@ invariant_of-self c = record {
   some_cut = c.args.self.now.some_cut;
   some_moment = c.args.self.now.some_moment;
   counted = c.wrote.ensures.came c.args.self.now.came c.args.self.now.counted;
-  told = counts_did _ _ _ _ _ (c.wrote.ensures.did (plan_of c.args.self.now.scripts.items)) (record { accept = refl; keeper = refl }) c.args.self.now.told;
+  told = counts_did _ _ _ _ _ (c.wrote.ensures.did (plan_of c.args.self.now.scripts.items)) (record { accept = refl; keeper = refl; conn = refl; vault = c.saturating_add-self-then-is_some.ensures }) c.args.self.now.told;
 }
 
 pub invariant_of-self-2 : goal.invariant_of-self-2
@@ -20,5 +20,5 @@ invariant_of-self-2 c = record {
   some_cut = c.args.self.now.some_cut;
   some_moment = c.args.self.now.some_moment;
   counted = c.wrote-2.ensures.came c.args.self.now.came c.args.self.now.counted;
-  told = counts_did _ _ _ _ _ (c.wrote-2.ensures.did (plan_of c.args.self.now.scripts.items)) (record { accept = refl; keeper = refl }) c.args.self.now.told;
+  told = counts_did _ _ _ _ _ (c.wrote-2.ensures.did (plan_of c.args.self.now.scripts.items)) (record { accept = refl; keeper = refl; conn = refl; vault = refl }) c.args.self.now.told;
 }

@@ -9,4 +9,4 @@ invariant_of-result-clause-each_cut c =
 
 pub invariant_of-result-clause-told : goal.invariant_of-result-clause-told
 invariant_of-result-clause-told c =
-    counts_none _ _ _ (c.new-2.ensures.told (plan_of c.args.scripts.items)) c.none.ensures.accept c.none.ensures.keeper
+    counts_none _ _ _ (c.new-2.ensures.told (plan_of c.args.scripts.items)) c.none.ensures.accept c.none.ensures.keeper c.none.ensures.conn c.none.ensures.vault
