@@ -2,8 +2,6 @@
 use Rattle.std.proofs.Common.{◌≡◌, ℕ, ◌-◌, ◌<◌, ◌≤◌, Bool, true, false, ◌||◌, List, [], ◌∷◌, ◌++◌, length, map, reverse, take, drop, Option, Some, refl, sym, ap, subst, ◌∙◌, arith, append_assoc, zero, suc, cond, eqb, eqb→eq, T}
 use Rattle.std.proofs.Math.Seq.{take-append_seam}
 use Rattle.std.specs.Prelude.{IfSome, slice_get, slice_index_or}
-use Rattle.imsg_frame.specs.Held.{Held}
-use Rattle.request_catalogue.specs.declared.width.Width.{Width}
 use Rattle.std.specs.List.{All, Any, AllByRecursion, list_any}
 use Rattle.std.proofs.lemmas.List.{get_or_default, get_or-map, get_or-reverse, length-map, length-reverse, map-append, reverse-append}
 use Rattle.std.proofs.lemmas.List.Folds.{list_any-append}
@@ -24,7 +22,7 @@ use Rattle.session_turns.proofs.Passes.{all_back}
 use Rattle.session_turns.proofs.Places.{own, places_by_events}
 use Rattle.turn_cell.specs.Facts.{AreAllPasses, AreNewPasses, CellFacts, first_pass}
 use Rattle.monitor_run.specs.Ran.{PlansStay, Ran, RunEnded, WorkerRan}
-use Rattle.monitor_run.specs.Workers.{HasServed, IsDeskOf, IsReady}
+use Rattle.monitor_run.specs.Workers.{HasServed, IsReady}
 use Rattle.monitor_run.proofs.Workers.{PlanStays, fault_end, is_ready, no_fault_end, plan_stays, worker_ran}
 
 -- ---- the lists
@@ -107,10 +105,6 @@ own_none setup worker (e ∷ es) le all = go (eqb e.worker worker) refl (own_non
 pub written_whole : {X : Type 0} (xs zs : List X) (n : ℕ) → n ≡ length xs → take n (xs ++ zs) ≡ xs
 written_whole xs zs n e = subst (λ k. take k (xs ++ zs) ≡ xs) (sym e) (take-append_seam xs zs)
 
--- a worker's memory is for what it answers from itself
-pub desk_own : (service here : Service) (width : Width) (reader : Held) → IsDeskOf service here width reader → IsDeskOf here here width reader
-desk_own service here width reader is = subst (λ s. IsDeskOf s here width reader) (sym is.service_is) is
-
 -- what holds of all that the workers have, in the reverse of their order, holds of each
 pub of_reverse : {W X : Type 0} (f : W → X) (P : X → Type 0) (workers : List W) → All P (reverse (map f workers)) → (k : ℕ) (d : W) → k < length workers → P (f (slice_index_or workers k d))
 of_reverse f P workers all k d lt =
@@ -136,10 +130,6 @@ ready_at setup place scene faults post pass workers new fresh opened quota count
     let is : IsFresh scene faults (post w) = of_reverse post (IsFresh scene faults) workers fresh k d lt in
     let long : length (reverse (map pass workers)) ≡ length workers = length-reverse (map pass workers) ∙ length-map workers pass in
     is_ready setup place (pass w) (scene (post w)) (faults (post w)) (length workers - 1 - k) opened quota (omega (arith, lt, new.0, long, count)) (first_at place pass workers new k d lt) is.unplayed is.faultless
-
--- the same where the workers were lent
-pub all_at : {W X : Type 0} (f : W → X) (P : X → Type 0) (workers lent : List W) → lent ≡ workers → All P (reverse (map f workers)) → (k : ℕ) (d : W) → k < length lent → P (f (slice_index_or lent k d))
-all_at f P workers lent same all k d = subst (λ ws. k < length ws → P (f (slice_index_or ws k d))) (sym same) (of_reverse f P workers all k d)
 
 pub ready_lent : {W P : Type 0} (service : Service) (here : W → Service) (place : CellFacts (Option Opened)) (scene : P → Option Scene) (faults : P → Faults) (post : W → P) (pass : W → BookPass) (workers lent : List W) → lent ≡ workers → ((k : ℕ) (d : W) → k < length workers → here (slice_index_or workers k d) ≡ service) → AreNewPasses place (reverse (map pass workers)) → All (IsFresh scene faults) (reverse (map post workers)) → OpenedBy service.setup place.terms → place.quota ≡ quota_of service.setup → place.passes ≡ service.setup.workers
     → (k : ℕ) (d : W) → k < length lent → IsReady (here (slice_index_or lent k d)).setup place (pass (slice_index_or lent k d)) (scene (post (slice_index_or lent k d))) (faults (post (slice_index_or lent k d)))

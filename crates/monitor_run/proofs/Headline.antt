@@ -21,7 +21,7 @@ use Rattle.policy_model.proofs.Lists.{last_or-push}
 use Rattle.service_model.specs.Ends.{is_fault_end, is_keeper_end, is_link_end, is_lost_end}
 use Rattle.service_model.specs.Places.{step_acts, worker_places}
 use Rattle.service_model.specs.Service.{Service}
-use Rattle.service_model.specs.Sittings.{AreAnswered, AreSittingsOf, IsSitting, Sitting, all_steps}
+use Rattle.service_model.specs.Sittings.{AreSittingsOf, IsSitting, Sitting, all_steps}
 use Rattle.service_model.specs.Stories.{AcceptFailed, IsStory, LastAccept, NoneLeft, Unasked, is_stop, story_acts}
 use Rattle.service_model.proofs.Answered.{all_answered}
 use Rattle.service_model.proofs.Ends.{lost_places}

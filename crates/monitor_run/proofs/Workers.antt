@@ -1,5 +1,5 @@
 -- One worker of a run, from a fresh post on.
-use Rattle.std.proofs.Common.{◌≡◌, ◌≢◌, ℕ, ◌<◌, ◌≤◌, ◌++◌, true, false, List, [], length, map, Option, Some, None, refl, sym, ap, subst, ◌∙◌, arith}
+use Rattle.std.proofs.Common.{◌≡◌, ◌≢◌, ℕ, ◌<◌, ◌≤◌, ◌++◌, true, false, List, [], length, map, Option, Some, None, inl, refl, sym, ap, subst, ◌∙◌, arith}
 use Rattle.std.specs.Prelude.{IfSome}
 use Rattle.std.specs.List.{flat_map}
 use Rattle.outside.specs.declared.faults.Faults.{Faults}
@@ -15,10 +15,11 @@ use Rattle.service_model.specs.Stories.{AcceptFailed, ArePlanned, IsStory, LastA
 use Rattle.service_model.proofs.Ends.{lost_places}
 use Rattle.session_loop.specs.declared.worker.WorkerEnd.{WorkerEnd}
 use Rattle.session_loop.specs.declared.worker.WorkerEnd.TheVariants as ends
-use Rattle.session_loop.specs.Stories.{HasStory, RoseBy, asks_among, is_accept_fault, last_of}
+use Rattle.policy_model.specs.Runs.{IsIdle}
+use Rattle.session_loop.specs.Stories.{HasStory, MayServeAll, RoseBy, asks_among, is_accept_fault, last_of}
 use Rattle.monitor_book.specs.declared.opened.Opened.{Opened}
 use Rattle.policy_model.specs.Settings.{Settings, quota_of}
-use Rattle.session_turns.specs.Passes.{BookPass, IsPassAt, OpenedBy}
+use Rattle.session_turns.specs.Passes.{BookPass, IsPassAt, OpenedBy, rights_of}
 use Rattle.session_turns.proofs.Passes.{first_is}
 use Rattle.turn_cell.specs.Facts.{CellFacts, first_pass}
 use Rattle.monitor_run.specs.Ran.{WorkerRan}
@@ -98,4 +99,12 @@ is_ready setup place pass scene faults number opened quota below first unplayed 
   left = omega (arith, quota);
   unplayed = unplayed;
   faultless = faultless;
+})
+
+-- so its worker may serve
+pub may_serve_all : (setup same : Settings) (place : CellFacts (Option Opened)) (pass : BookPass) (scene : Option Scene) (faults : Faults) → same ≡ setup → IsReady setup place pass scene faults → MayServeAll same (rights_of pass) pass.seen
+may_serve_all setup same place pass scene faults is ready = subst (λ s. MayServeAll s (rights_of pass) pass.seen) (sym is) (record {
+  run = ready.at.run;
+  idle = subst (λ seen. IsIdle seen pass.number) (sym ready.unseen) (inl refl);
+  left = ready.left;
 })

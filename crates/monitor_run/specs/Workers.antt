@@ -1,25 +1,16 @@
 -- Inner: one worker of a run, before and after it served.
 use Rattle.std.specs.Prelude.{◌≡◌, ◌<◌, ◌≤◌, [], Option, IfSome}
-use Rattle.imsg_frame.specs.Held.{Held}
 use Rattle.monitor_book.specs.declared.opened.Opened.{Opened}
 use Rattle.outside.specs.declared.faults.Faults.{Faults}
 use Rattle.outside.specs.Faults.{AreCounts}
 use Rattle.outside.specs.Scene.{IsUnplayed, Scene}
 use Rattle.policy_model.specs.Settings.{Settings, quota_of}
-use Rattle.request_catalogue.specs.declared.width.Width.{Width}
 use Rattle.service_model.specs.Service.{Service}
-use Rattle.session_loop.specs.Child.{IsForSessions}
 use Rattle.session_loop.specs.Stories.{HasStory}
 use Rattle.session_loop.specs.declared.worker.WorkerEnd.{WorkerEnd}
 use Rattle.session_loop.specs.declared.worker.WorkerEnd.TheVariants as ends
 use Rattle.session_turns.specs.Passes.{BookPass, IsPassAt, rights_of}
 use Rattle.turn_cell.specs.Facts.{CellFacts}
-
--- a worker's memory is for a service: what it answers from, the width of its answers, and its reader
-pub record IsDeskOf (service texts : Service) (width : Width) (reader : Held) : Type 0 where
-  pub service_is : texts ≡ service
-  pub width_is : width ≡ service.setup.frames
-  pub frames : IsForSessions service.setup.frames reader
 
 -- a worker may begin: its pass is of the cell and has seen nothing, and nothing was asked of its post
 pub record IsReady (setup : Settings) (place : CellFacts (Option Opened)) (pass : BookPass) (scene : Option Scene)

@@ -4,10 +4,9 @@ ghost use Rattle.std.specs.Prelude.{◌≡◌, ◌+◌, ◌++◌, ◌∷◌, ◌
 ghost use Rattle.std.specs.List.{list_any};
 ghost use Rattle.session_loop.specs.Stories.{is_accept_fault};
 
-use crate::desk::Desk;
 use crate::worker::Worker;
 use session_asking::Texts;
-use session_loop::WorkerEnd;
+use session_loop::{Desk, WorkerEnd};
 
 /// A worker with the last post, pass and memory.
 fn last_worker<'a, T: Texts, P: Drop, Q: Drop>(

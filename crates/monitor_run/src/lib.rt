@@ -4,7 +4,6 @@
 #![tactic(auto)]
 
 mod counting;
-mod desk;
 mod gathering;
 mod prepared;
 mod running;

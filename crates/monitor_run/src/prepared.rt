@@ -2,18 +2,17 @@
 
 ghost use Rattle.std.specs.Prelude.{◌≡◌, [], ℕ, All, IfErr, IfOk, List, Option, Some, length};
 ghost use Rattle.monitor_run.specs.Prepared.{LogStays};
-ghost use Rattle.monitor_run.specs.Workers.{IsDeskOf};
 ghost use Rattle.policy_model.specs.Settings.{quota_of};
 ghost use Rattle.session_core.specs.Parts.{setup_of};
 ghost use Rattle.turn_cell.specs.Facts.{AreNewPasses, IsCellOf};
 
-use crate::desk::Desk;
 use crate::worker::Worker;
 use monitor_book::Book;
 use outside::{Post, Sink};
 use policy_model::Setup;
 use session_asking::Texts;
 use session_core::Core;
+use session_loop::Desk;
 use session_turns::{close_cell, open_cell};
 use std::alloc::{AllocError, Global};
 use std::marker::Model;
@@ -30,10 +29,9 @@ pub struct Prepared<'a, T: Texts + Sync, P: Post, K: Sink> {
 }
 
 impl<'a, T: Texts + Sync, P: Post, K: Sink> Model for Prepared<'a, T, P, K> {
-    ghost use Rattle.std.specs.Prelude.{All, length, vec_capacity};
+    ghost use Rattle.std.specs.Prelude.{◌≡◌, All, length, vec_capacity};
     ghost use Rattle.monitor_run.specs.Prepared.{IsPrepared, Preparation};
-    ghost use Rattle.monitor_run.specs.Workers.{IsDeskOf};
-
+    
     ghost Value = { Preparation };
 
     ghost view = { λ p. record { service = T.service p.texts.now; opened = p.cell.terms } };
@@ -41,8 +39,7 @@ impl<'a, T: Texts + Sync, P: Post, K: Sink> Model for Prepared<'a, T, P, K> {
     ghost invariant =
         { λ p. IsPrepared (T.service p.texts.now) p.cell p.passes.items (length p.desks.items) (length p.workers.items)
             (vec_capacity p.workers)
-        × All (λ d. IsDeskOf (T.service p.texts.now) (T.service d.replies.texts.now) d.replies.frames.width d.reader)
-        p.desks.items };
+        × All (λ d. T.service d.replies.texts.now ≡ T.service p.texts.now) p.desks.items };
 }
 
 /// The memory of each worker that answers from these texts.
@@ -51,9 +48,8 @@ fn desks_of<'a, T: Texts + Sync>(
     texts: &'a T,
 ) -> Result<Vec<Desk<'a, T>>, AllocError>
     ensures count { IfOk result (λ desks. length desks.items ≡ (T.service texts.now).setup.workers) }
-    ensures
-        each { IfOk result (λ desks. All (λ d. IsDeskOf (T.service texts.now) (T.service d.replies.texts.now)
-        d.replies.frames.width d.reader) desks.items) }
+    ensures each { IfOk result
+        (λ desks. All (λ d. T.service d.replies.texts.now ≡ T.service texts.now) desks.items) }
 {
     let mut desks = Vec::with_capacity(alloc, texts.setup().workers() as usize)?;
     for _ in 0..texts.setup().workers() {

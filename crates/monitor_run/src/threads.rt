@@ -2,7 +2,7 @@
 
 ghost use Rattle.std.specs.Prelude.{◌≡◌, ◌<◌, ℕ, length, slice_index_or};
 ghost use Rattle.std.specs.List.{AllWithin};
-ghost use Rattle.monitor_run.specs.Workers.{HasServed, IsDeskOf, IsReady};
+ghost use Rattle.monitor_run.specs.Workers.{HasServed, IsReady};
 
 use crate::worker::{Worker, serve_at_cell};
 use monitor_book::Book;
@@ -22,8 +22,6 @@ pub(crate) fn serve_all<'a, T: Texts + Sync, P: Post, K: Sink, R: Threads + Wait
     cell: &TurnCell<Book<K>>,
     workers: &mut [Worker<'a, T, P, Pass<Book<K>>>],
 )
-    requires desks { AllWithin (λ w. IsDeskOf (T.service w.desk.replies.texts.now) (T.service w.desk.replies.texts.now)
-        w.desk.replies.frames.width w.desk.reader) workers.old 0 (length workers.old) }
     requires ready { AllWithin (λ w. IsReady (T.service w.desk.replies.texts.now).setup cell.now w.pass (P.scene w.post)
         (P.faults w.post)) workers.old 0 (length workers.old) }
     ensures served { (k : ℕ) (d : _) → k < length workers.old → let old = slice_index_or workers.old k d in
@@ -36,8 +34,6 @@ pub(crate) fn serve_all<'a, T: Texts + Sync, P: Post, K: Sink, R: Threads + Wait
         workers,
         THREADS,
         &|_, w: &mut Worker<T, P, Pass<Book<K>>>|
-            requires desk { IsDeskOf (T.service w.old.desk.replies.texts.now) (T.service w.old.desk.replies.texts.now)
-                w.old.desk.replies.frames.width w.old.desk.reader }
             requires ready { IsReady (T.service w.old.desk.replies.texts.now).setup cell.now w.old.pass
                 (P.scene w.old.post) (P.faults w.old.post) }
             ensures served { HasServed (T.service w.old.desk.replies.texts.now) cell.entry.now w.old.pass w.new.pass

@@ -1,14 +1,13 @@
 //! One worker at the cell.
 
-ghost use Rattle.monitor_run.specs.Workers.{HasServed, IsDeskOf, IsReady};
+ghost use Rattle.monitor_run.specs.Workers.{HasServed, IsReady};
 ghost use Rattle.session_turns.specs.Passes.{IsCalled, MayCall};
 
-use crate::desk::Desk;
 use monitor_book::Book;
 use outside::{Post, Sink};
 use policy_model::Ask;
 use session_asking::Texts;
-use session_loop::{WorkerEnd, serve_worker};
+use session_loop::{Desk, WorkerEnd, serve_worker};
 use session_turns::{AtCell, call_cell};
 use std::sync::Wait;
 use turn_cell::{Pass, TurnCell};
@@ -28,8 +27,6 @@ pub(crate) fn serve_at_cell<'a, T: Texts + Sync, P: Post, K: Sink, W: Wait>(
     cell: &TurnCell<Book<K>>,
     worker: &mut Worker<'a, T, P, Pass<Book<K>>>,
 )
-    requires desk { let service = T.service worker.old.desk.replies.texts.now in
-        IsDeskOf service service worker.old.desk.replies.frames.width worker.old.desk.reader }
     requires ready { IsReady (T.service worker.old.desk.replies.texts.now).setup cell.now worker.old.pass
         (P.scene worker.old.post) (P.faults worker.old.post) }
     ensures served { HasServed (T.service worker.old.desk.replies.texts.now) cell.now worker.old.pass worker.new.pass
@@ -48,13 +45,7 @@ pub(crate) fn serve_at_cell<'a, T: Texts + Sync, P: Post, K: Sink, W: Wait>(
         pass,
         call,
     };
-    let desk = &mut worker.desk;
-    let end = serve_worker(
-        &mut turns,
-        &mut worker.post,
-        &mut desk.reader,
-        &mut desk.replies,
-    );
+    let end = serve_worker(&mut turns, &mut worker.post, &mut worker.desk);
     let AtCell {
         setup: _,
         cell: _,

@@ -28,9 +28,9 @@ fn book_of(alloc: Global, setup: &Setup) -> Result<Book<MemSink>, Fail>
 /// Begins a session and ends it, by any turns; whether both were permitted.
 fn serve<A: Turns>(turns: &mut A) -> bool
     requires may { A.may turns.old }
-    requires room { 1 < (A.rights turns.old).left }
-    ensures rights { KeepsRights 2 (A.rights turns.old) (A.rights turns.new) }
-    ensures turns { A.keeps turns.old turns.new × (A.setup turns.new ≡ A.setup turns.old) × A.may turns.new }
+    requires room { 1 < (A.at turns.old).rights.left }
+    ensures rights { KeepsRights 2 (A.at turns.old).rights (A.at turns.new).rights }
+    ensures turns { A.keeps turns.old turns.new × ((A.at turns.new).setup ≡ (A.at turns.old).setup) × A.may turns.new }
 {
     let first = turns.ask(Ask::Begin);
     let last = turns.ask(Ask::End { why: Why::Finished });

@@ -56,7 +56,7 @@ use Rattle.session_asking.specs.declared.live.LoggedIn.{LoggedIn}
 use Rattle.session_asking.specs.declared.work.Outcome.{Outcome}
 use Rattle.session_asking.specs.Asking.{IsTurnOf, clock_acts, read_value, state_by}
 use Rattle.session_asking.specs.Known.{IsServed, IsStillOpen, Knows, NotesFiles, file_in}
-use Rattle.session_asking.specs.Serving.{HandsWith, HasExported, HasServed, IsNewUser, Leaves, Serves, Whose, WentOn, moment}
+use Rattle.session_asking.specs.Serving.{HandsWith, HasExported, HasServed, IsNewUser, IsProperTurn, Leaves, Serves, Whose, WentOn, moment}
 use Rattle.session_asking.specs.Work.{done_operations}
 use Rattle.session_asking.proofs.Answering.{IsAsked, IsDone, Steps-join, all_played, asked_by_message, is_reply, is_step, known_before, own_session, step_at}
 use Rattle.session_asking.proofs.FileLemmas.{names_after}
@@ -359,3 +359,17 @@ unlogged w message read ask user old new e s t is exported =
 
 pub turn_stays : {X : Type 0} (e event : Event) (turn : Turn) → IsTurnOf e turn → turn ≡ turns.HandsOver event → X
 turn_stays e event turn follows is = absurd (subst (IsTurnOf e) is follows)
+
+-- what follows a request gives a reason that may be asked for, and never a fault of the link
+pub turn_proper : (e : Event) (turn : Turn) → IsTurnOf e turn → IsProperTurn turn
+turn_proper e turns.GoesOn follows = tt
+turn_proper e (turns.Ends why) follows = follows.2
+turn_proper e (turns.HandsOver event) follows = absurd follows
+
+decided_why : (d : Decision) → why_of d ≡ whys.LinkFault → ⊥
+decided_why (decisions.Permit value) is = absurd cc
+decided_why (decisions.Deny rule detail) is = absurd cc
+decided_why decisions.Lost is = absurd cc
+
+pub turn_unfaulted : (e : Event) (turn : Turn) → IsTurnOf e turn → turn ≡ turns.Ends whys.LinkFault → ⊥
+turn_unfaulted e turn follows is = decided_why e.decision (sym (subst (IsTurnOf e) is follows).1)

@@ -1,14 +1,19 @@
 -- Inner: what serving one message did.
-use Rattle.std.specs.Prelude.{◌≡◌, ◌≢◌, true, ℕ, ◌+◌, List, [], ◌∷◌, ◌++◌, Option, Some, None}
-use Rattle.imsg_frame.specs.Message.{Message}
+use Rattle.std.specs.Prelude.{◌≡◌, ◌≢◌, true, false, ℕ, ◌+◌, ◌<◌, ◌≤◌, List, [], ◌∷◌, ◌++◌, Option, Some, None, is_some}
+use Rattle.imsg_frame.specs.Message.{IsMessage, Message}
+use Rattle.outside.specs.declared.act.Role.{Role}
+use Rattle.outside.specs.declared.faults.Faults.{Faults}
+use Rattle.outside.specs.Faults.{NoneFell}
 use Rattle.outside.specs.Link.{Exchanged, Link}
 use Rattle.outside.specs.Scene.{Played, Scene}
 use Rattle.outside.specs.Told.{Goes}
 use Rattle.policy_model.specs.declared.event.Event.{Event}
+use Rattle.policy_model.specs.declared.event.Why.TheVariants.{LinkFault}
 use Rattle.policy_model.specs.Asks.{exports, value_of}
 use Rattle.policy_model.specs.Cases.{is_proper_why}
 use Rattle.policy_model.specs.Journal.{ask_count}
 use Rattle.policy_model.specs.Settings.{Settings}
+use Rattle.request_catalogue.specs.Widths.{frame_max}
 use Rattle.service_model.specs.Answers.{answer_to}
 use Rattle.service_model.specs.Parts.{EndsSession, EndsSo, GoesOn, IsRequestStep, LastSent}
 use Rattle.service_model.specs.Places.{Step, step_places, worker_places}
@@ -16,12 +21,14 @@ use Rattle.service_model.specs.Requests.{CameBy}
 use Rattle.service_model.specs.Service.{Service}
 use Rattle.service_model.specs.Users.{user_at}
 use Rattle.service_model.specs.Cases.{role_of, by_link, place_of}
-use Rattle.session_turns.specs.Joins.{Rights}
+use Rattle.session_turns.specs.Joins.{KeepsRights, Rights, Seat}
 use Rattle.session_asking.specs.declared.asking.Turn.{Turn}
 use Rattle.session_asking.specs.declared.asking.Turn.TheVariants as turns
+use Rattle.session_asking.specs.declared.exported.Exported.{Exported}
 use Rattle.session_asking.specs.declared.live.LoggedIn.{LoggedIn}
 use Rattle.session_asking.specs.Files.{name_in}
 use Rattle.session_asking.specs.Known.{IsServed, IsStillOpen}
+use Rattle.session_asking.specs.Made.{exported_bytes}
 use Rattle.child_keeper.specs.Tickets.{NamesAccount, user_role}
 
 -- a moment of a worker: what it has seen of the journal, what its post tells and what its child's link tells
@@ -43,6 +50,69 @@ pub record Whose : Type 0 where
 abbrev pub whose : Service → List ℕ → ℕ → ℕ → Whose
 whose service exported session worker =
     record { service = service; exported = exported; session = session; worker = worker }
+
+-- what a worker answers from: the run's service, and what its session's first child exported
+pub record Desk : Type 0 where
+  pub service : Service
+  pub exported : List ℕ
+
+abbrev pub desk_of : Service → Exported → Desk
+desk_of service exported = record { service = service; exported = exported_bytes exported }
+
+-- a session's child: which one it is, what its stream tells of the bytes, and how many faults that had
+pub record ChildNow : Type 0 where
+  pub role : Role
+  pub link : Option Link
+  pub faults : ℕ
+
+-- a session whose child is live: its number, its user once one is logged in, and its child
+pub record LiveNow : Type 0 where
+  pub session : ℕ
+  pub user : Option LoggedIn
+  pub child : ChildNow
+
+abbrev pub live_of : ℕ → Option LoggedIn → Role → Option Link → ℕ → LiveNow
+live_of session user role link faults =
+    record { session = session; user = user; child = record { role = role; link = link; faults = faults } }
+
+-- where a worker stands that serves a child: its seat, its desk, its session, and what its post tells and counts
+pub record Stand : Type 0 where
+  pub seat : Seat
+  pub desk : Desk
+  pub live : LiveNow
+  pub scene : Option Scene
+  pub faults : Faults
+
+abbrev pub stand : Seat → Desk → LiveNow → Option Scene → Faults → Stand
+stand seat desk live scene faults = record { seat = seat; desk = desk; live = live; scene = scene; faults = faults }
+
+-- what of that a story is told by
+abbrev pub moment_of : Stand → Moment
+moment_of at = moment at.seat.seen at.scene at.live.child.link
+
+abbrev pub whose_of : Stand → Whose
+whose_of at = whose at.desk.service at.desk.exported at.live.session at.seat.rights.worker
+
+-- a child may be served: seat and desk are of one setup, and what is known of the session is so
+pub record MayServe (at : Stand) : Type 0 where
+  pub one : at.seat.setup ≡ at.desk.service.setup
+  pub served : IsServed at.desk.service.setup at.seat.rights at.seat.seen at.live.session at.live.user
+
+-- a message may be answered: its child may be served, and it is a whole frame of the run's width
+pub record MayAnswer (message : Message) (at : Stand) : Type 0 where
+  pub serves : MayServe at
+  pub right : IsMessage at.desk.service.setup.frames (frame_max at.desk.service.setup.frames) message
+
+-- what stays while a child is served: setup, service, session, which child it is and whether a user is logged in;
+-- and no count of faults falls
+pub record Stays (before after : Stand) : Type 0 where
+  pub setup : after.seat.setup ≡ before.seat.setup
+  pub service : after.desk.service ≡ before.desk.service
+  pub session : after.live.session ≡ before.live.session
+  pub role : after.live.child.role ≡ before.live.child.role
+  pub user : is_some after.live.user ≡ is_some before.live.user
+  pub link : before.live.child.faults ≤ after.live.child.faults
+  pub kept : NoneFell before.faults after.faults
 
 -- the places that a worker gained
 pub record Steps (worker : ℕ) (steps : List Step) (old new : List Event) : Type 0 where
@@ -120,3 +190,21 @@ pub record HasReplied (turn : Turn) (body : List ℕ) (old new : List ℕ) : Typ
 abbrev pub IsProperTurn : Turn → Type 0
 IsProperTurn (turns.Ends why) = is_proper_why why ≡ true
 IsProperTurn _ = Unit {0}
+
+-- a turn ends a session only for a reason that may be asked for, by a fault of the link just where one was counted, and
+-- hands it over only before a login
+pub record EndsProperly (turn : Turn) (before after : Stand) : Type 0 where
+  pub proper : IsProperTurn turn
+  pub fault : turn ≡ turns.Ends LinkFault → 0 < after.live.child.faults
+  pub calm : turn ≢ turns.Ends LinkFault → after.live.child.faults ≡ before.live.child.faults
+  pub once : (e : Event) → turn ≡ turns.HandsOver e → is_some before.live.user ≡ false
+
+-- a message was answered, or its session handed over
+pub record Answered (message : Message) (turn : Turn) (before after : Stand) : Type 0 where
+  pub serves : Serves (whose_of before) message turn (moment_of before) (moment_of after)
+  pub leaves : Leaves before.desk.service.setup before.live.session turn before.seat.rights before.seat.seen
+      after.seat.rights after.seat.seen after.live.user
+  pub rights : KeepsRights 1 before.seat.rights after.seat.rights
+  pub replied : HasReplied turn message.body before.desk.exported after.desk.exported
+  pub ends : EndsProperly turn before after
+  pub stays : Stays before after

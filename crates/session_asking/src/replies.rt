@@ -87,14 +87,14 @@ pub struct Replies<'a, T: Texts> {
     pub(crate) piece: Vec<u8>,
     pub(crate) frames: Frames,
     pub exported: Exported,
+    ghost fits: { frames.width ≡ (T.service texts.now).setup.frames },
     ghost piece_len: { vec_len piece ≡ transfer_max frames.width },
 }
 
 impl<'a, T: Texts> Replies<'a, T> {
     /// The memory for a worker's answers: 40,576 bytes, or 133,728 for wide frames.
     pub fn new(alloc: Global, texts: &'a T) -> Result<Replies<'a, T>, AllocError>
-        ensures texts { IfOk result (λ replies. replies.texts.now ≡ texts.now) }
-        ensures width { IfOk result (λ replies. replies.frames.width ≡ (T.service texts.now).setup.frames) }
+        ensures { IfOk result (λ replies. replies.texts.now ≡ texts.now) }
     {
         let width = texts.setup().parts().frames;
         Ok(Replies {

@@ -1,14 +1,7 @@
 //! Serving one message.
 
-ghost use Rattle.std.specs.Prelude.{None, is_some, ◌≡◌, ◌≢◌, ◌<◌, ◌≤◌, [], ◌∷◌, false, length};
-ghost use Rattle.imsg_frame.specs.Message.{IsMessage, message_of};
-ghost use Rattle.outside.specs.Faults.{NoneFell};
-ghost use Rattle.policy_model.specs.declared.event.Event.{Event};
-ghost use Rattle.request_catalogue.specs.Widths.{frame_max};
-ghost use Rattle.session_turns.specs.Joins.{KeepsRights};
-ghost use Rattle.session_asking.specs.Known.{IsServed};
-ghost use Rattle.session_asking.specs.Made.{exported_bytes};
-ghost use Rattle.session_asking.specs.Serving.{HasReplied, IsProperTurn, Leaves, Serves, moment, whose};
+ghost use Rattle.imsg_frame.specs.Message.{message_of};
+ghost use Rattle.session_asking.specs.Serving.{Answered, MayAnswer, desk_of, live_of, stand};
 
 use crate::asking::{Turn, ask_of, is_export, state_of, turn_of, written};
 use crate::doing::perform;
@@ -35,31 +28,21 @@ pub fn serve_message<A: Turns, P: Post, L: LiveChild, T: Texts>(
     replies: &mut Replies<'_, T>,
 ) -> Turn
     requires may { A.may turns.old }
-    requires served { IsServed (T.service replies.old.texts.now).setup (A.rights turns.old) (A.seen turns.old)
-        live.old.session live.old.user }
-    requires right { let width = (T.service replies.old.texts.now).setup.frames in IsMessage width (frame_max width)
-        (message_of message.now) }
-    requires setup { A.setup turns.old ≡ (T.service replies.old.texts.now).setup }
-    requires width { replies.old.frames.width ≡ (T.service replies.old.texts.now).setup.frames }
-    ensures serves { Serves (whose (T.service replies.old.texts.now) (exported_bytes replies.old.exported)
-        live.old.session (A.rights turns.old).worker) (message_of message.now) result
-        (moment (A.seen turns.old) (P.scene post.old) (L.link live.old.child))
-        (moment (A.seen turns.new) (P.scene post.new) (L.link live.new.child)) }
-    ensures leaves { Leaves (T.service replies.old.texts.now).setup live.old.session result (A.rights turns.old)
-        (A.seen turns.old) (A.rights turns.new) (A.seen turns.new) live.new.user }
-    ensures rights { KeepsRights 1 (A.rights turns.old) (A.rights turns.new) }
-    ensures turns { A.keeps turns.old turns.new × (A.setup turns.new ≡ A.setup turns.old) × A.may turns.new }
-    ensures child { (live.new.session ≡ live.old.session) × (L.role live.new.child ≡ L.role live.old.child)
-        × (L.faults live.old.child ≤ L.faults live.new.child) }
-    ensures exported { HasReplied result message.now.body.now (exported_bytes replies.old.exported)
-        (exported_bytes replies.new.exported) }
-    ensures replies { (replies.new.texts.now ≡ replies.old.texts.now)
-        × (replies.new.frames.width ≡ replies.old.frames.width) }
-    ensures user { is_some live.new.user ≡ is_some live.old.user }
-    ensures once { (e : Event) → result ≡ Turn.HandsOver e → live.old.user ≡ None }
-    ensures proper { IsProperTurn result }
-    ensures fault { result ≡ Turn.Ends Why.LinkFault → 0 < L.faults live.new.child }
-    ensures kept { NoneFell (P.faults post.old) (P.faults post.new) }
+    requires right { MayAnswer (message_of message.now)
+        (stand (A.at turns.old) (desk_of (T.service replies.old.texts.now) replies.old.exported)
+        (live_of live.old.session live.old.user (L.role live.old.child) (L.link live.old.child)
+        (L.faults live.old.child))
+        (P.scene post.old) (P.faults post.old)) }
+    ensures answered { Answered (message_of message.now) result
+        (stand (A.at turns.old) (desk_of (T.service replies.old.texts.now) replies.old.exported)
+        (live_of live.old.session live.old.user (L.role live.old.child) (L.link live.old.child)
+        (L.faults live.old.child))
+        (P.scene post.old) (P.faults post.old))
+        (stand (A.at turns.new) (desk_of (T.service replies.new.texts.now) replies.new.exported)
+        (live_of live.new.session live.new.user (L.role live.new.child) (L.link live.new.child)
+        (L.faults live.new.child))
+        (P.scene post.new) (P.faults post.new)) }
+    ensures turns { A.keeps turns.old turns.new × A.may turns.new }
 {
     let header = message.header;
     let width = replies.texts.setup().parts().frames;

@@ -47,8 +47,7 @@ pub(crate) fn tell<T: Texts>(
     ensures told { let service = T.service source.now.texts.now in told result piece.new ≡ told_of service
         source.now.state.now (account_in service.setup source.now.user.now) event.now.ask event.now.decision
         (told outcome piece.old) }
-    ensures fits { Fits result (length piece.new) }
-    ensures len { length piece.new ≡ length piece.old }
+    ensures piece { Fits result (length piece.new) × (length piece.new ≡ length piece.old) }
 {
     let Decision::Permit { value } = event.decision else {
         return outcome;

@@ -5,3 +5,4 @@ pub mod EndLemmas
 pub mod Children
 pub mod OpeningLemmas
 pub mod WorkerLemmas
+pub mod Overs

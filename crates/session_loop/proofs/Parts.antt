@@ -1,46 +1,78 @@
 -- A child's part, turn by turn, as the loop keeps it.
-use Rattle.std.proofs.Common.{◌≡◌, ℕ, true, false, List, Option, refl, subst, ◌∙◌, arith}
-use Rattle.std.specs.Prelude.{is_some}
+use Rattle.std.proofs.Common.{◌≡◌, ◌≢◌, ℕ, true, false, List, Option, refl, sym, ap, subst, ◌∙◌, arith}
+use Rattle.outside.proofs.Counts.{NoneFell-none, NoneFell-then}
 use Rattle.policy_model.specs.declared.event.Event.{Event}
+use Rattle.policy_model.specs.declared.event.Why.TheVariants.{LinkFault}
 use Rattle.policy_model.specs.Settings.{Settings}
-use Rattle.service_model.specs.Service.{Service}
 use Rattle.session_asking.specs.declared.asking.Turn.{Turn}
 use Rattle.session_asking.specs.declared.asking.Turn.TheVariants as turns
 use Rattle.session_asking.specs.declared.live.LoggedIn.{LoggedIn}
 use Rattle.session_asking.specs.Known.{IsServed}
-use Rattle.session_asking.specs.Serving.{Moment, whose}
+use Rattle.session_asking.specs.Serving.{EndsProperly, MayServe, Stand, Stays, moment_of, whose_of}
 use Rattle.session_turns.specs.Joins.{Rights}
-use Rattle.session_loop.specs.Child.{CountsAsks, IsUnderway, KeepsState, PartTaken, SpendsOn, TurnTaken, ends_part}
+use Rattle.session_loop.specs.Child.{CountsAsks, IsUnderway, KeepsState, PartIsDone, SpendsOn, TurnIsDone, TurnTaken, ends_part}
 use Rattle.session_loop.proofs.Turning.{PartTaken-after, Proceeds-none, Proceeds-then, turn_proceeds}
 
-pub underway_none : (service : Service) (exported : List ℕ) (session : ℕ) (rights : Rights) (m : Moment) (user : Option LoggedIn) (held : List ℕ) → IsServed service.setup rights m.seen session user → IsUnderway service exported session rights rights m m user user held held service exported session
-underway_none service exported session rights m user held served = record {
-  service_is = refl;
-  exported_is = refl;
-  session_is = refl;
-  served = served;
-  counts = record { worker = refl; made = refl };
-  logged_in = refl;
-  proceeds = Proceeds-none (whose service exported session rights.worker) m held;
+-- 1. What stays
+
+pub Stays-none : (at : Stand) → Stays at at
+Stays-none at = record {
+  setup = refl;
+  service = refl;
+  session = refl;
+  role = refl;
+  user = refl;
+  link = omega arith;
+  kept = NoneFell-none at.faults;
 }
 
-whose_same : (service same_service : Service) (exported same_exported : List ℕ) (session same_session worker same_worker : ℕ) → same_service ≡ service → same_exported ≡ exported → same_session ≡ session → same_worker ≡ worker → whose same_service same_exported same_session same_worker ≡ whose service exported session worker
-whose_same service same_service exported same_exported session same_session worker same_worker a b c d = rw (a, b, c, d) refl
+pub Stays-then : (a b c : Stand) → Stays a b → Stays b c → Stays a c
+Stays-then a b c first second =
+    let low = first.link in
+    let high = second.link in
+    record {
+      setup = second.setup ∙ first.setup;
+      service = second.service ∙ first.service;
+      session = second.session ∙ first.session;
+      role = second.role ∙ first.role;
+      user = second.user ∙ first.user;
+      link = omega (arith, low, high);
+      kept = NoneFell-then a.faults b.faults c.faults first.kept second.kept;
+    }
 
--- what a turn says of the session that the loop began with
-here : (service : Service) (exported : List ℕ) (session : ℕ) (first rights : Rights) (a b c : Moment) (user_first user : Option LoggedIn) (h i j : List ℕ) (same_service : Service) (same_exported : List ℕ) (same_session : ℕ) (turn : Turn) (state : List ℕ) → IsUnderway service exported session first rights a b user_first user h i same_service same_exported same_session → TurnTaken (whose same_service same_exported same_session rights.worker) turn state b c i j → TurnTaken (whose service exported session first.worker) turn state b c i j
-here service exported session first rights a b c user_first user h i j same_service same_exported same_session turn state is taken =
-    subst (λ w. TurnTaken w turn state b c i j) (whose_same service same_service exported same_exported session same_session first.worker rights.worker is.service_is is.exported_is is.session_is is.counts.worker) taken
+-- 2. Where the loop stands
 
-spends_here : (service : Service) (exported : List ℕ) (session : ℕ) (first rights after : Rights) (a b c : Moment) (user_first user last : Option LoggedIn) (h i : List ℕ) (same_service : Service) (same_exported : List ℕ) (same_session : ℕ) (turn : Turn) → IsUnderway service exported session first rights a b user_first user h i same_service same_exported same_session → SpendsOn same_service.setup same_session turn rights b.seen after c.seen last → SpendsOn service.setup session turn rights b.seen after c.seen last
-spends_here service exported session first rights after a b c user_first user last h i same_service same_exported same_session turn is spends =
-    subst (λ s. SpendsOn s.setup session turn rights b.seen after c.seen last) is.service_is (subst (λ n. SpendsOn same_service.setup n turn rights b.seen after c.seen last) is.session_is spends)
+pub underway_none : (at : Stand) (held : List ℕ) → MayServe at → IsUnderway at at held held
+underway_none at held may = record {
+  served = may.served;
+  counts = record { worker = refl; made = refl };
+  exported = refl;
+  calm = refl;
+  stays = Stays-none at;
+  proceeds = Proceeds-none (whose_of at) (moment_of at) held;
+}
 
--- the turn that ends a part
-pub part_ends : (service : Service) (exported : List ℕ) (session : ℕ) (first rights : Rights) (a b c : Moment) (user_first user : Option LoggedIn) (h i j : List ℕ) (same_service : Service) (same_exported : List ℕ) (same_session : ℕ) (turn : Turn) (state : List ℕ) → IsUnderway service exported session first rights a b user_first user h i same_service same_exported same_session → ends_part turn ≡ true → TurnTaken (whose same_service same_exported same_session rights.worker) turn state b c i j → PartTaken (whose service exported session first.worker) turn state a c h
-part_ends service exported session first rights a b c user_first user h i j same_service same_exported same_session turn state is ends taken =
-    PartTaken-after (whose service exported session first.worker) turn state a b c h i j ends is.proceeds
-    (here service exported session first rights a b c user_first user h i j same_service same_exported same_session turn state is taken)
+-- whose requests they are doesn't change
+whose_same : (a b : Stand) (h i : List ℕ) → IsUnderway a b h i → whose_of b ≡ whose_of a
+whose_same a b h i is = rw (is.stays.service, is.exported, is.stays.session, is.counts.worker) refl
+
+-- so another turn may be taken
+pub may_go_on : (a b : Stand) (h i : List ℕ) → a.seat.setup ≡ a.desk.service.setup → IsUnderway a b h i → MayServe b
+may_go_on a b h i one is = record {
+  one = is.stays.setup ∙ one ∙ ap (λ s. s.setup) (sym is.stays.service);
+  served = subst (λ s. IsServed s.setup b.seat.rights b.seat.seen b.live.session b.live.user) (sym is.stays.service)
+      (subst (λ n. IsServed a.desk.service.setup b.seat.rights b.seat.seen n b.live.user) (sym is.stays.session) is.served);
+}
+
+-- 3. One turn more
+
+taken_here : (a b c : Stand) (h i j : List ℕ) (turn : Turn) → IsUnderway a b h i → TurnIsDone turn b c i j → TurnTaken (whose_of a) turn c.desk.exported (moment_of b) (moment_of c) i j
+taken_here a b c h i j turn is done = subst (λ w. TurnTaken w turn c.desk.exported (moment_of b) (moment_of c) i j) (whose_same a b h i is) done.taken
+
+spends_here : (a b c : Stand) (h i j : List ℕ) (turn : Turn) → IsUnderway a b h i → TurnIsDone turn b c i j → SpendsOn a.desk.service.setup a.live.session turn b.seat.rights b.seat.seen c.seat.rights c.seat.seen c.live.user
+spends_here a b c h i j turn is done =
+    subst (λ s. SpendsOn s.setup a.live.session turn b.seat.rights b.seat.seen c.seat.rights c.seat.seen c.live.user) is.stays.service
+    (subst (λ n. SpendsOn b.desk.service.setup n turn b.seat.rights b.seat.seen c.seat.rights c.seat.seen c.live.user) is.stays.session done.leaves.spends)
 
 ends_spent : (setup : Settings) (session : ℕ) (turn : Turn) (first rights after : Rights) (a b c : List Event) (user last : Option LoggedIn) → IsServed setup rights b session user → CountsAsks session first a rights b → ends_part turn ≡ true → SpendsOn setup session turn rights b after c last → SpendsOn setup session turn first a after c last
 ends_spent setup session turns.GoesOn first rights after a b c user last served counts ends spends = absurd cc
@@ -51,10 +83,27 @@ ends_spent setup session (turns.Ends why) first rights after a b c user last ser
 ends_spent setup session (turns.HandsOver e) first rights after a b c user last served counts ends spends =
     (spends.0, record { worker = spends.1.worker ∙ counts.worker; made = spends.1.made ∙ counts.made })
 
-pub part_spends : (service : Service) (exported : List ℕ) (session : ℕ) (first rights after : Rights) (a b c : Moment) (user_first user last : Option LoggedIn) (h i : List ℕ) (same_service : Service) (same_exported : List ℕ) (same_session : ℕ) (turn : Turn) → IsUnderway service exported session first rights a b user_first user h i same_service same_exported same_session → ends_part turn ≡ true → SpendsOn same_service.setup same_session turn rights b.seen after c.seen last → SpendsOn service.setup session turn first a.seen after c.seen last
-part_spends service exported session first rights after a b c user_first user last h i same_service same_exported same_session turn is ends spends =
-    ends_spent service.setup session turn first rights after a.seen b.seen c.seen user last is.served is.counts ends
-    (spends_here service exported session first rights after a b c user_first user last h i same_service same_exported same_session turn is spends)
+-- a turn hands over only before a login, as the first stand has it
+ends_here : (a b c : Stand) (h i : List ℕ) (turn : Turn) → IsUnderway a b h i → EndsProperly turn b c → EndsProperly turn a c
+ends_here a b c h i turn is ends = record {
+  proper = ends.proper;
+  fault = ends.fault;
+  calm = λ ne. ends.calm ne ∙ is.calm;
+  once = λ e same. sym is.stays.user ∙ ends.once e same;
+}
+
+-- the turn that ends a part
+pub part_done : (a b c : Stand) (h i j : List ℕ) (turn : Turn) → IsUnderway a b h i → ends_part turn ≡ true → TurnIsDone turn b c i j → PartIsDone turn a c h
+part_done a b c h i j turn is ends done = record {
+  taken = PartTaken-after (whose_of a) turn c.desk.exported (moment_of a) (moment_of b) (moment_of c) h i j ends is.proceeds (taken_here a b c h i j turn is done);
+  leaves = record {
+    spends = ends_spent a.desk.service.setup a.live.session turn a.seat.rights b.seat.rights c.seat.rights a.seat.seen b.seat.seen c.seat.seen b.live.user c.live.user is.served is.counts ends
+        (spends_here a b c h i j turn is done);
+    exported = λ ne. done.leaves.exported ne ∙ is.exported;
+    ends = ends_here a b c h i turn is done.leaves.ends;
+    stays = Stays-then a b c is.stays done.leaves.stays;
+  };
+}
 
 on_spent : (setup : Settings) (session : ℕ) (turn : Turn) (first rights after : Rights) (a b c : List Event) (last : Option LoggedIn) → CountsAsks session first a rights b → ends_part turn ≡ false → SpendsOn setup session turn rights b after c last → IsServed setup after c session last × CountsAsks session first a after c
 on_spent setup session turns.GoesOn first rights after a b c last counts on spends = (spends.0, record { worker = spends.1.worker ∙ counts.worker; made = spends.1.made ∙ counts.made })
@@ -66,21 +115,21 @@ same_state turns.GoesOn old new on keeps = keeps (λ e is. absurd cc)
 same_state (turns.Ends why) old new on keeps = absurd cc
 same_state (turns.HandsOver e) old new on keeps = absurd cc
 
+on_calm : (turn : Turn) → ends_part turn ≡ false → turn ≢ turns.Ends LinkFault
+on_calm turns.GoesOn on same = absurd cc
+on_calm (turns.Ends why) on same = absurd cc
+on_calm (turns.HandsOver e) on same = absurd cc
+
 -- a turn after which the child is served on
-pub underway_then : (service : Service) (exported : List ℕ) (session : ℕ) (first rights after : Rights) (a b c : Moment) (user_first user last : Option LoggedIn) (h i j : List ℕ) (same_service : Service) (same_exported : List ℕ) (same_session : ℕ) (next_service : Service) (next_session : ℕ) (turn : Turn) (state : List ℕ) → IsUnderway service exported session first rights a b user_first user h i same_service same_exported same_session → ends_part turn ≡ false → TurnTaken (whose same_service same_exported same_session rights.worker) turn state b c i j → SpendsOn same_service.setup same_session turn rights b.seen after c.seen last → KeepsState turn same_exported state → is_some last ≡ is_some user → next_service ≡ same_service → next_session ≡ same_session → IsUnderway service exported session first after a c user_first last h j next_service state next_session
-underway_then service exported session first rights after a b c user_first user last h i j same_service same_exported same_session next_service next_session turn state is on taken spends keeps some service_next session_next =
-    let w = whose service exported session first.worker in
-    let spent = on_spent service.setup session turn first rights after a.seen b.seen c.seen last is.counts on (spends_here service exported session first rights after a b c user_first user last h i same_service same_exported same_session turn is spends) in
+pub underway_then : (a b c : Stand) (h i j : List ℕ) (turn : Turn) → IsUnderway a b h i → ends_part turn ≡ false → TurnIsDone turn b c i j → IsUnderway a c h j
+underway_then a b c h i j turn is on done =
+    let w = whose_of a in
+    let spent = on_spent a.desk.service.setup a.live.session turn a.seat.rights b.seat.rights c.seat.rights a.seat.seen b.seat.seen c.seat.seen c.live.user is.counts on (spends_here a b c h i j turn is done) in
     record {
-      service_is = service_next ∙ is.service_is;
-      exported_is = same_state turn same_exported state on keeps ∙ is.exported_is;
-      session_is = session_next ∙ is.session_is;
       served = spent.0;
       counts = spent.1;
-      logged_in = some ∙ is.logged_in;
-      proceeds = Proceeds-then w a b c h i j is.proceeds (turn_proceeds w turn state b c i j on (here service exported session first rights a b c user_first user h i j same_service same_exported same_session turn state is taken));
+      exported = same_state turn b.desk.exported c.desk.exported on done.leaves.exported ∙ is.exported;
+      calm = done.leaves.ends.calm (on_calm turn on) ∙ is.calm;
+      stays = Stays-then a b c is.stays done.leaves.stays;
+      proceeds = Proceeds-then w (moment_of a) (moment_of b) (moment_of c) h i j is.proceeds (turn_proceeds w turn c.desk.exported (moment_of b) (moment_of c) i j on (taken_here a b c h i j turn is done));
     }
-
--- what was exported stays, but where the last turn hands over
-pub part_state : (service : Service) (exported : List ℕ) (session : ℕ) (first rights : Rights) (a b : Moment) (user_first user : Option LoggedIn) (h i : List ℕ) (same_service : Service) (same_exported : List ℕ) (same_session : ℕ) (turn : Turn) (state : List ℕ) → IsUnderway service exported session first rights a b user_first user h i same_service same_exported same_session → KeepsState turn same_exported state → KeepsState turn exported state
-part_state service exported session first rights a b user_first user h i same_service same_exported same_session turn state is keeps = λ ne. keeps ne ∙ is.exported_is

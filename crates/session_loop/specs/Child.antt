@@ -1,6 +1,6 @@
 -- Inner: what serving a child did, turn by turn.
 use Rattle.std.specs.Prelude.{◌≡◌, ◌≢◌, ℕ, ◌+◌, ◌-◌, ◌*◌, ◌<◌, ◌≤◌, Bool, true, false, List, [], ◌∷◌, ◌++◌, Option}
-use Rattle.std.specs.Prelude.{Some, None, option_to_list, is_some}
+use Rattle.std.specs.Prelude.{Some, None, option_to_list, length}
 use Rattle.std.specs.List.{AllByRecursion}
 use Rattle.imsg_frame.specs.Held.{Held}
 use Rattle.imsg_frame.specs.Message.{Message}
@@ -9,6 +9,7 @@ use Rattle.outside.specs.Scene.{Played}
 use Rattle.outside.specs.Told.{Goes}
 use Rattle.policy_model.specs.declared.event.Event.{Event}
 use Rattle.policy_model.specs.declared.event.Why.{Why}
+use Rattle.policy_model.specs.declared.event.Why.TheVariants.{LinkFault}
 use Rattle.policy_model.specs.Asks.{exports}
 use Rattle.policy_model.specs.Journal.{ask_count}
 use Rattle.policy_model.specs.Settings.{Settings}
@@ -19,14 +20,14 @@ use Rattle.service_model.specs.Answers.{answers}
 use Rattle.service_model.specs.Parts.{EndsSession, EndsSo, GoesOn, IsRequestStep, LastSent, step_bytes}
 use Rattle.service_model.specs.Places.{Step, step_acts}
 use Rattle.service_model.specs.Requests.{CameBy}
-use Rattle.service_model.specs.Service.{Service}
 use Rattle.service_model.specs.Users.{user_at}
 use Rattle.service_model.specs.Cases.{role_of, by_link, place_of}
 use Rattle.session_asking.specs.declared.asking.Turn.{Turn}
 use Rattle.session_asking.specs.declared.asking.Turn.TheVariants as turns
 use Rattle.session_asking.specs.declared.live.LoggedIn.{LoggedIn}
 use Rattle.session_asking.specs.Known.{IsServed, IsStillOpen}
-use Rattle.session_asking.specs.Serving.{IsNewUser, Moment, Steps, Whose, whose}
+use Rattle.session_asking.specs.Serving.{EndsProperly, IsNewUser, IsProperTurn, Moment, Stand, Stays, Steps, Whose}
+use Rattle.session_asking.specs.Serving.{moment_of, whose_of}
 use Rattle.session_turns.specs.Joins.{Rights}
 
 -- a reader of the frames of a session
@@ -158,14 +159,42 @@ SpendsOn setup session (turns.HandsOver e) rights_old old rights_new new user =
     ((logged_in : LoggedIn) → IsNewUser logged_in e → IsServed setup rights_new new session (Some logged_in))
     × CountsAsks session rights_old old rights_new new
 
+-- bytes were received or the child's bytes have ended, so that there are these after those that a reader held
+pub record Received (reader : Held) (turn : Turn) (held : List ℕ) (link_old link_new : Option Link)
+    (faults_old faults_new : ℕ) : Type 0 where
+  pub bytes : Receives reader.width turn reader.bytes held link_old link_new
+  pub reads : IsStillReading turn (length reader.bytes) (length held) reader.max
+  pub proper : IsProperTurn turn
+  pub fault : turn ≡ turns.Ends LinkFault → 0 < faults_new
+  pub calm : turn ≢ turns.Ends LinkFault → faults_new ≡ faults_old
+
+-- what a turn, or a part, leaves to a worker, and what stays
+pub record TurnLeaves (turn : Turn) (before after : Stand) : Type 0 where
+  pub spends : SpendsOn before.desk.service.setup before.live.session turn before.seat.rights before.seat.seen
+      after.seat.rights after.seat.seen after.live.user
+  pub exported : KeepsState turn before.desk.exported after.desk.exported
+  pub ends : EndsProperly turn before after
+  pub stays : Stays before after
+
+-- one turn of serving a child was taken
+pub record TurnIsDone (turn : Turn) (before after : Stand) (held_old held_new : List ℕ) : Type 0 where
+  pub taken : TurnTaken (whose_of before) turn after.desk.exported (moment_of before) (moment_of after) held_old
+      held_new
+  pub leaves : TurnLeaves turn before after
+  pub advances : turn ≡ turns.GoesOn → let setup = before.desk.service.setup in
+      Advances setup.requests (frame_max setup.frames) (ask_count before.seat.seen before.live.session)
+      (ask_count after.seat.seen before.live.session) (length held_old) (length held_new)
+
+-- a child was served to the end of its part
+pub record PartIsDone (turn : Turn) (before after : Stand) (held : List ℕ) : Type 0 where
+  pub taken : PartTaken (whose_of before) turn after.desk.exported (moment_of before) (moment_of after) held
+  pub leaves : TurnLeaves turn before after
+
 -- a child is being served: how the worker stands now against where its serving began
-pub record IsUnderway (service : Service) (exported : List ℕ) (session : ℕ) (rights_old rights_new : Rights)
-    (before now : Moment) (user_old user_new : Option LoggedIn) (held_old held_new : List ℕ) (same_service : Service)
-    (same_exported : List ℕ) (same_session : ℕ) : Type 0 where
-  pub service_is : same_service ≡ service
-  pub exported_is : same_exported ≡ exported
-  pub session_is : same_session ≡ session
-  pub served : IsServed service.setup rights_new now.seen session user_new
-  pub counts : CountsAsks session rights_old before.seen rights_new now.seen
-  pub logged_in : is_some user_new ≡ is_some user_old
-  pub proceeds : Proceeds (whose service exported session rights_old.worker) before now held_old held_new
+pub record IsUnderway (before now : Stand) (held_old held_new : List ℕ) : Type 0 where
+  pub served : IsServed before.desk.service.setup now.seat.rights now.seat.seen before.live.session now.live.user
+  pub counts : CountsAsks before.live.session before.seat.rights before.seat.seen now.seat.rights now.seat.seen
+  pub exported : now.desk.exported ≡ before.desk.exported
+  pub calm : now.live.child.faults ≡ before.live.child.faults
+  pub stays : Stays before now
+  pub proceeds : Proceeds (whose_of before) (moment_of before) (moment_of now) held_old held_new

@@ -1,6 +1,6 @@
 -- Inner: what the children of a session had, and how it ended.
 use Rattle.std.specs.Prelude.{◌≡◌, ◌≢◌, ℕ, ◌+◌, ◌<◌, ◌≤◌, true, false, List, [], ◌∷◌, ◌++◌, map, Option, Some, None}
-use Rattle.std.specs.Prelude.{Result, Ok, Err}
+use Rattle.std.specs.Prelude.{Result, Ok, Err, is_some}
 use Rattle.std.specs.List.{AllByRecursion, flat_map, list_any}
 use Rattle.outside.specs.declared.act.Act.{Act}
 use Rattle.outside.specs.declared.act.Act.TheVariants.{Accept, HangUp}
@@ -17,7 +17,7 @@ use Rattle.policy_model.specs.declared.event.Ask.TheVariants.{End}
 use Rattle.policy_model.specs.declared.event.Event.{Event}
 use Rattle.policy_model.specs.declared.event.Why.{Why}
 use Rattle.policy_model.specs.declared.event.Why.TheVariants as whys
-use Rattle.policy_model.specs.Asks.{is_lost}
+use Rattle.policy_model.specs.Asks.{exports, is_lost}
 use Rattle.policy_model.specs.Journal.{ask_count, open_session_of}
 use Rattle.policy_model.specs.Runs.{IsIdle, IsRun}
 use Rattle.policy_model.specs.Settings.{Settings}
@@ -27,11 +27,12 @@ use Rattle.service_model.specs.Places.{Step, step_acts}
 use Rattle.service_model.specs.Service.{Service}
 use Rattle.service_model.specs.Sittings.{AreParts, IsEnding, IsSitting, Sitting, all_steps, live_role}
 use Rattle.service_model.specs.Stories.{IsPlanned, talk_of}
-use Rattle.child_keeper.specs.Starts.{ChangesChild}
+use Rattle.child_keeper.specs.Starts.{ChangesChild, IsNewChild}
+use Rattle.child_keeper.specs.Tickets.{NamesAccount}
 use Rattle.session_asking.specs.declared.live.LoggedIn.{LoggedIn}
 use Rattle.session_asking.specs.Known.{IsServed}
-use Rattle.session_asking.specs.Serving.{IsNewUser, Steps, Whose}
-use Rattle.session_turns.specs.Joins.{Rights}
+use Rattle.session_asking.specs.Serving.{IsNewUser, MayServe, Stand, Steps, Whose}
+use Rattle.session_turns.specs.Joins.{Rights, Seat}
 
 -- the end of a worker's session may be asked for
 pub record CanEnd (setup : Settings) (rights : Rights) (seen : List Event) : Type 0 where
@@ -113,10 +114,48 @@ pub record HasSecond (w : Whose) (pre : Role) (link : Option Link) (user : Role)
   pub change : ChangesChild pre link user outcome before mid
   pub rest : AfterChange w pre user outcome why old new mid after
 
--- a user's child may be served in a session, for the account that an EXPORT names
-abbrev pub MayHandOver : Settings → Rights → List Event → ℕ → Event → Type 0
-MayHandOver setup rights seen session e =
-    (logged_in : LoggedIn) → IsNewUser logged_in e → IsServed setup rights seen session (Some logged_in)
+-- a session may begin: its worker's seat is of this setup, and the session is served, with nobody logged in
+pub record MayBegin (setup : Settings) (seat : Seat) (session : ℕ) : Type 0 where
+  pub one : seat.setup ≡ setup
+  pub served : IsServed setup seat.rights seat.seen session None
+
+-- a session's child before the login may be served, which was just started; nothing is exported yet
+pub record MayServePre (at : Stand) : Type 0 where
+  pub serves : MayServe at
+  pub nothing : at.desk.exported ≡ []
+  pub child : IsNewChild (Pre at.live.session) at.live.child.role at.live.child.link at.live.child.faults at.scene
+
+-- a session's child of its user may be served, which was just started
+pub record MayServeUser (at : Stand) : Type 0 where
+  pub serves : MayServe at
+  pub user : is_some at.live.user ≡ true
+  pub child : IsNewChild at.live.child.role at.live.child.role at.live.child.link at.live.child.faults at.scene
+
+-- a session may be handed over by this event: a permitted EXPORT that
+-- names an account, as whose user the session may be
+-- served
+pub record MayHandOver (setup : Settings) (seat : Seat) (session : ℕ) (e : Event) : Type 0 where
+  pub one : seat.setup ≡ setup
+  pub exported : exports e ≡ true
+  pub known : NamesAccount setup e
+  pub served : (logged_in : LoggedIn) → IsNewUser logged_in e
+      → IsServed setup seat.rights seat.seen session (Some logged_in)
+
+-- a session has ended, for this reason: its worker has none, or a decision was lost; how many asks it made; and a fault
+-- was counted where the reason is one
+pub record SessionIsOver (setup : Settings) (session : ℕ) (why : Why) (before after : Seat)
+    (faults_old faults_new : Faults)
+    : Type 0 where
+  pub over : IsOver setup before.rights.worker after.seen
+  pub rights : LeavesWithin setup session before.rights before.seen after.rights
+  pub cause : EndHasCause why faults_old faults_new
+
+-- the same of a session from its opening on
+pub record WorkerIsFree (setup : Settings) (why : Why) (before after : Seat)
+    (faults_old faults_new : Faults) : Type 0 where
+  pub over : IsOver setup before.rights.worker after.seen
+  pub rights : SpendsAtMost (setup.requests + 3) before.rights after.rights
+  pub cause : EndHasCause why faults_old faults_new
 
 -- what followed the start of a session's first child: what the children had, and the end
 pub record HasChildren (service : Service) (session worker : ℕ) (why : Why) (old new : List Event)

@@ -1,5 +1,6 @@
 -- Inner: the sessions of a worker, one after the other.
-use Rattle.std.specs.Prelude.{◌≡◌, ℕ, ◌+◌, ◌-◌, ◌^◌, ◌≤◌, min, count_by, Bool, true, false, List, length, map, Option}
+use Rattle.std.specs.Prelude.{◌≡◌, ℕ, ◌+◌, ◌-◌, ◌^◌, ◌<◌, ◌≤◌, min, count_by, Bool, true, false, List, length, map}
+use Rattle.std.specs.Prelude.{Option}
 use Rattle.std.specs.List.{AllByRecursion, flat_map}
 use Rattle.outside.specs.declared.faults.Faults.{Faults}
 use Rattle.outside.specs.Scene.{Played, Scene, came_count}
@@ -17,12 +18,13 @@ use Rattle.service_model.specs.Sittings.{IsSitting, NoneBehindLoss, Sitting, all
 use Rattle.service_model.specs.Stories.{AcceptFailed, ArePlanned, LastAccept, NoAcceptBehindLoss, NoneLeft, Unasked}
 use Rattle.service_model.specs.Stories.{parts_of, story_acts, talk_of}
 use Rattle.session_asking.specs.Serving.{Steps}
-use Rattle.session_turns.specs.Joins.{Rights}
+use Rattle.session_turns.specs.Joins.{Rights, Seat}
+use Rattle.session_loop.specs.Sessions.{IsOver}
 use Rattle.session_loop.specs.declared.worker.WorkerEnd.{WorkerEnd}
 use Rattle.session_loop.specs.declared.worker.WorkerEnd.TheVariants as ends
 
 -- a worker may serve: it has no session, and asks are left for all its connections
-pub record MayServe (setup : Settings) (rights : Rights) (seen : List Event) : Type 0 where
+pub record MayServeAll (setup : Settings) (rights : Rights) (seen : List Event) : Type 0 where
   pub run : IsRun setup seen
   pub idle : IsIdle seen rights.worker
   pub left : quota_of setup ≤ rights.left
@@ -73,3 +75,9 @@ pub record HasStory (service : Service) (worker : ℕ) (end : WorkerEnd) (old ne
 abbrev pub is_accept_fault : WorkerEnd → Bool
 is_accept_fault ends.AcceptFault = true
 is_accept_fault _ = false
+
+-- a worker that ended so has no session, is the same, and counted the accept that failed
+pub record WorkerHasEnded (end : WorkerEnd) (before after : Seat) (faults : Faults) : Type 0 where
+  pub over : IsOver before.setup before.rights.worker after.seen
+  pub worker : after.rights.worker ≡ before.rights.worker
+  pub accept_fault : end ≡ ends.AcceptFault → 0 < faults.accept

@@ -1,22 +1,17 @@
 //! One child of a session, served until its part ends.
 
-ghost use Rattle.std.specs.Prelude.{◌≡◌, ◌<◌, ◌≤◌, false, is_some, length};
+ghost use Rattle.std.specs.Prelude.{◌≡◌, ◌<◌, ◌≤◌, length};
 ghost use Rattle.imsg_frame.specs.Cut.{IsPartialFront};
-ghost use Rattle.outside.specs.Faults.{NoneFell};
-ghost use Rattle.policy_model.specs.declared.event.Event.{Event};
-ghost use Rattle.policy_model.specs.Journal.{ask_count};
 ghost use Rattle.request_catalogue.specs.Widths.{frame_max};
-ghost use Rattle.session_asking.specs.Known.{IsServed};
-ghost use Rattle.session_asking.specs.Made.{exported_bytes};
-ghost use Rattle.session_asking.specs.Serving.{IsProperTurn, moment, whose};
-ghost use Rattle.session_loop.specs.Child.{Advances, IsForSessions, IsStillReading, KeepsState, PartTaken, Receives};
-ghost use Rattle.session_loop.specs.Child.{SpendsOn, TurnTaken, ends_part};
+ghost use Rattle.session_asking.specs.Serving.{MayServe, desk_of, live_of, stand};
+ghost use Rattle.session_loop.specs.Child.{PartIsDone, Received, TurnIsDone, ends_part};
 
+use crate::desk::Desk;
 use child_keeper::LiveChild;
 use imsg_frame::{Frame, Next, Reader};
 use outside::{Failed, Post};
 use policy_model::Why;
-use session_asking::{Live, Replies, Texts, Turn, serve_message};
+use session_asking::{Live, Texts, Turn, serve_message};
 use session_turns::Turns;
 
 /// The most bytes that are received at once.
@@ -28,13 +23,9 @@ fn receive<L: LiveChild>(child: &mut L, reader: &mut Reader) -> Turn
     requires front { IsPartialFront reader.old.width (frame_max reader.old.width) reader.old.bytes }
     ensures width { reader.new.width ≡ reader.old.width }
     ensures max { reader.new.max ≡ reader.old.max }
-    ensures reads { IsStillReading result (length reader.old.bytes) (length reader.new.bytes) reader.new.max }
-    ensures proper { IsProperTurn result }
-    ensures received { Receives reader.old.width result reader.old.bytes reader.new.bytes (L.link child.old)
-        (L.link child.new) }
-    ensures fault { result ≡ Turn.Ends Why.LinkFault → 0 < L.faults child.new }
-    ensures kept { L.faults child.old ≤ L.faults child.new }
-    ensures role { L.role child.new ≡ L.role child.old }
+    ensures received { Received reader.old result reader.new.bytes (L.link child.old) (L.link child.new)
+        (L.faults child.old) (L.faults child.new) }
+    ensures child { (L.role child.new ≡ L.role child.old) × (L.faults child.old ≤ L.faults child.new) }
 {
     let mut piece = [0; PIECE_LEN];
     let room = reader.room().min(PIECE_LEN);
@@ -61,45 +52,30 @@ fn serve_turn<A: Turns, P: Post, L: LiveChild, T: Texts>(
     turns: &mut A,
     post: &mut P,
     live: &mut Live<P, L>,
-    reader: &mut Reader,
-    replies: &mut Replies<'_, T>,
+    desk: &mut Desk<'_, T>,
 ) -> Turn
     requires may { A.may turns.old }
-    requires served { IsServed (T.service replies.old.texts.now).setup (A.rights turns.old) (A.seen turns.old)
-        live.old.session live.old.user }
-    requires setup { A.setup turns.old ≡ (T.service replies.old.texts.now).setup }
-    requires width { replies.old.frames.width ≡ (T.service replies.old.texts.now).setup.frames }
-    requires frames { IsForSessions (T.service replies.old.texts.now).setup.frames reader.old }
-    ensures taken { TurnTaken (whose (T.service replies.old.texts.now) (exported_bytes replies.old.exported)
-        live.old.session (A.rights turns.old).worker) result (exported_bytes replies.new.exported)
-        (moment (A.seen turns.old) (P.scene post.old) (L.link live.old.child))
-        (moment (A.seen turns.new) (P.scene post.new) (L.link live.new.child))
-        reader.old.bytes reader.new.bytes }
-    ensures spends { SpendsOn (T.service replies.old.texts.now).setup live.old.session result (A.rights turns.old)
-        (A.seen turns.old) (A.rights turns.new) (A.seen turns.new) live.new.user }
-    ensures advances { result ≡ Turn.GoesOn → let setup = (T.service replies.old.texts.now).setup in
-        Advances setup.requests (frame_max setup.frames) (ask_count (A.seen turns.old) live.old.session)
-        (ask_count (A.seen turns.new) live.old.session) (length reader.old.bytes) (length reader.new.bytes) }
-    ensures turns { A.keeps turns.old turns.new × (A.setup turns.new ≡ A.setup turns.old) × A.may turns.new }
-    ensures child { (live.new.session ≡ live.old.session) × (L.role live.new.child ≡ L.role live.old.child)
-        × (L.faults live.old.child ≤ L.faults live.new.child) }
-    ensures exported { KeepsState result (exported_bytes replies.old.exported) (exported_bytes replies.new.exported) }
-    ensures replies { (replies.new.texts.now ≡ replies.old.texts.now)
-        × (replies.new.frames.width ≡ replies.old.frames.width) }
-    ensures frames { IsForSessions (T.service replies.old.texts.now).setup.frames reader.new }
-    ensures user { is_some live.new.user ≡ is_some live.old.user }
-    ensures once { (e : Event) → result ≡ Turn.HandsOver e → is_some live.old.user ≡ false }
-    ensures proper { IsProperTurn result }
-    ensures fault { result ≡ Turn.Ends Why.LinkFault → 0 < L.faults live.new.child }
-    ensures kept { NoneFell (P.faults post.old) (P.faults post.new) }
+    requires served { MayServe
+        (stand (A.at turns.old) (desk_of (T.service desk.old.replies.texts.now) desk.old.replies.exported)
+        (live_of live.old.session live.old.user (L.role live.old.child) (L.link live.old.child)
+        (L.faults live.old.child)) (P.scene post.old) (P.faults post.old)) }
+    ensures done { TurnIsDone result
+        (stand (A.at turns.old) (desk_of (T.service desk.old.replies.texts.now) desk.old.replies.exported)
+        (live_of live.old.session live.old.user (L.role live.old.child) (L.link live.old.child)
+        (L.faults live.old.child)) (P.scene post.old) (P.faults post.old))
+        (stand (A.at turns.new) (desk_of (T.service desk.new.replies.texts.now) desk.new.replies.exported)
+        (live_of live.new.session live.new.user (L.role live.new.child) (L.link live.new.child)
+        (L.faults live.new.child)) (P.scene post.new) (P.faults post.new))
+        desk.old.reader.bytes desk.new.reader.bytes }
+    ensures turns { A.keeps turns.old turns.new × A.may turns.new }
 {
-    match reader.next() {
+    match desk.reader.next() {
         Next::Frame(header) => {
-            let bytes: &[u8] = reader.contiguous();
+            let bytes: &[u8] = desk.reader.contiguous();
             let message = Frame::in_front(header, bytes);
-            serve_message(turns, post, live, &message, replies)
+            serve_message(turns, post, live, &message, &mut desk.replies)
         }
-        Next::NotYet => receive(&mut live.child, reader),
+        Next::NotYet => receive(&mut live.child, &mut desk.reader),
         Next::Bad { len } => Turn::Ends {
             why: Why::BadFrame { len },
         },
@@ -119,36 +95,25 @@ pub fn serve_child<A: Turns, P: Post, L: LiveChild, T: Texts>(
     turns: &mut A,
     post: &mut P,
     live: &mut Live<P, L>,
-    reader: &mut Reader,
-    replies: &mut Replies<'_, T>,
+    desk: &mut Desk<'_, T>,
 ) -> Turn
     requires may { A.may turns.old }
-    requires served { IsServed (T.service replies.old.texts.now).setup (A.rights turns.old) (A.seen turns.old)
-        live.old.session live.old.user }
-    requires setup { A.setup turns.old ≡ (T.service replies.old.texts.now).setup }
-    requires width { replies.old.frames.width ≡ (T.service replies.old.texts.now).setup.frames }
-    requires frames { IsForSessions (T.service replies.old.texts.now).setup.frames reader.old }
-    ensures taken { PartTaken (whose (T.service replies.old.texts.now) (exported_bytes replies.old.exported)
-        live.old.session (A.rights turns.old).worker) result (exported_bytes replies.new.exported)
-        (moment (A.seen turns.old) (P.scene post.old) (L.link live.old.child))
-        (moment (A.seen turns.new) (P.scene post.new) (L.link live.new.child))
-        reader.old.bytes }
-    ensures spends { SpendsOn (T.service replies.old.texts.now).setup live.old.session result (A.rights turns.old)
-        (A.seen turns.old) (A.rights turns.new) (A.seen turns.new) live.new.user }
-    ensures turns { A.keeps turns.old turns.new × (A.setup turns.new ≡ A.setup turns.old) × A.may turns.new }
-    ensures child { (live.new.session ≡ live.old.session) × (L.role live.new.child ≡ L.role live.old.child)
-        × (L.faults live.old.child ≤ L.faults live.new.child) }
-    ensures exported { KeepsState result (exported_bytes replies.old.exported) (exported_bytes replies.new.exported) }
-    ensures replies { (replies.new.texts.now ≡ replies.old.texts.now)
-        × (replies.new.frames.width ≡ replies.old.frames.width) }
-    ensures frames { IsForSessions (T.service replies.old.texts.now).setup.frames reader.new }
-    ensures once { (e : Event) → result ≡ Turn.HandsOver e → is_some live.old.user ≡ false }
-    ensures proper { IsProperTurn result }
-    ensures fault { result ≡ Turn.Ends Why.LinkFault → 0 < L.faults live.new.child }
-    ensures kept { NoneFell (P.faults post.old) (P.faults post.new) }
+    requires served { MayServe
+        (stand (A.at turns.old) (desk_of (T.service desk.old.replies.texts.now) desk.old.replies.exported)
+        (live_of live.old.session live.old.user (L.role live.old.child) (L.link live.old.child)
+        (L.faults live.old.child)) (P.scene post.old) (P.faults post.old)) }
+    ensures done { PartIsDone result
+        (stand (A.at turns.old) (desk_of (T.service desk.old.replies.texts.now) desk.old.replies.exported)
+        (live_of live.old.session live.old.user (L.role live.old.child) (L.link live.old.child)
+        (L.faults live.old.child)) (P.scene post.old) (P.faults post.old))
+        (stand (A.at turns.new) (desk_of (T.service desk.new.replies.texts.now) desk.new.replies.exported)
+        (live_of live.new.session live.new.user (L.role live.new.child) (L.link live.new.child)
+        (L.faults live.new.child)) (P.scene post.new) (P.faults post.new))
+        desk.old.reader.bytes }
+    ensures turns { A.keeps turns.old turns.new × A.may turns.new }
 {
     loop {
-        let turn = serve_turn(turns, post, live, reader, replies);
+        let turn = serve_turn(turns, post, live, desk);
         if ends_part(&turn) {
             return turn;
         }

@@ -16,12 +16,12 @@ use session_turns::Turns;
 /// Asks for the end of the worker's open session.
 pub(crate) fn end_session<A: Turns>(turns: &mut A, why: Why)
     requires may { A.may turns.old }
-    requires open { CanEnd (A.setup turns.old) (A.rights turns.old) (A.seen turns.old) }
+    requires open { CanEnd (A.at turns.old).setup (A.at turns.old).rights (A.at turns.old).seen }
     requires proper { is_proper_why why ≡ true }
-    ensures ended { EndsOpen (A.rights turns.old).worker why (A.seen turns.old) (A.seen turns.new) }
-    ensures over { IsOver (A.setup turns.old) (A.rights turns.old).worker (A.seen turns.new) }
-    ensures rights { KeepsRights 1 (A.rights turns.old) (A.rights turns.new) }
-    ensures turns { A.keeps turns.old turns.new × (A.setup turns.new ≡ A.setup turns.old) × A.may turns.new }
+    ensures ended { let seat = A.at turns.old in EndsOpen seat.rights.worker why seat.seen (A.at turns.new).seen
+        × IsOver seat.setup seat.rights.worker (A.at turns.new).seen }
+    ensures rights { KeepsRights 1 (A.at turns.old).rights (A.at turns.new).rights }
+    ensures turns { A.keeps turns.old turns.new × ((A.at turns.new).setup ≡ (A.at turns.old).setup) × A.may turns.new }
 {
     let _end = turns.ask(Ask::End { why });
 }

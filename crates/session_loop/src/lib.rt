@@ -3,10 +3,12 @@
 #![tactic(auto)]
 
 mod child;
+mod desk;
 mod ending;
 mod session;
 mod worker;
 
 pub use child::serve_child;
+pub use desk::Desk;
 pub use session::run_session;
 pub use worker::{WorkerEnd, serve_worker};

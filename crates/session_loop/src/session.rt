@@ -1,26 +1,24 @@
 //! One session, from its opening to its end.
 
-ghost use Rattle.std.specs.Prelude.{◌≡◌, ◌<◌, ◌+◌, [], None, true, is_some};
+ghost use Rattle.std.specs.Prelude.{◌≡◌, ◌<◌, [], None};
 ghost use Rattle.child_keeper.specs.Links.{pre_child, user_child};
-ghost use Rattle.child_keeper.specs.Starts.{IsNewChild};
-ghost use Rattle.child_keeper.specs.Tickets.{NamesAccount, user_role};
-ghost use Rattle.policy_model.specs.Asks.{exports, value_of};
-ghost use Rattle.session_asking.specs.Known.{IsServed};
+ghost use Rattle.child_keeper.specs.Tickets.{user_role};
+ghost use Rattle.policy_model.specs.Asks.{value_of};
 ghost use Rattle.session_asking.specs.Made.{exported_bytes};
-ghost use Rattle.session_asking.specs.Serving.{whose};
+ghost use Rattle.session_asking.specs.Serving.{MayServe, desk_of, live_of, stand, whose};
 ghost use Rattle.service_model.specs.Service.{Service};
 ghost use Rattle.session_turns.specs.Joins.{KeepsRights};
-ghost use Rattle.session_loop.specs.Child.{IsForSessions};
-ghost use Rattle.session_loop.specs.Sessions.{EndHasCause, HasChildren, HasPart, HasRest, HasSecond, HasSitting};
-ghost use Rattle.session_loop.specs.Sessions.{IsOver, LeavesWithin, MayHandOver, MayOpen, Opens, SpendsAtMost};
+ghost use Rattle.session_loop.specs.Sessions.{HasChildren, HasPart, HasRest, HasSecond, HasSitting, MayBegin};
+ghost use Rattle.session_loop.specs.Sessions.{MayHandOver};
+ghost use Rattle.session_loop.specs.Sessions.{MayOpen, MayServePre, MayServeUser, Opens, SessionIsOver, WorkerIsFree};
 
 use crate::child::serve_child;
+use crate::desk::Desk;
 use crate::ending::{close_pre, close_user, end_session};
 use child_keeper::{KeeperFault, PreLink, UserLink, UserTicket, start_pre, start_user};
-use imsg_frame::Reader;
 use outside::{Post, Role};
 use policy_model::{Ask, Decision, Event, Why};
-use session_asking::{Live, LoggedIn, OpenFiles, Replies, Texts, Turn};
+use session_asking::{Live, LoggedIn, OpenFiles, Texts, Turn};
 use session_turns::Turns;
 
 /// A session that was opened, with its connection.
@@ -40,33 +38,26 @@ fn serve_user<A: Turns, P: Post, T: Texts>(
     turns: &mut A,
     post: &mut P,
     mut live: Live<P, UserLink<P::Child>>,
-    reader: &mut Reader,
-    replies: &mut Replies<'_, T>,
+    desk: &mut Desk<'_, T>,
 ) -> Why
     requires may { A.may turns.old }
-    requires served { IsServed (T.service replies.old.texts.now).setup (A.rights turns.old) (A.seen turns.old)
-        live.session live.user }
-    requires some { is_some live.user ≡ true }
-    requires setup { A.setup turns.old ≡ (T.service replies.old.texts.now).setup }
-    requires width { replies.old.frames.width ≡ (T.service replies.old.texts.now).setup.frames }
-    requires frames { IsForSessions (T.service replies.old.texts.now).setup.frames reader.old }
-    requires child { let child = user_child live.child in
-        IsNewChild (P.Child.role child) (P.Child.role child) (P.Child.link child) (P.Child.faults child)
-        (P.scene post.old) }
-    ensures part { HasPart (whose (T.service replies.old.texts.now) (exported_bytes replies.old.exported) live.session
-        (A.rights turns.old).worker) (P.Child.role (user_child live.child)) result
-        (A.seen turns.old) (A.seen turns.new) (P.scene post.old) (P.scene post.new) }
-    ensures over { IsOver (T.service replies.old.texts.now).setup (A.rights turns.old).worker (A.seen turns.new) }
-    ensures rights { LeavesWithin (T.service replies.old.texts.now).setup live.session (A.rights turns.old)
-        (A.seen turns.old) (A.rights turns.new) }
-    ensures cause { EndHasCause result (P.faults post.old) (P.faults post.new) }
-    ensures turns { A.keeps turns.old turns.new × (A.setup turns.new ≡ A.setup turns.old) × A.may turns.new }
-    ensures replies { (replies.new.texts.now ≡ replies.old.texts.now)
-        × (replies.new.frames.width ≡ replies.old.frames.width) }
-    ensures frames { IsForSessions (T.service replies.old.texts.now).setup.frames reader.new }
+    requires served { let child = user_child live.child in MayServeUser
+        (stand (A.at turns.old) (desk_of (T.service desk.old.replies.texts.now) desk.old.replies.exported)
+        (live_of live.session live.user (P.Child.role child) (P.Child.link child) (P.Child.faults child))
+        (P.scene post.old) (P.faults post.old)) }
+    ensures part { HasPart (whose (T.service desk.old.replies.texts.now) (exported_bytes desk.old.replies.exported)
+        live.session
+        (A.at turns.old).rights.worker)
+        (P.Child.role (user_child live.child)) result (A.at turns.old).seen (A.at turns.new).seen (P.scene post.old)
+        (P.scene post.new) }
+    ensures over { SessionIsOver (T.service desk.old.replies.texts.now).setup live.session result (A.at turns.old)
+        (A.at turns.new)
+        (P.faults post.old) (P.faults post.new) }
+    ensures turns { A.keeps turns.old turns.new × ((A.at turns.new).setup ≡ (A.at turns.old).setup) × A.may turns.new }
+    ensures desk { T.service desk.new.replies.texts.now ≡ T.service desk.old.replies.texts.now }
 {
-    reader.clear();
-    match serve_child(turns, post, &mut live, reader, replies) {
+    desk.reader.clear();
+    match serve_child(turns, post, &mut live, desk) {
         Turn::Ends { why } => {
             let Live {
                 session: _,
@@ -99,30 +90,22 @@ fn hand_over<A: Turns, P: Post, T: Texts>(
     turns: &mut A,
     post: &mut P,
     handed: Handed<P>,
-    reader: &mut Reader,
-    replies: &mut Replies<'_, T>,
+    desk: &mut Desk<'_, T>,
 ) -> Why
     requires may { A.may turns.old }
-    requires exported { exports handed.event ≡ true }
-    requires known { NamesAccount (T.service replies.old.texts.now).setup handed.event }
-    requires served { MayHandOver (T.service replies.old.texts.now).setup (A.rights turns.old) (A.seen turns.old)
-        handed.live.session handed.event }
-    requires setup { A.setup turns.old ≡ (T.service replies.old.texts.now).setup }
-    requires width { replies.old.frames.width ≡ (T.service replies.old.texts.now).setup.frames }
-    requires frames { IsForSessions (T.service replies.old.texts.now).setup.frames reader.old }
+    requires served { MayHandOver (T.service desk.old.replies.texts.now).setup (A.at turns.old) handed.live.session
+        handed.event }
     ensures second { let child = pre_child handed.live.child in
-        HasSecond (whose (T.service replies.old.texts.now) (exported_bytes replies.old.exported) handed.live.session
-        (A.rights turns.old).worker) (P.Child.role child) (P.Child.link child)
-        (user_role (T.service replies.old.texts.now).setup handed.event) result
-        (A.seen turns.old) (A.seen turns.new) (P.scene post.old) (P.scene post.new) }
-    ensures over { IsOver (T.service replies.old.texts.now).setup (A.rights turns.old).worker (A.seen turns.new) }
-    ensures rights { LeavesWithin (T.service replies.old.texts.now).setup handed.live.session (A.rights turns.old)
-        (A.seen turns.old) (A.rights turns.new) }
-    ensures cause { EndHasCause result (P.faults post.old) (P.faults post.new) }
-    ensures turns { A.keeps turns.old turns.new × (A.setup turns.new ≡ A.setup turns.old) × A.may turns.new }
-    ensures replies { (replies.new.texts.now ≡ replies.old.texts.now)
-        × (replies.new.frames.width ≡ replies.old.frames.width) }
-    ensures frames { IsForSessions (T.service replies.old.texts.now).setup.frames reader.new }
+        HasSecond (whose (T.service desk.old.replies.texts.now) (exported_bytes desk.old.replies.exported)
+        handed.live.session
+        (A.at turns.old).rights.worker)
+        (P.Child.role child) (P.Child.link child) (user_role (T.service desk.old.replies.texts.now).setup handed.event)
+        result (A.at turns.old).seen (A.at turns.new).seen (P.scene post.old) (P.scene post.new) }
+    ensures over { SessionIsOver (T.service desk.old.replies.texts.now).setup handed.live.session result
+        (A.at turns.old) (A.at turns.new)
+        (P.faults post.old) (P.faults post.new) }
+    ensures turns { A.keeps turns.old turns.new × ((A.at turns.new).setup ≡ (A.at turns.old).setup) × A.may turns.new }
+    ensures desk { T.service desk.new.replies.texts.now ≡ T.service desk.old.replies.texts.now }
 {
     let Handed { live, event } = handed;
     let Live {
@@ -131,7 +114,7 @@ fn hand_over<A: Turns, P: Post, T: Texts>(
         child,
         user: _,
     } = live;
-    let setup = replies.texts.setup();
+    let setup = desk.replies.texts.setup();
     let user = LoggedIn {
         account: account_of(&event),
         files: OpenFiles::none(),
@@ -146,7 +129,7 @@ fn hand_over<A: Turns, P: Post, T: Texts>(
                 child,
                 user,
             };
-            serve_user(turns, post, live, reader, replies)
+            serve_user(turns, post, live, desk)
         }
         Err(KeeperFault) => {
             let why = Why::KeeperFault;
@@ -162,32 +145,24 @@ fn serve_pre<A: Turns, P: Post, T: Texts>(
     turns: &mut A,
     post: &mut P,
     mut live: Live<P, PreLink<P::Child>>,
-    reader: &mut Reader,
-    replies: &mut Replies<'_, T>,
+    desk: &mut Desk<'_, T>,
 ) -> Why
     requires may { A.may turns.old }
-    requires served { IsServed (T.service replies.old.texts.now).setup (A.rights turns.old) (A.seen turns.old)
-        live.session live.user }
-    requires setup { A.setup turns.old ≡ (T.service replies.old.texts.now).setup }
-    requires width { replies.old.frames.width ≡ (T.service replies.old.texts.now).setup.frames }
-    requires frames { IsForSessions (T.service replies.old.texts.now).setup.frames reader.old }
-    requires nothing { exported_bytes replies.old.exported ≡ [] }
-    requires child { let child = pre_child live.child in
-        IsNewChild (Role.Pre live.session) (P.Child.role child) (P.Child.link child) (P.Child.faults child)
-        (P.scene post.old) }
-    ensures children { HasChildren (T.service replies.old.texts.now) live.session (A.rights turns.old).worker result
-        (A.seen turns.old) (A.seen turns.new) (P.scene post.old) (P.scene post.new) }
-    ensures over { IsOver (T.service replies.old.texts.now).setup (A.rights turns.old).worker (A.seen turns.new) }
-    ensures rights { LeavesWithin (T.service replies.old.texts.now).setup live.session (A.rights turns.old)
-        (A.seen turns.old) (A.rights turns.new) }
-    ensures cause { EndHasCause result (P.faults post.old) (P.faults post.new) }
-    ensures turns { A.keeps turns.old turns.new × (A.setup turns.new ≡ A.setup turns.old) × A.may turns.new }
-    ensures replies { (replies.new.texts.now ≡ replies.old.texts.now)
-        × (replies.new.frames.width ≡ replies.old.frames.width) }
-    ensures frames { IsForSessions (T.service replies.old.texts.now).setup.frames reader.new }
+    requires served { let child = pre_child live.child in MayServePre
+        (stand (A.at turns.old) (desk_of (T.service desk.old.replies.texts.now) desk.old.replies.exported)
+        (live_of live.session live.user (P.Child.role child) (P.Child.link child) (P.Child.faults child))
+        (P.scene post.old) (P.faults post.old)) }
+    ensures children { HasChildren (T.service desk.old.replies.texts.now) live.session (A.at turns.old).rights.worker
+        result
+        (A.at turns.old).seen (A.at turns.new).seen (P.scene post.old) (P.scene post.new) }
+    ensures over { SessionIsOver (T.service desk.old.replies.texts.now).setup live.session result (A.at turns.old)
+        (A.at turns.new)
+        (P.faults post.old) (P.faults post.new) }
+    ensures turns { A.keeps turns.old turns.new × ((A.at turns.new).setup ≡ (A.at turns.old).setup) × A.may turns.new }
+    ensures desk { T.service desk.new.replies.texts.now ≡ T.service desk.old.replies.texts.now }
 {
-    reader.clear();
-    match serve_child(turns, post, &mut live, reader, replies) {
+    desk.reader.clear();
+    match serve_child(turns, post, &mut live, desk) {
         Turn::Ends { why } => {
             let Live {
                 session: _,
@@ -200,7 +175,7 @@ fn serve_pre<A: Turns, P: Post, T: Texts>(
             why
         }
         Turn::HandsOver { event } => {
-            hand_over(turns, post, Handed { live, event }, reader, replies)
+            hand_over(turns, post, Handed { live, event }, desk)
         }
         Turn::GoesOn => unreachable!(),
     }
@@ -209,11 +184,11 @@ fn serve_pre<A: Turns, P: Post, T: Texts>(
 /// Asks for the opening of a session, which may be lost.
 fn open_session<A: Turns>(turns: &mut A) -> Event
     requires may { A.may turns.old }
-    requires may_open { MayOpen (A.setup turns.old) (A.rights turns.old) (A.seen turns.old) }
-    ensures opens { (service : Service) → service.setup ≡ A.setup turns.old → Opens service (A.rights turns.old)
-        (A.seen turns.old) (A.rights turns.new) (A.seen turns.new) result }
-    ensures rights { KeepsRights 1 (A.rights turns.old) (A.rights turns.new) }
-    ensures turns { A.keeps turns.old turns.new × (A.setup turns.new ≡ A.setup turns.old) × A.may turns.new }
+    requires may_open { MayOpen (A.at turns.old).setup (A.at turns.old).rights (A.at turns.old).seen }
+    ensures opens { (service : Service) → service.setup ≡ (A.at turns.old).setup → Opens service (A.at turns.old).rights
+        (A.at turns.old).seen (A.at turns.new).rights (A.at turns.new).seen result }
+    ensures rights { KeepsRights 1 (A.at turns.old).rights (A.at turns.new).rights }
+    ensures turns { A.keeps turns.old turns.new × ((A.at turns.new).setup ≡ (A.at turns.old).setup) × A.may turns.new }
 {
     turns.ask(Ask::Begin)
 }
@@ -223,27 +198,20 @@ fn serve_opened<A: Turns, P: Post, T: Texts>(
     turns: &mut A,
     post: &mut P,
     opened: Opened<P>,
-    reader: &mut Reader,
-    replies: &mut Replies<'_, T>,
+    desk: &mut Desk<'_, T>,
 ) -> Why
     requires may { A.may turns.old }
-    requires served { IsServed (T.service replies.old.texts.now).setup (A.rights turns.old) (A.seen turns.old)
-        opened.session None }
-    requires setup { A.setup turns.old ≡ (T.service replies.old.texts.now).setup }
-    requires width { replies.old.frames.width ≡ (T.service replies.old.texts.now).setup.frames }
-    requires frames { IsForSessions (T.service replies.old.texts.now).setup.frames reader.old }
-    ensures rest { HasRest (T.service replies.old.texts.now) opened.session (A.rights turns.old).worker result
-        (A.seen turns.old) (A.seen turns.new) (P.scene post.old) (P.scene post.new) }
-    ensures over { IsOver (T.service replies.old.texts.now).setup (A.rights turns.old).worker (A.seen turns.new) }
-    ensures rights { LeavesWithin (T.service replies.old.texts.now).setup opened.session (A.rights turns.old)
-        (A.seen turns.old) (A.rights turns.new) }
-    ensures cause { EndHasCause result (P.faults post.old) (P.faults post.new) }
-    ensures turns { A.keeps turns.old turns.new × (A.setup turns.new ≡ A.setup turns.old) × A.may turns.new }
-    ensures replies { (replies.new.texts.now ≡ replies.old.texts.now)
-        × (replies.new.frames.width ≡ replies.old.frames.width) }
-    ensures frames { IsForSessions (T.service replies.old.texts.now).setup.frames reader.new }
+    requires served { MayBegin (T.service desk.old.replies.texts.now).setup (A.at turns.old) opened.session }
+    ensures rest { HasRest (T.service desk.old.replies.texts.now) opened.session (A.at turns.old).rights.worker result
+        (A.at turns.old).seen (A.at turns.new).seen (P.scene post.old) (P.scene post.new) }
+    ensures over { SessionIsOver (T.service desk.old.replies.texts.now).setup opened.session result (A.at turns.old)
+        (A.at turns.new)
+        (P.faults post.old) (P.faults post.new) }
+    ensures turns { A.keeps turns.old turns.new × ((A.at turns.new).setup ≡ (A.at turns.old).setup) × A.may turns.new }
+    ensures desk { T.service desk.new.replies.texts.now ≡ T.service desk.old.replies.texts.now }
 {
     let Opened { session, conn } = opened;
+    let replies = &mut desk.replies;
     replies.exported.clear();
     match start_pre(post, session) {
         Ok(child) => {
@@ -254,7 +222,7 @@ fn serve_opened<A: Turns, P: Post, T: Texts>(
                 child,
                 user,
             };
-            serve_pre(turns, post, live, reader, replies)
+            serve_pre(turns, post, live, desk)
         }
         Err(KeeperFault) => {
             let why = Why::KeeperFault;
@@ -271,24 +239,17 @@ pub fn run_session<A: Turns, P: Post, T: Texts>(
     turns: &mut A,
     post: &mut P,
     conn: P::Conn,
-    reader: &mut Reader,
-    replies: &mut Replies<'_, T>,
+    desk: &mut Desk<'_, T>,
 ) -> Why
     requires may { A.may turns.old }
-    requires may_open { MayOpen (T.service replies.old.texts.now).setup (A.rights turns.old) (A.seen turns.old) }
-    requires setup { A.setup turns.old ≡ (T.service replies.old.texts.now).setup }
-    requires width { replies.old.frames.width ≡ (T.service replies.old.texts.now).setup.frames }
-    requires frames { IsForSessions (T.service replies.old.texts.now).setup.frames reader.old }
-    ensures sitting { HasSitting (T.service replies.old.texts.now) (A.rights turns.old).worker result
-        (A.seen turns.old) (A.seen turns.new) (P.scene post.old) (P.scene post.new) }
-    ensures over { IsOver (T.service replies.old.texts.now).setup (A.rights turns.old).worker (A.seen turns.new) }
-    ensures rights { SpendsAtMost ((T.service replies.old.texts.now).setup.requests + 3) (A.rights turns.old)
-        (A.rights turns.new) }
-    ensures cause { EndHasCause result (P.faults post.old) (P.faults post.new) }
-    ensures turns { A.keeps turns.old turns.new × (A.setup turns.new ≡ A.setup turns.old) × A.may turns.new }
-    ensures replies { (replies.new.texts.now ≡ replies.old.texts.now)
-        × (replies.new.frames.width ≡ replies.old.frames.width) }
-    ensures frames { IsForSessions (T.service replies.old.texts.now).setup.frames reader.new }
+    requires may_open { let seat = A.at turns.old in
+        (seat.setup ≡ (T.service desk.old.replies.texts.now).setup) × MayOpen seat.setup seat.rights seat.seen }
+    ensures sitting { HasSitting (T.service desk.old.replies.texts.now) (A.at turns.old).rights.worker result
+        (A.at turns.old).seen (A.at turns.new).seen (P.scene post.old) (P.scene post.new) }
+    ensures free { WorkerIsFree (T.service desk.old.replies.texts.now).setup result (A.at turns.old) (A.at turns.new)
+        (P.faults post.old) (P.faults post.new) }
+    ensures turns { A.keeps turns.old turns.new × ((A.at turns.new).setup ≡ (A.at turns.old).setup) × A.may turns.new }
+    ensures desk { T.service desk.new.replies.texts.now ≡ T.service desk.old.replies.texts.now }
 {
     let opening = open_session(turns);
     if opening.decision.is_lost() {
@@ -296,5 +257,5 @@ pub fn run_session<A: Turns, P: Post, T: Texts>(
         return Why::LogLost;
     }
     let session = opening.session;
-    serve_opened(turns, post, Opened { session, conn }, reader, replies)
+    serve_opened(turns, post, Opened { session, conn }, desk)
 }

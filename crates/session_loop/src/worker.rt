@@ -1,15 +1,13 @@
 //! One worker: its connections, one after the other.
 
-ghost use Rattle.std.specs.Prelude.{◌≡◌, ◌<◌};
-ghost use Rattle.session_loop.specs.Child.{IsForSessions};
-ghost use Rattle.session_loop.specs.Sessions.{IsOver};
-ghost use Rattle.session_loop.specs.Stories.{HasStory, MayServe, is_accept_fault};
+ghost use Rattle.std.specs.Prelude.{◌≡◌};
+ghost use Rattle.session_loop.specs.Stories.{HasStory, MayServeAll, WorkerHasEnded, is_accept_fault};
 
+use crate::desk::Desk;
 use crate::session::run_session;
-use imsg_frame::Reader;
 use outside::{Failed, Post};
 use policy_model::Why;
-use session_asking::{Replies, Texts};
+use session_asking::Texts;
 use session_turns::Turns;
 
 /// How a worker ended.
@@ -38,32 +36,25 @@ impl WorkerEnd {
 pub fn serve_worker<A: Turns, P: Post, T: Texts>(
     turns: &mut A,
     post: &mut P,
-    reader: &mut Reader,
-    replies: &mut Replies<'_, T>,
+    desk: &mut Desk<'_, T>,
 ) -> WorkerEnd
     requires may { A.may turns.old }
-    requires may_serve { MayServe (T.service replies.old.texts.now).setup (A.rights turns.old) (A.seen turns.old) }
-    requires setup { A.setup turns.old ≡ (T.service replies.old.texts.now).setup }
-    requires width { replies.old.frames.width ≡ (T.service replies.old.texts.now).setup.frames }
-    requires frames { IsForSessions (T.service replies.old.texts.now).setup.frames reader.old }
-    ensures story { HasStory (T.service replies.old.texts.now) (A.rights turns.old).worker result
-        (A.seen turns.old) (A.seen turns.new) (P.scene post.old) (P.scene post.new) (P.faults post.old)
+    requires may_serve { let seat = A.at turns.old in
+        (seat.setup ≡ (T.service desk.old.replies.texts.now).setup) × MayServeAll seat.setup seat.rights seat.seen }
+    ensures story { HasStory (T.service desk.old.replies.texts.now) (A.at turns.old).rights.worker result
+        (A.at turns.old).seen (A.at turns.new).seen (P.scene post.old) (P.scene post.new) (P.faults post.old)
         (P.faults post.new) }
-    ensures over { IsOver (T.service replies.old.texts.now).setup (A.rights turns.old).worker (A.seen turns.new) }
-    ensures turns { A.keeps turns.old turns.new × (A.setup turns.new ≡ A.setup turns.old) × A.may turns.new }
-    ensures worker { (A.rights turns.new).worker ≡ (A.rights turns.old).worker }
-    ensures replies { (replies.new.texts.now ≡ replies.old.texts.now)
-        × (replies.new.frames.width ≡ replies.old.frames.width) }
-    ensures frames { IsForSessions (T.service replies.old.texts.now).setup.frames reader.new }
-    ensures accept_fault { result ≡ WorkerEnd.AcceptFault → 0 < (P.faults post.new).accept }
+    ensures ended { WorkerHasEnded result (A.at turns.old) (A.at turns.new) (P.faults post.new) }
+    ensures turns { A.keeps turns.old turns.new × ((A.at turns.new).setup ≡ (A.at turns.old).setup) × A.may turns.new }
+    ensures desk { T.service desk.new.replies.texts.now ≡ T.service desk.old.replies.texts.now }
 {
-    for _ in 0..replies.texts.setup().connections() {
+    for _ in 0..desk.replies.texts.setup().connections() {
         let conn = match post.accept() {
             Ok(Some(conn)) => conn,
             Ok(None) => return WorkerEnd::NoMore,
             Err(Failed) => return WorkerEnd::AcceptFault,
         };
-        let why = run_session(turns, post, conn, reader, replies);
+        let why = run_session(turns, post, conn, desk);
         if why == Why::LogLost {
             return WorkerEnd::LogLost;
         }

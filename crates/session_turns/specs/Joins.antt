@@ -17,6 +17,12 @@ pub record Rights : Type 0 where
   pub worker : ℕ
   pub left : ℕ
 
+-- a worker's seat at what all share: the run's setup, what the worker may do, and what it has seen of the journal
+pub record Seat : Type 0 where
+  pub setup : Settings
+  pub rights : Rights
+  pub seen : List Event
+
 -- so many asks were made
 pub record KeepsRights (asks : ℕ) (old new : Rights) : Type 0 where
   pub worker : new.worker ≡ old.worker

@@ -13,7 +13,7 @@ use Rattle.session_core.specs.Parts.{setup_of}
 use Rattle.service_model.specs.Places.{worker_places}
 use Rattle.turn_cell.specs.Facts.{CellFacts, EndsWith, IsSamePass, PassFacts, StartsWith, replies_of}
 use Rattle.turn_cell.specs.Turns.{LegalAt}
-use Rattle.session_turns.specs.Joins.{Rights}
+use Rattle.session_turns.specs.Joins.{Rights, Seat}
 
 -- what contracts see of a pass of the cell over a book
 abbrev pub BookPass : Type 0
@@ -22,6 +22,10 @@ BookPass = PassFacts Event (Option Opened)
 -- the number of a pass, and how many calls are left of its quota
 abbrev pub rights_of : BookPass → Rights
 rights_of pass = record { worker = pass.number; left = pass.quota - length pass.mine }
+
+-- the seat of a pass's worker
+abbrev pub seat_of : Settings → BookPass → Seat
+seat_of setup pass = record { setup = setup; rights = rights_of pass; seen = pass.seen }
 
 -- what is fixed of a book is of this setup
 abbrev pub OpenedBy : Settings → Option Opened → Type 0

@@ -44,16 +44,12 @@ pub struct AtCell<'a, C, P, F> {
 impl<'a, C: SeenCell, P: SeenPass, F: Fn(&mut P, Ask) -> Event> Turns for AtCell<'a, C, P, F> {
     ghost use Rattle.std.specs.Prelude.{◌≡◌};
     ghost use Rattle.std.proofs.Common.{◌∙◌, refl};
-    ghost use Rattle.session_turns.specs.Passes.{IsCaller, IsPassAt, rights_of};
+    ghost use Rattle.session_turns.specs.Passes.{IsCaller, IsPassAt, seat_of};
 
     ghost may = { λ t. IsPassAt t.setup.now (C.place t.cell.now) (P.facts t.pass.now)
         × IsCaller F.Fn P.facts (C.place t.cell.now) t.call };
 
-    ghost rights = { λ t. rights_of (P.facts t.pass.now) };
-
-    ghost seen = { λ t. (P.facts t.pass.now).seen };
-
-    ghost setup = { λ t. t.setup.now };
+    ghost at = { λ t. seat_of t.setup.now (P.facts t.pass.now) };
 
     ghost keeps = { λ a b. (b.pass.ghost_name ≡ a.pass.ghost_name) × (b.cell.now ≡ a.cell.now) };
 

@@ -1,10 +1,8 @@
 //! A worker's turns at what all workers share.
 
-ghost use Rattle.std.specs.Prelude.{◌≡◌, ◌<◌, List, true};
-ghost use Rattle.policy_model.specs.declared.event.Event.{Event};
+ghost use Rattle.std.specs.Prelude.{◌≡◌, ◌<◌, true};
 ghost use Rattle.policy_model.specs.Asks.{is_proper};
-ghost use Rattle.policy_model.specs.Settings.{Settings};
-ghost use Rattle.session_turns.specs.Joins.{Joins, KeepsRights, Rights};
+ghost use Rattle.session_turns.specs.Joins.{Joins, KeepsRights, Seat};
 
 use policy_model::{Ask, Event};
 
@@ -13,14 +11,8 @@ pub trait Turns {
     // An ask may be made.
     ghost may: { Self → Type 0 };
 
-    // The run's setup.
-    ghost setup: { Self → Settings };
-
-    // The worker's number, and how many asks are left to it.
-    ghost rights: { Self → Rights };
-
-    // What was seen of the journal.
-    ghost seen: { Self → List Event };
+    // The worker's seat.
+    ghost at: { Self → Seat };
 
     // The same turns, later.
     ghost keeps: { Self → Self → Type 0 };
@@ -28,14 +20,12 @@ pub trait Turns {
     /// Makes an ask: its event joins the journal, which others may have lengthened since.
     fn ask(&mut self, ask: Ask) -> Event
         requires may { may self.old }
-        requires room { 0 < (rights self.old).left }
+        requires room { 0 < (at self.old).rights.left }
         requires proper { is_proper ask ≡ true }
-        ensures may { may self.new }
-        ensures joins { Joins (setup self.old) (rights self.old).worker ask (seen self.old)
-            (seen self.new) result }
-        ensures rights { KeepsRights 1 (rights self.old) (rights self.new) }
-        ensures setup { setup self.new ≡ setup self.old }
-        ensures keeps { keeps self.old self.new };
+        ensures joins { let seat = at self.old in
+            Joins seat.setup seat.rights.worker ask seat.seen (at self.new).seen result }
+        ensures rights { KeepsRights 1 (at self.old).rights (at self.new).rights }
+        ensures turns { keeps self.old self.new × ((at self.new).setup ≡ (at self.old).setup) × may self.new };
 
     ghost keeps_none: { (a : Self) → keeps a a };
 

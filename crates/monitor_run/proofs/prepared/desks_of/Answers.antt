@@ -1,8 +1,7 @@
-use Rattle.std.proofs.Common.{sym, ap, subst, arith}
+use Rattle.std.proofs.Common.{◌≡◌, sym, ap, subst, arith}
 use Rattle.std.specs.List.{All}
 use Rattle.std.proofs.lemmas.Grind.{common_steps}
 use Rattle.std.proofs.lemmas.List.Elements.{All-push}
-use Rattle.monitor_run.specs.Workers.{IsDeskOf}
 use Rattle.monitor_run.proofs.prepared.desks_of.Goals as goal
 
 pub loop-preserved : goal.loop-preserved
@@ -14,6 +13,6 @@ loop-preserved g c =
     record {
       count = grind (arith, common_steps);
       end_is = kept.end_is;
-      each = subst (All (λ d. IsDeskOf service (g.T.Texts.service d.replies.texts.now) d.replies.frames.width d.reader)) (sym c.in_ok-push.ensures.items)
-          (All-push (λ d. IsDeskOf service (g.T.Texts.service d.replies.texts.now) d.replies.frames.width d.reader) c.loop.desks.items desk kept.each (record { service_is = ap g.T.Texts.service made.texts; width_is = made.width; frames = made.frames }));
+      each = subst (All (λ d. g.T.Texts.service d.replies.texts.now ≡ service)) (sym c.in_ok-push.ensures.items)
+          (All-push (λ d. g.T.Texts.service d.replies.texts.now ≡ service) c.loop.desks.items desk kept.each (ap g.T.Texts.service made));
     }

@@ -10,27 +10,20 @@ use Rattle.session_turns.specs.Passes.{IsHeldBy, OwnsAll}
 use Rattle.turn_cell.specs.Facts.{AreAllPasses, AreNewPasses}
 use Rattle.monitor_run.specs.Headline.{FaultsAreCounted}
 use Rattle.monitor_run.specs.Ran.{PlansStay}
-use Rattle.monitor_run.specs.Workers.{IsDeskOf}
-use Rattle.monitor_run.proofs.Gathered.{all_at, desk_own, of_reverse, passes_back, plans_stay, put_back, ready_lent, run_ended, served_all, written_whole}
+use Rattle.monitor_run.proofs.Gathered.{of_reverse, passes_back, plans_stay, put_back, ready_lent, run_ended, served_all, written_whole}
 use Rattle.monitor_run.proofs.Promises.{BookSays, book_says, book_setup, run_promises, run_told}
 use Rattle.monitor_run.proofs.running.run.Goals as goal
-
-pub serve_all-requires-clause-desks : goal.serve_all-requires-clause-desks
-serve_all-requires-clause-desks g c κs within = λ k d low lt.
-    let service = g.T.Texts.service c.prepared.inside.texts.now in
-    let all = subst (All (λ d. IsDeskOf service (g.T.Texts.service d.replies.texts.now) d.replies.frames.width d.reader)) (sym c.gather.ensures.desks) c.prepared.invariant.1 in
-    desk_own service _ _ _ (all_at (λ w. w.desk) (λ d. IsDeskOf service (g.T.Texts.service d.replies.texts.now) d.replies.frames.width d.reader) c.gather.new.workers.items c.deref_mut.result.now c.deref_mut.ensures.value all k d lt)
 
 pub serve_all-requires-clause-ready : goal.serve_all-requires-clause-ready
 serve_all-requires-clause-ready g c κs within = λ k d low lt.
     let service = g.T.Texts.service c.prepared.inside.texts.now in
     let made = c.prepared.invariant.0 in
     let workers = c.gather.new.workers.items in
-    let all = subst (All (λ d. IsDeskOf service (g.T.Texts.service d.replies.texts.now) d.replies.frames.width d.reader)) (sym c.gather.ensures.desks) c.prepared.invariant.1 in
+    let all = subst (All (λ d. g.T.Texts.service d.replies.texts.now ≡ service)) (sym c.gather.ensures.desks) c.prepared.invariant.1 in
     let new = subst (AreNewPasses c.prepared.inside.cell) (sym c.gather.ensures.passes.1) made.new in
     let fresh = subst (All (IsFresh g.P.Post.scene g.P.Post.faults)) (sym c.gather.ensures.posts.1) c.requires.fresh in
     ready_lent service (λ w. g.T.Texts.service w.desk.replies.texts.now) c.prepared.inside.cell g.P.Post.scene g.P.Post.faults (λ w. w.post) (λ w. w.pass) workers c.deref_mut.result.now c.deref_mut.ensures.value
-    (λ k d lt. (of_reverse (λ w. w.desk) (λ d. IsDeskOf service (g.T.Texts.service d.replies.texts.now) d.replies.frames.width d.reader) workers all k d lt).service_is) new fresh (made.opened, made.cell.0, made.setup_is) made.cell.2 made.cell.1 k d lt
+    (λ k d lt. (of_reverse (λ w. w.desk) (λ d. g.T.Texts.service d.replies.texts.now ≡ service) workers all k d lt)) new fresh (made.opened, made.cell.0, made.setup_is) made.cell.2 made.cell.1 k d lt
 
 pub close_cell-requires-clause-all : goal.close_cell-requires-clause-all
 close_cell-requires-clause-all g c κs within =
@@ -40,10 +33,10 @@ close_cell-requires-clause-all g c κs within =
     let old = c.gather.new.workers.items in
     let lent = c.deref_mut.result.now in
     let new = c.serve_all.new.workers in
-    let all = subst (All (λ d. IsDeskOf service (g.T.Texts.service d.replies.texts.now) d.replies.frames.width d.reader)) (sym c.gather.ensures.desks) c.prepared.invariant.1 in
+    let all = subst (All (λ d. g.T.Texts.service d.replies.texts.now ≡ service)) (sym c.gather.ensures.desks) c.prepared.invariant.1 in
     let passes_new = subst (AreNewPasses place) (sym c.gather.ensures.passes.1) made.new in
     let fresh = subst (All (IsFresh g.P.Post.scene g.P.Post.faults)) (sym c.gather.ensures.posts.1) c.requires.fresh in
-    let served = served_all service (λ w. g.T.Texts.service w.desk.replies.texts.now) place g.P.Post.scene g.P.Post.faults (λ w. w.post) (λ w. w.pass) (λ w. w.end) old lent new c.deref_mut.ensures.value c.serve_all.auto.workers passes_new fresh (λ k d lt. (of_reverse (λ w. w.desk) (λ d. IsDeskOf service (g.T.Texts.service d.replies.texts.now) d.replies.frames.width d.reader) old all k d lt).service_is) c.serve_all.ensures.served in
+    let served = served_all service (λ w. g.T.Texts.service w.desk.replies.texts.now) place g.P.Post.scene g.P.Post.faults (λ w. w.post) (λ w. w.pass) (λ w. w.end) old lent new c.deref_mut.ensures.value c.serve_all.auto.workers passes_new fresh (λ k d lt. (of_reverse (λ w. w.desk) (λ d. g.T.Texts.service d.replies.texts.now ≡ service) old all k d lt)) c.serve_all.ensures.served in
     let len : c.gather.new.workers.len ≡ length new = let same = served.same in let whole = c.gather.new.workers.ok in omega (arith, same, whole) in
     let passes = put_back (λ w. w.pass) c.gather.new.passes.items c.part-accept_failed.new.passes.items old new c.gather.new.workers.len c.gather.ensures.passes.0 len c.part-accept_failed.ensures.passes in
     subst (AreAllPasses place) (sym passes) (passes_back service place g.P.Post.scene g.P.Post.faults (λ w. w.post) (λ w. w.pass) (λ w. w.end) old new served).0
@@ -56,10 +49,10 @@ close_cell-requires-clause-own g c κs within =
     let old = c.gather.new.workers.items in
     let lent = c.deref_mut.result.now in
     let new = c.serve_all.new.workers in
-    let all = subst (All (λ d. IsDeskOf service (g.T.Texts.service d.replies.texts.now) d.replies.frames.width d.reader)) (sym c.gather.ensures.desks) c.prepared.invariant.1 in
+    let all = subst (All (λ d. g.T.Texts.service d.replies.texts.now ≡ service)) (sym c.gather.ensures.desks) c.prepared.invariant.1 in
     let passes_new = subst (AreNewPasses place) (sym c.gather.ensures.passes.1) made.new in
     let fresh = subst (All (IsFresh g.P.Post.scene g.P.Post.faults)) (sym c.gather.ensures.posts.1) c.requires.fresh in
-    let served = served_all service (λ w. g.T.Texts.service w.desk.replies.texts.now) place g.P.Post.scene g.P.Post.faults (λ w. w.post) (λ w. w.pass) (λ w. w.end) old lent new c.deref_mut.ensures.value c.serve_all.auto.workers passes_new fresh (λ k d lt. (of_reverse (λ w. w.desk) (λ d. IsDeskOf service (g.T.Texts.service d.replies.texts.now) d.replies.frames.width d.reader) old all k d lt).service_is) c.serve_all.ensures.served in
+    let served = served_all service (λ w. g.T.Texts.service w.desk.replies.texts.now) place g.P.Post.scene g.P.Post.faults (λ w. w.post) (λ w. w.pass) (λ w. w.end) old lent new c.deref_mut.ensures.value c.serve_all.auto.workers passes_new fresh (λ k d lt. (of_reverse (λ w. w.desk) (λ d. g.T.Texts.service d.replies.texts.now ≡ service) old all k d lt)) c.serve_all.ensures.served in
     let len : c.gather.new.workers.len ≡ length new = let same = served.same in let whole = c.gather.new.workers.ok in omega (arith, same, whole) in
     let passes = put_back (λ w. w.pass) c.gather.new.passes.items c.part-accept_failed.new.passes.items old new c.gather.new.workers.len c.gather.ensures.passes.0 len c.part-accept_failed.ensures.passes in
     subst (All OwnsAll) (sym passes) (passes_back service place g.P.Post.scene g.P.Post.faults (λ w. w.post) (λ w. w.pass) (λ w. w.end) old new served).1
@@ -72,10 +65,10 @@ returns-clause-promises g c held faults told =
     let old = c.gather.new.workers.items in
     let lent = c.deref_mut.result.now in
     let new = c.serve_all.new.workers in
-    let all = subst (All (λ d. IsDeskOf service (g.T.Texts.service d.replies.texts.now) d.replies.frames.width d.reader)) (sym c.gather.ensures.desks) c.prepared.invariant.1 in
+    let all = subst (All (λ d. g.T.Texts.service d.replies.texts.now ≡ service)) (sym c.gather.ensures.desks) c.prepared.invariant.1 in
     let passes_new = subst (AreNewPasses place) (sym c.gather.ensures.passes.1) made.new in
     let fresh = subst (All (IsFresh g.P.Post.scene g.P.Post.faults)) (sym c.gather.ensures.posts.1) c.requires.fresh in
-    let served = served_all service (λ w. g.T.Texts.service w.desk.replies.texts.now) place g.P.Post.scene g.P.Post.faults (λ w. w.post) (λ w. w.pass) (λ w. w.end) old lent new c.deref_mut.ensures.value c.serve_all.auto.workers passes_new fresh (λ k d lt. (of_reverse (λ w. w.desk) (λ d. IsDeskOf service (g.T.Texts.service d.replies.texts.now) d.replies.frames.width d.reader) old all k d lt).service_is) c.serve_all.ensures.served in
+    let served = served_all service (λ w. g.T.Texts.service w.desk.replies.texts.now) place g.P.Post.scene g.P.Post.faults (λ w. w.post) (λ w. w.pass) (λ w. w.end) old lent new c.deref_mut.ensures.value c.serve_all.auto.workers passes_new fresh (λ k d lt. (of_reverse (λ w. w.desk) (λ d. g.T.Texts.service d.replies.texts.now ≡ service) old all k d lt)) c.serve_all.ensures.served in
     let len : c.gather.new.workers.len ≡ length new = let same = served.same in let whole = c.gather.new.workers.ok in omega (arith, same, whole) in
     let passes = put_back (λ w. w.pass) c.gather.new.passes.items c.part-accept_failed.new.passes.items old new c.gather.new.workers.len c.gather.ensures.passes.0 len c.part-accept_failed.ensures.passes in
     let book = c.close_cell.result in
@@ -96,10 +89,10 @@ returns-clause-plans g c =
     let old = c.gather.new.workers.items in
     let lent = c.deref_mut.result.now in
     let new = c.serve_all.new.workers in
-    let all = subst (All (λ d. IsDeskOf service (g.T.Texts.service d.replies.texts.now) d.replies.frames.width d.reader)) (sym c.gather.ensures.desks) c.prepared.invariant.1 in
+    let all = subst (All (λ d. g.T.Texts.service d.replies.texts.now ≡ service)) (sym c.gather.ensures.desks) c.prepared.invariant.1 in
     let passes_new = subst (AreNewPasses place) (sym c.gather.ensures.passes.1) made.new in
     let fresh = subst (All (IsFresh g.P.Post.scene g.P.Post.faults)) (sym c.gather.ensures.posts.1) c.requires.fresh in
-    let served = served_all service (λ w. g.T.Texts.service w.desk.replies.texts.now) place g.P.Post.scene g.P.Post.faults (λ w. w.post) (λ w. w.pass) (λ w. w.end) old lent new c.deref_mut.ensures.value c.serve_all.auto.workers passes_new fresh (λ k d lt. (of_reverse (λ w. w.desk) (λ d. IsDeskOf service (g.T.Texts.service d.replies.texts.now) d.replies.frames.width d.reader) old all k d lt).service_is) c.serve_all.ensures.served in
+    let served = served_all service (λ w. g.T.Texts.service w.desk.replies.texts.now) place g.P.Post.scene g.P.Post.faults (λ w. w.post) (λ w. w.pass) (λ w. w.end) old lent new c.deref_mut.ensures.value c.serve_all.auto.workers passes_new fresh (λ k d lt. (of_reverse (λ w. w.desk) (λ d. g.T.Texts.service d.replies.texts.now ≡ service) old all k d lt)) c.serve_all.ensures.served in
     let len : c.gather.new.workers.len ≡ length new = let same = served.same in let whole = c.gather.new.workers.ok in omega (arith, same, whole) in
     let posts = put_back (λ w. w.post) c.gather.new.posts.items c.part-accept_failed.new.posts.items old new c.gather.new.workers.len c.gather.ensures.posts.0 len c.part-accept_failed.ensures.posts in
     subst (λ ps. PlansStay g.P.Post.scene ps c.part-accept_failed.new.posts.items) c.gather.ensures.posts.1 (subst (PlansStay g.P.Post.scene (reverse (map (λ w. w.post) old))) (sym posts) (plans_stay service place g.P.Post.scene g.P.Post.faults (λ w. w.post) (λ w. w.pass) (λ w. w.end) old new served))

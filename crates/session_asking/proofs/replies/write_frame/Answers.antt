@@ -1,4 +1,4 @@
-use Rattle.std.proofs.Common.{◌≡◌, ◌≤◌, arith, length, take}
+use Rattle.std.proofs.Common.{◌≤◌, arith, length, take}
 use Rattle.std.proofs.lemmas.List.{length-take-le}
 use Rattle.session_asking.proofs.Framing.{has_header, is_framed}
 use Rattle.session_asking.proofs.replies.write_frame.Goals as goal

@@ -1,36 +1,33 @@
-use Rattle.std.proofs.Common.{◌∙◌, ap, sym, subst}
-use Rattle.session_asking.specs.Made.{exported_bytes}
-use Rattle.session_asking.specs.Serving.{moment, whose}
-use Rattle.session_loop.specs.Sessions.{ClosesWith, EndsOpen, IsOver}
-use Rattle.session_loop.proofs.EndLemmas.{can_end, has_part, leaves_within}
+use Rattle.std.proofs.Common.{subst}
+use Rattle.session_asking.specs.Serving.{desk_of, live_of, stand}
+use Rattle.session_loop.specs.Sessions.{ClosesWith}
+use Rattle.session_loop.proofs.Overs.{can_end_part, part_had, part_over}
 use Rattle.session_loop.proofs.session.serve_user.Goals as goal
+
+pub serve_child-requires-clause-served : goal.serve_child-requires-clause-served
+serve_child-requires-clause-served g c κs within = c.requires.served.serves
 
 pub end_session-requires-clause-open : goal.end_session-requires-clause-open
 end_session-requires-clause-open g c =
-    let setup = (g.T.Texts.service c.args.replies.now.texts.now).setup in
     let child = c.serve_child in
-    can_end setup c.args.live.session (g.A.Turns.rights c.args.turns.now) (g.A.Turns.rights child.new.turns) (g.A.Turns.seen c.args.turns.now) (g.A.Turns.seen child.new.turns) c.args.live.user c.requires.served (g.A.Turns.setup child.new.turns) (child.ensures.turns.1 ∙ c.requires.setup) c.in-Ends.ensures.spends
+    let a = (stand (g.A.Turns.at c.args.turns.now) (desk_of (g.T.Texts.service c.args.desk.now.replies.texts.now) c.args.desk.now.replies.exported) (live_of c.args.live.session c.args.live.user (g.P.Child.Stream.role c.args.live.child.child) (g.P.Child.Stream.link c.args.live.child.child) (g.P.Child.Stream.faults c.args.live.child.child)) (g.P.Post.scene c.args.post.now) (g.P.Post.faults c.args.post.now)) in
+    let b = (stand (g.A.Turns.at child.new.turns) (desk_of (g.T.Texts.service child.new.desk.replies.texts.now) child.new.desk.replies.exported) (live_of child.new.live.session child.new.live.user (g.P.Child.Stream.role child.new.live.child.child) (g.P.Child.Stream.link child.new.live.child.child) (g.P.Child.Stream.faults child.new.live.child.child)) (g.P.Post.scene child.new.post) (g.P.Post.faults child.new.post)) in
+    can_end_part c.in-Ends.why a b c.clear.new.self.bytes c.requires.served.serves c.in-Ends.ensures.done
+
+pub end_session-requires-clause-proper : goal.end_session-requires-clause-proper
+end_session-requires-clause-proper g c = c.in-Ends.ensures.done.leaves.ends.proper
 
 pub returns-clause-part : goal.returns-clause-part
 returns-clause-part g c =
-    let service = g.T.Texts.service c.args.replies.now.texts.now in
-    let rights = g.A.Turns.rights c.args.turns.now in
-    let w = whose service (exported_bytes c.args.replies.now.exported) c.args.live.session rights.worker in
     let child = c.serve_child in
-    let link = g.P.Child.Stream.link in
-    let a = moment (g.A.Turns.seen c.args.turns.now) (g.P.Post.scene c.args.post.now) (link c.args.live.child.child) in
-    let b = moment (g.A.Turns.seen child.new.turns) (g.P.Post.scene child.new.post) (link child.new.live.child.child) in
-    has_part w (g.P.Child.Stream.role c.args.live.child.child) c.in-Ends.why a b (g.A.Turns.seen c.end_session.new.turns) (g.P.Post.scene c.close_user.new.post) c.clear.new.self.bytes
-    c.in-Ends.ensures.taken c.clear.ensures.empty (subst (λ n. EndsOpen n c.in-Ends.why b.seen (g.A.Turns.seen c.end_session.new.turns)) c.in-Ends.ensures.spends.1.worker c.end_session.ensures.ended)
-    (ap (Rattle.policy_model.specs.Journal.open_session_of b.seen) (sym c.in-Ends.ensures.spends.1.worker) ∙ c.in-Ends.ensures.spends.0.opened)
-    (subst (λ role. ClosesWith role b.link b.scene (g.P.Post.scene c.close_user.new.post)) child.ensures.child.1 c.close_user.ensures.acts) c.requires.child.unused c.requires.child.planned
+    let a = (stand (g.A.Turns.at c.args.turns.now) (desk_of (g.T.Texts.service c.args.desk.now.replies.texts.now) c.args.desk.now.replies.exported) (live_of c.args.live.session c.args.live.user (g.P.Child.Stream.role c.args.live.child.child) (g.P.Child.Stream.link c.args.live.child.child) (g.P.Child.Stream.faults c.args.live.child.child)) (g.P.Post.scene c.args.post.now) (g.P.Post.faults c.args.post.now)) in
+    let b = (stand (g.A.Turns.at child.new.turns) (desk_of (g.T.Texts.service child.new.desk.replies.texts.now) child.new.desk.replies.exported) (live_of child.new.live.session child.new.live.user (g.P.Child.Stream.role child.new.live.child.child) (g.P.Child.Stream.link child.new.live.child.child) (g.P.Child.Stream.faults child.new.live.child.child)) (g.P.Post.scene child.new.post) (g.P.Post.faults child.new.post)) in
+    part_had a.live.child.role c.in-Ends.why a b c.clear.new.self.bytes (g.A.Turns.at c.end_session.new.turns).seen (g.P.Post.scene c.close_user.new.post) c.in-Ends.ensures.done c.clear.ensures.empty c.end_session.ensures.ended.0
+    (subst (λ role. ClosesWith role b.live.child.link b.scene (g.P.Post.scene c.close_user.new.post)) child.ensures.done.leaves.stays.role c.close_user.ensures.acts) c.requires.served.child.unused c.requires.served.child.planned
 
 pub returns-clause-over : goal.returns-clause-over
 returns-clause-over g c =
     let child = c.serve_child in
-    subst (λ n. IsOver (g.T.Texts.service c.args.replies.now.texts.now).setup n (g.A.Turns.seen c.end_session.new.turns)) c.in-Ends.ensures.spends.1.worker
-    (subst (λ s. IsOver s (g.A.Turns.rights child.new.turns).worker (g.A.Turns.seen c.end_session.new.turns)) (child.ensures.turns.1 ∙ c.requires.setup) c.end_session.ensures.over)
-
-pub returns-clause-rights : goal.returns-clause-rights
-returns-clause-rights g c =
-    leaves_within (g.T.Texts.service c.args.replies.now.texts.now).setup c.args.live.session (g.A.Turns.rights c.args.turns.now) (g.A.Turns.rights c.serve_child.new.turns) (g.A.Turns.rights c.end_session.new.turns) (g.A.Turns.seen c.args.turns.now) c.in-Ends.ensures.spends.1 c.end_session.ensures.rights
+    let a = (stand (g.A.Turns.at c.args.turns.now) (desk_of (g.T.Texts.service c.args.desk.now.replies.texts.now) c.args.desk.now.replies.exported) (live_of c.args.live.session c.args.live.user (g.P.Child.Stream.role c.args.live.child.child) (g.P.Child.Stream.link c.args.live.child.child) (g.P.Child.Stream.faults c.args.live.child.child)) (g.P.Post.scene c.args.post.now) (g.P.Post.faults c.args.post.now)) in
+    let b = (stand (g.A.Turns.at child.new.turns) (desk_of (g.T.Texts.service child.new.desk.replies.texts.now) child.new.desk.replies.exported) (live_of child.new.live.session child.new.live.user (g.P.Child.Stream.role child.new.live.child.child) (g.P.Child.Stream.link child.new.live.child.child) (g.P.Child.Stream.faults child.new.live.child.child)) (g.P.Post.scene child.new.post) (g.P.Post.faults child.new.post)) in
+    part_over c.in-Ends.why a b c.clear.new.self.bytes (g.A.Turns.at c.end_session.new.turns) (g.P.Post.faults c.close_user.new.post) c.requires.served.serves c.in-Ends.ensures.done c.end_session.ensures.ended.1 c.end_session.ensures.rights c.close_user.ensures.counts c.close_user.ensures.kept
