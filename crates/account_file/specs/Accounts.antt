@@ -63,8 +63,16 @@ read_account_keys account names uids entries = do
   enabled ← option_map_or (λ value. demand_at (spot_in account keys.Enabled) rules.Kind (as_bool value))
       (get_member (codes "enabled") entries) (Ok true)
   grants ← read_each (spot_in account keys.Grants) 64 (read_grant account) (get_member (codes "grants") entries)
-  Ok (record { name = name; uid = uid; algo = algo; seed = seed; sequence = sequence; password = password;
-      enabled = enabled; grants = grants })
+  Ok (record {
+    name = name;
+    uid = uid;
+    algo = algo;
+    seed = seed;
+    sequence = sequence;
+    password = password;
+    enabled = enabled;
+    grants = grants;
+  })
 
 -- the account at a place, counted from 1, after accounts of these names and user numbers
 abbrev pub read_account : ℕ → List (List ℕ) → List ℕ → Data → Result AccountEntry SetupFault

@@ -65,8 +65,13 @@ entries_of s = record {
   texts = record { socket = s.socket; launcher = s.launcher; vault = s.vault; words = s.words; banner = s.banner };
   salt = seed_bytes s.salt;
   frames = s.frames;
-  counts = record { workers = s.workers; connections = s.connections; requests = s.requests; tries = s.tries;
-      hold = s.hold };
+  counts = record {
+    workers = s.workers;
+    connections = s.connections;
+    requests = s.requests;
+    tries = s.tries;
+    hold = s.hold;
+  };
   info = s.info;
   accounts = map account_entry s.accounts;
 }

@@ -14,4 +14,4 @@ use Rattle.account_file.specs.Trees.{data_of}
 abbrev pub read_info : Option Data → Result (List ℕ) SetupFault
 read_info value =
     option_map_or (λ there. demand_at (top Info) Kind (as_array there) >>= (λ items. info_items (data_of items)))
-        value (Ok [])
+    value (Ok [])

@@ -7,8 +7,13 @@ use Rattle.account_file.specs.Entries.{TextEntries}
 -- what a file says of these texts
 abbrev pub text_entries : Texts → TextEntries
 text_entries t =
-    record { socket = t.socket.now; launcher = t.launcher.now; vault = t.vault.now; words = t.words.now;
-        banner = t.banner.now }
+    record {
+      socket = t.socket.now;
+      launcher = t.launcher.now;
+      vault = t.vault.now;
+      words = t.words.now;
+      banner = t.banner.now;
+    }
 
 -- texts of a setup
 abbrev pub are_legal : Texts → Bool

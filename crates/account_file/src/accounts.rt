@@ -128,8 +128,7 @@ fn keys_of(
 
 /// The name of an account, which none of the others has.
 fn name_of(table: &Table, spot: Spot, others: &[Account]) -> Result<Name, SetupFault>
-    ensures
-        read { Reads name_bytes result
+    ensures read { Reads name_bytes result
         (untaken spot (λ name. list_any (λ other. bytes_eq other name) (map (λ a. name_bytes a.name) others.now))
         (read_spelled spot (passed is_name) (get_member (codes "name") (table_view table.now)))) }
     ensures new { IfOk result (λ n. list_any (λ e. same_name e.name n) others.now ≡ false) }
@@ -146,8 +145,7 @@ fn name_of(table: &Table, spot: Spot, others: &[Account]) -> Result<Name, SetupF
 
 /// The user number of an account, which none of the others has.
 fn read_uid(table: &Table, spot: Spot, others: &[Account]) -> Result<u32, SetupFault>
-    ensures
-        read { Reads (λ n. n) result
+    ensures read { Reads (λ n. n) result
         (untaken spot (λ uid. list_any (λ other. other == uid) (map (λ a. a.uid) others.now))
         (read_number spot 1 4294967294 (get_member (codes "uid") (table_view table.now)))) }
     ensures new { IfOk result (λ n. list_any (λ e. e.uid == n) others.now ≡ false) }

@@ -78,8 +78,7 @@ fn read_grant(item: &Value, account: u32, earlier: &[Grant]) -> Result<Grant, Se
 
 /// The name of a grant, which none of the others has.
 fn label_of(table: &Table, spot: Spot, others: &[Grant]) -> Result<Label, SetupFault>
-    ensures
-        read { Reads label_bytes result
+    ensures read { Reads label_bytes result
         (untaken spot (λ name. list_any (λ other. bytes_eq other.name name) (map grant_entry others.now))
         (read_spelled spot (passed is_label) (get_member (codes "name") (table_view table.now)))) }
     ensures new { IfOk result (λ l. list_any (λ e. bytes_eq (label_bytes e.name) (label_bytes l)) others.now ≡ false) }

@@ -63,8 +63,7 @@ pub fn read_texts(table: &Table) -> Result<Texts<'_>, SetupFault>
 
 /// The banner, empty where the key isn't there.
 fn read_banner(table: &Table) -> Result<&str, SetupFault>
-    ensures
-        read { Reads (λ s. s.now) result (option_map_or (λ value. read_spelled (top Banner) (passed (is_text 0 200))
+    ensures read { Reads (λ s. s.now) result (option_map_or (λ value. read_spelled (top Banner) (passed (is_text 0 200))
         (Some value)) (get_member (codes "banner") (table_view table.now)) (Ok [])) }
     ensures legal { IfOk result (λ s. is_text 0 200 s.now ≡ true) }
 {
@@ -119,8 +118,7 @@ pub fn check_product(counts: Counts) -> Result<Counts, SetupFault>
     requires workers { counts.workers ≤ 64 }
     requires connections { counts.connections ≤ 4096 }
     requires requests { counts.requests ≤ 4096 }
-    ensures
-        read { Reads (λ c. c) result
+    ensures read { Reads (λ c. c) result
         (demand_at (top Requests) Product
         (then_some (nat_le (counts.workers * (counts.connections * (counts.requests + 3))) EVENTS_LIMIT) counts)) }
     ensures same { IfOk result (λ c. c ≡ counts) }

@@ -29,8 +29,7 @@ use toml::{Table, Value};
 /// There isn't the memory.
 pub fn write_accounts(alloc: Global, setup: &Setup, ledger: &Ledger) -> Result<Vec<u8>, AllocError>
     requires { ledger.now.setup ≡ setup.now }
-    ensures
-        current { IfOk result (λ bytes. setup_of bytes.items
+    ensures current { IfOk result (λ bytes. setup_of bytes.items
         ≡ Ok (entries_of (current_setup setup.now ledger.now.accounts))) }
     ensures after { IfOk result (λ bytes. IsSetupAfter setup.now ledger.now bytes.items) }
     ensures written { IfOk result (λ bytes. IsFileOf (current_setup setup.now ledger.now.accounts) bytes.items) }
@@ -80,11 +79,9 @@ fn spaced(alloc: Global, text: &str) -> Result<Vec<u8>, AllocError>
 
 /// The tables of the accounts, with what the ledger knows of each.
 fn account_values(alloc: Global, ledger: &Ledger) -> Result<Vec<Value>, AllocError>
-    ensures
-        values { IfOk result (λ values. map view values.items ≡ map account_data
+    ensures values { IfOk result (λ values. map view values.items ≡ map account_data
         (current_accounts ledger.now.setup.accounts ledger.now.accounts)) }
-    ensures
-        writable { IfOk result
+    ensures writable { IfOk result
         (λ _. list_all is_writable (current_accounts ledger.now.setup.accounts ledger.now.accounts) ≡ true) }
     ensures each { length ledger.now.setup.accounts ≡ length ledger.now.accounts }
 {

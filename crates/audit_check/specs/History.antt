@@ -30,8 +30,11 @@ use Rattle.audit_check.specs.declared.seats.Seat.{Seat}
 -- what a log says of who took a user last and who holds it
 abbrev pub hold_by : List Event → Name → Hold
 hold_by events user =
-    record { taker = session_taking (last_taking_of events user); moment = taking_moment (last_taking_of events user);
-        holder = holder_of events user }
+    record {
+      taker = session_taking (last_taking_of events user);
+      moment = taking_moment (last_taking_of events user);
+      holder = holder_of events user;
+    }
 
 -- what an event makes of the hold of a user
 abbrev pub hold_after : Name → Event → Hold → Hold
@@ -121,7 +124,7 @@ abbrev pub challenge_by : Settings → Name → ℕ → ℕ → Standing → Dec
 challenge_by setup user session now standing =
     if not (standing.enabled && not (standing.sequence == 0)) then decoy_challenge setup user
     else (if is_other session standing.hold.holder && nat_lt now (standing.hold.moment + setup.hold)
-        then Deny USER_HELD standing.hold.taker
+    then Deny USER_HELD standing.hold.taker
     else Permit (standing.sequence - 1))
 
 -- a REPLY without readings of a session for a user with this hold

@@ -34,7 +34,7 @@ holds_user before session user =
 abbrev pub readings_decide : Settings → List Event → ℕ → Bool
 readings_decide setup before session =
     not (session == 0) && is_challenged_phase (phase_of before session)
-        && not (ask_count before session == setup.requests)
+    && not (ask_count before session == setup.requests)
     && (was_decoyed before session || holds_user before session (challenged_user before session))
 
 -- the password is the account's next one

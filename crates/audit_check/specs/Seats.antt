@@ -28,8 +28,12 @@ pub record IsSeat (seat : Seat) (worker : ℕ) (events : List Event) : Type 0 wh
 abbrev pub seat_after : Event → Seat → Seat
 seat_after e seat =
     if is_turn_of e.worker e then record { session = if is_begin e.ask then e.session else 0; over = false; asks = 0 }
-    else record { session = seat.session; over = seat.over || ends_session e; asks = seat.asks + (if came_by_frame e.ask
-        then 1 else 0) }
+    else record {
+      session = seat.session;
+      over = seat.over || ends_session e;
+      asks = seat.asks + (if came_by_frame e.ask
+          then 1 else 0);
+    }
 
 -- the seat of an event's worker goes on, and any other stays
 pub record AreSeated (e : Event) (old new : List Seat) : Type 0 where

@@ -30,7 +30,7 @@ IsOutcome forms name contents before after ReadFailed EndsFailed (Err faults.Rea
 IsOutcome forms name contents before after ReadFailed EndsFailed (Err faults.OutOfMemory) = after ≡ before
 IsOutcome forms name contents before after ReadFailed EndsFailed (Err faults.EndsFailed) =
     EndsFailed × ((finding : Finding) × IsFinding forms contents name finding × SendsPart (line_of finding) before
-        after)
+    after)
 
 -- whether the mode ended before its line
 abbrev pub ends_before_line : Result Finding CheckFault → Bool

@@ -59,8 +59,7 @@ fn find<F: Files, I: Information>(
 
 /// What a setup and a word list that were read, or not, tell.
 fn told_by(read: Result<ServiceParts, ServiceError>) -> Result<Finding, CheckFault>
-    ensures
-        ok { IfOk read
+    ensures ok { IfOk read
         (λ parts. result ≡ told_by (Ok (record { entries = entries_of parts.setup; words = parts.dictionary }))) }
     ensures err { IfErr read (λ error. result ≡ told_by (Err error)) }
 {

@@ -36,7 +36,7 @@ abbrev pub user_parts : List ℕ → List ℕ → List ℕ → List ℕ → Opti
 user_parts mode session uid name =
     if bytes_eq mode (codes "child-user") && is_name name
     then option_and_then (λ s. option_map (λ u. record { role = User (record { uid = u; name = name }); session = s })
-        (number_within uid_max uid)) (number_within session_max session)
+    (number_within uid_max uid)) (number_within session_max session)
     else None
 
 -- what the command line `child-pre SESSION` or `child-user SESSION UID NAME` asks for; any other asks for nothing

@@ -66,8 +66,12 @@ terminal_in (suc count) bytes = terminal_at (front_of (behind_lines count bytes)
 -- the state once so many lines were taken: terminal, unread bytes, and the counts of lines and of bytes
 abbrev pub state_at : ℕ → List ℕ → StateValue
 state_at lines bytes =
-    record { terminal = terminal_in lines bytes; unread = behind_lines lines bytes; lines = lines;
-        bytes = length bytes }
+    record {
+      terminal = terminal_in lines bytes;
+      unread = behind_lines lines bytes;
+      lines = lines;
+      bytes = length bytes;
+    }
 
 -- the state that the child before the login exports after these exchanges
 abbrev pub pre_state : List Exchange → StateValue
@@ -102,4 +106,4 @@ pre_next [] = Some Banner
 pre_next (e ∷ before) =
     cond (ends_child e.request e.answer) None
     (Some (pre_follows e.request e.answer (pre_is_last (underway before))
-        (pre_first (underway (e ∷ before)) (is_challenged (e ∷ before))) (pre_state (e ∷ before))))
+    (pre_first (underway (e ∷ before)) (is_challenged (e ∷ before))) (pre_state (e ∷ before))))

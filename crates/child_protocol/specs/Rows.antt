@@ -38,7 +38,7 @@ ann = User (record { uid = 7; name = codes "ann" })
 abbrev pub gets : List AnswerValue
 gets =
     Done
-        (7 ∷ 0 ∷ 0 ∷ 0 ∷ 3
+    (7 ∷ 0 ∷ 0 ∷ 0 ∷ 3
     ∷ (codes "ann" ++ state_bytes (record { terminal = []; unread = codes "get a\n"; lines = 3; bytes = 40 }))) ∷ told
     ∷ Done (1 ∷ 0 ∷ 0 ∷ 0 ∷ []) ∷ []
 

@@ -47,16 +47,16 @@ EndsSo ends.Spent role session answers rest sent link =
     × ((request : RequestValue) × (says role answers ≡ Some request))
 EndsSo ends.LinkEnded role session answers rest sent link =
     (request : RequestValue) × (says role answers ≡ Some request)
-        × (sent ≡ asked_bytes (exchanges_of role answers) ++ request_bytes request) × IsPartialFront frame_width 16384
-        rest × IfSome link (λ l. l.left ≡ [])
+    × (sent ≡ asked_bytes (exchanges_of role answers) ++ request_bytes request) × IsPartialFront frame_width 16384
+    rest × IfSome link (λ l. l.left ≡ [])
 EndsSo ends.Unreadable role session answers rest sent link =
     (request : RequestValue) × (says role answers ≡ Some request)
-        × (sent ≡ asked_bytes (exchanges_of role answers) ++ request_bytes request)
+    × (sent ≡ asked_bytes (exchanges_of role answers) ++ request_bytes request)
     × (((len : ℕ) × IsBadFront frame_width 16384 rest len)
-        ⊎ ((message : Message) × IsWholeFront frame_width 16384 rest message × IsNoReply session request message))
+    ⊎ ((message : Message) × IsWholeFront frame_width 16384 rest message × IsNoReply session request message))
 EndsSo ends.LinkFault role session answers rest sent link =
     (request : RequestValue) × (says role answers ≡ Some request)
-        × ((n : ℕ) × (sent ≡ asked_bytes (exchanges_of role answers) ++ take n (request_bytes request)))
+    × ((n : ℕ) × (sent ≡ asked_bytes (exchanges_of role answers) ++ take n (request_bytes request)))
 
 -- a child's run over its link: it took the replies of some answers, at most 4,097, sent the requests that they lead to,
 -- and ended so

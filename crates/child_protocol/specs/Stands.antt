@@ -31,8 +31,14 @@ pub record Kept : Type 0 where
 
 abbrev pub kept_of : PreDialogue → Kept
 kept_of core =
-    record { place = core.place; held = core.held.items; terminal = list_of core.terminal; challenged = core.challenged;
-        lines = core.lines; read = core.read }
+    record {
+      place = core.place;
+      held = core.held.items;
+      terminal = list_of core.terminal;
+      challenged = core.challenged;
+      lines = core.lines;
+      read = core.read;
+    }
 
 -- the bytes, lines and choices kept are those of the exchanges
 pub record Keeps (kept : Kept) (history : List Exchange) : Type 0 where

@@ -27,8 +27,13 @@ pub record Kept : Type 0 where
 
 abbrev pub kept_of : UserDialogue → Kept
 kept_of core =
-    record { who = record { uid = core.uid; name = name_bytes core.user }; place = core.place; held = core.held.items;
-        text = core.text.items; handle = core.handle }
+    record {
+      who = record { uid = core.uid; name = name_bytes core.user };
+      place = core.place;
+      held = core.held.items;
+      text = core.text.items;
+      handle = core.handle;
+    }
 
 -- a line, or the greeting, is underway, and after its text comes the next line
 pub record IsOnLine (bytes : List ℕ) (history : List Exchange) : Type 0 where
@@ -87,8 +92,11 @@ abbrev pub kept_behind : Front → Kept → Kept
 kept_behind More kept = record kept { place = places.Reading }
 kept_behind TooLong kept = record kept { place = places.Parting }
 kept_behind (Line text) kept =
-    record kept { place = user_place_by (user_command text); held = behind_line kept.held;
-        text = text_by (user_command text) kept.text }
+    record kept {
+      place = user_place_by (user_command text);
+      held = behind_line kept.held;
+      text = text_by (user_command text) kept.text;
+    }
 
 -- a text to put in a file has bytes
 abbrev pub HasText : Kept → Type 0

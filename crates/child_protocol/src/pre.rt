@@ -296,8 +296,12 @@ impl PreDialogue {
 fn state_of<'a>(terminal: &'a [u8], unread: &'a [u8], lines: u32, bytes: u32) -> State<'a>
     requires terminal { length terminal.now ≤ 64 }
     requires unread { length unread.now ≤ 4096 }
-    ensures value { value_of result ≡ record { terminal = terminal.now; unread = unread.now; lines = lines;
-        bytes = bytes } }
+    ensures value { value_of result ≡ record {
+      terminal = terminal.now;
+      unread = unread.now;
+      lines = lines;
+      bytes = bytes;
+    } }
     ensures in_range { IsState (value_of result) }
 {
     State {

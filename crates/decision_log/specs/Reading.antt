@@ -117,5 +117,10 @@ line_read text = do
   ask ← ask_read session.rest
   decision ← decision_read session.value ask.value ask.rest
   demand faults.End (then_some (bytes_eq decision.rest (codes "\n"))
-      (record { number = number.value; worker = worker.value; session = session.value; ask = ask.value;
-      decision = decision.value }))
+      (record {
+        number = number.value;
+        worker = worker.value;
+        session = session.value;
+        ask = ask.value;
+        decision = decision.value;
+      }))

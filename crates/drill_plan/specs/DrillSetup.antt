@@ -31,6 +31,12 @@ pub record AreDrillAccounts (n : ℕ) (accounts : List Account) : Type 0 where
 
 -- the setup of the drill of n: the plain one, with four workers, their accounts, and 16 requests a session
 pub record IsDrillSetup (n : ℕ) (setup : Settings) : Type 0 where
-  pub plain : setup ≡ record plain_settings { workers = 4; connections = session_count n; requests = 16; tries = 3;
-      hold = 30000; accounts = setup.accounts }
+  pub plain : setup ≡ record plain_settings {
+    workers = 4;
+    connections = session_count n;
+    requests = 16;
+    tries = 3;
+    hold = 30000;
+    accounts = setup.accounts;
+  }
   pub accounts : AreDrillAccounts n setup.accounts

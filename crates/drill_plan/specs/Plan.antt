@@ -30,9 +30,11 @@ early_bytes_by user current right class =
 
 -- what the children of a worker's session have to send: the one before the login, and the user's
 abbrev pub session_bytes : ℕ → ℕ → ℕ → List ℕ × List ℕ
-session_bytes n worker session =
-    (early_bytes_by (own_name worker) (current_password n worker session) (right_password n worker session)
-        (class_of n worker session), requests_bytes (user_requests n worker session))
+session_bytes n worker session = (
+  early_bytes_by (own_name worker) (current_password n worker session) (right_password n worker session)
+      (class_of n worker session),
+  requests_bytes (user_requests n worker session),
+)
 
 -- what those of each of a worker's connections have to send
 abbrev pub drill_plan : ℕ → ℕ → List (List ℕ × List ℕ)

@@ -36,7 +36,7 @@ user_requests_by _ = []
 abbrev pub early_requests : ℕ → ℕ → ℕ → List RequestValue
 early_requests n worker session =
     early_requests_by (own_name worker) (current_password n worker session) (right_password n worker session)
-        (class_of n worker session)
+    (class_of n worker session)
 
 -- what the user's child asks in a session of the drill
 abbrev pub user_requests : ℕ → ℕ → ℕ → List RequestValue

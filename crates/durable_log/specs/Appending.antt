@@ -19,7 +19,7 @@ pub record BreaksOff (given : List (List ℕ)) (answered : ℕ) (bytes : List �
 abbrev pub KeepsAll : List ℕ → LogParts → LogParts → Type 0
 KeepsAll bytes old new =
     (given : List (List ℕ)) (answered : ℕ) → Keeps given answered old → Keeps (given ++ pieces_of bytes)
-        (answered + length (pieces_of bytes)) new
+    (answered + length (pieces_of bytes)) new
 
 -- whatever records a log was given before, the append broke off after them
 abbrev pub KeepsSome : List ℕ → LogParts → LogParts → Type 0

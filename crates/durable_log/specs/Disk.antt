@@ -69,8 +69,12 @@ wrote at bytes story = then_state story (record {
 pub record HalfWrote (at : ℕ) (bytes : List ℕ) (before after : Story) : Type 0 where
   pub reads : List ℕ
   pub torn : IsTorn at (length bytes) before.now.reads reads
-  pub is : after ≡ then_state before (record { reads = reads; safe = before.now.safe; loose = (at, length bytes)
-      ∷ before.now.loose })
+  pub is : after ≡ then_state before (record {
+    reads = reads;
+    safe = before.now.safe;
+    loose = (at, length bytes)
+        ∷ before.now.loose;
+  })
 
 -- a sync was done
 abbrev pub synced : Story → Story

@@ -72,8 +72,16 @@ ReadsBack =
     (width : Width) (max kind peerid pid : ℕ) (body rest before : List ℕ) (answer : Next) (after : Held)
     → kind < 2 ^ 32 → peerid < 2 ^ 32 → pid < 2 ^ 32 → 16 + length body ≤ max → max ≤ frame_max width
     → IsAnswer width max (spelling_of width (composed_of kind peerid pid body) ++ rest) after.given answer
-    → AfterNext (record { width = width; max = max; given = before;
-        bytes = spelling_of width (composed_of kind peerid pid body) ++ rest }) answer after
+    → AfterNext (record {
+      width = width;
+      max = max;
+      given = before;
+      bytes = spelling_of width (composed_of kind peerid pid body) ++ rest;
+    }) answer after
     → IsFrameOf (composed_of kind peerid pid body) after.given answer
-    × (after ≡ record { width = width; max = max; given = spelling_of width (composed_of kind peerid pid body);
-        bytes = rest })
+    × (after ≡ record {
+      width = width;
+      max = max;
+      given = spelling_of width (composed_of kind peerid pid body);
+      bytes = rest;
+    })

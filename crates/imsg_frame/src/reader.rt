@@ -44,9 +44,12 @@ impl Model for Reader {
 
     ghost Value = { Held };
 
-    ghost view =
-        { λ r. record { width = r.width; max = r.ring.capacity; given = take r.given r.ring.items;
-            bytes = drop r.given r.ring.items } };
+    ghost view = { λ r. record {
+      width = r.width;
+      max = r.ring.capacity;
+      given = take r.given r.ring.items;
+      bytes = drop r.given r.ring.items;
+    } };
 
     ghost invariant = { λ r. IsLaidOut r.width r.ring.items r.ring.capacity r.given };
 }

@@ -14,7 +14,7 @@ abbrev pub lost_line : Settings → List Event → List ℕ
 lost_line setup journal =
     let kept = kept_events journal in
     option_map_or (λ e. line_of (length kept + 1) (next_event setup kept e.worker e.ask))
-        (find (λ e. is_lost e.decision) journal) []
+    (find (λ e. is_lost e.decision) journal) []
 
 -- the log holds what it held, then the lines of the kept events, then at most a first part of the lost event's line
 pub record HoldsLines (setup : Settings) (journal : List Event) (before after : List ℕ) : Type 0 where

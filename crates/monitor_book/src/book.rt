@@ -40,13 +40,11 @@ impl<K: Sink> Model for Book<K> {
 
     ghost Value = { BookParts };
 
-    ghost view =
-        { λ b. book_parts b.core b.journal.items b.lost (K.held b.opened.value) (K.held b.log) (K.faults b.opened.value)
-            (K.faults b.log) };
+    ghost view = { λ b. book_parts b.core b.journal.items b.lost (K.held b.opened.value) (K.held b.log)
+        (K.faults b.opened.value) (K.faults b.log) };
 
-    ghost invariant =
-        { λ b. IsBook (book_parts b.core b.journal.items b.lost (K.held b.opened.value) (K.held b.log)
-            (K.faults b.opened.value) (K.faults b.log))
+    ghost invariant = { λ b. IsBook (book_parts b.core b.journal.items b.lost (K.held b.opened.value) (K.held b.log)
+        (K.faults b.opened.value) (K.faults b.log))
         × (events_max (setup_of b.core) ≤ vec_capacity b.journal) };
 }
 

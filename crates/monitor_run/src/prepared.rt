@@ -31,14 +31,13 @@ pub struct Prepared<'a, T: Texts + Sync, P: Post, K: Sink> {
 impl<'a, T: Texts + Sync, P: Post, K: Sink> Model for Prepared<'a, T, P, K> {
     ghost use Rattle.std.specs.Prelude.{◌≡◌, All, length, vec_capacity};
     ghost use Rattle.monitor_run.specs.Prepared.{IsPrepared, Preparation};
-    
+
     ghost Value = { Preparation };
 
     ghost view = { λ p. record { service = T.service p.texts.now; opened = p.cell.terms } };
 
-    ghost invariant =
-        { λ p. IsPrepared (T.service p.texts.now) p.cell p.passes.items (length p.desks.items) (length p.workers.items)
-            (vec_capacity p.workers)
+    ghost invariant = { λ p. IsPrepared (T.service p.texts.now) p.cell p.passes.items (length p.desks.items)
+        (length p.workers.items) (vec_capacity p.workers)
         × All (λ d. T.service d.replies.texts.now ≡ T.service p.texts.now) p.desks.items };
 }
 
@@ -64,8 +63,7 @@ fn cell_of<K: Sink>(
     setup: &Setup,
     log: K,
 ) -> Result<(TurnCell<Book<K>>, Vec<Pass<Book<K>>>), K>
-    ensures
-        cell { IfOk result
+    ensures cell { IfOk result
         (λ r. IsCellOf r.0 (Some (record { setup = setup.now; held = K.held log; faults = K.faults log }))
         setup.now.workers (quota_of setup.now)) }
     ensures new { IfOk result (λ r. AreNewPasses r.0 r.1.items) }
@@ -112,9 +110,11 @@ pub fn prepare<'a, T: Texts + Sync, P: Post, K: Sink>(
     log: K,
 ) -> Result<Prepared<'a, T, P, K>, K>
     ensures service { IfOk result (λ p. p.service ≡ T.service texts.now) }
-    ensures
-        opened { IfOk result (λ p. p.opened ≡ Some (record { setup = (T.service texts.now).setup; held = K.held log;
-        faults = K.faults log })) }
+    ensures opened { IfOk result (λ p. p.opened ≡ Some (record {
+      setup = (T.service texts.now).setup;
+      held = K.held log;
+      faults = K.faults log;
+    })) }
     ensures back { IfErr result (λ back. LogStays (K.held log) (K.held back) (K.faults log) (K.faults back)) }
 {
     let Ok(desks) = desks_of(alloc, texts) else {

@@ -27,7 +27,7 @@ fault_status (faults.Refused fault) = 15
 abbrev pub IsMade : Settings → Name → Response → Result Renewal RenewalFault → Type 0
 IsMade setup user response (Ok made) =
     (renewal_of setup user response ≡ Ok made.renewed) × IsRenewed setup made.setup user (spent_of response)
-        made.renewed
+    made.renewed
 IsMade setup user response (Err (faults.Refused fault)) = renewal_of setup user response ≡ Err fault
 IsMade setup user response (Err faults.OutOfMemory) = (new : Renewed) × (renewal_of setup user response ≡ Ok new)
 IsMade setup user response (Err _) = ⊥

@@ -50,7 +50,7 @@ chain_faults account (Init current algo sequence seed password) =
 abbrev pub faults_of : Account → Response → List RenewFault
 faults_of account response =
     fault_if (not account.enabled) Disabled ++ (fault_if (account.sequence == 0) Exhausted ++ chain_faults account
-        response)
+    response)
 
 -- the first of some faults, if there is one
 abbrev pub first_of : List RenewFault → Option RenewFault

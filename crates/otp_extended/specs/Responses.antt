@@ -75,7 +75,7 @@ IsPlainOf dictionary form current _ = ⊥
 abbrev pub IsInitOf : List (List ℕ) → Form → List ℕ → List ℕ → List ℕ → Result Response ResponseFault → Type 0
 IsInitOf dictionary form current params new (Ok (Init spent algo sequence seed password)) =
     Spells dictionary form current spent × AreParams params algo sequence (seed_bytes seed)
-        × Spells dictionary form new password
+    × Spells dictionary form new password
 IsInitOf dictionary form current params new (Err faults.Current) = SpellsNone dictionary form current
 IsInitOf dictionary form current params new (Err faults.Params) = SpellsSome dictionary form current × IsNoParams params
 IsInitOf dictionary form current params new (Err faults.New) =

@@ -15,4 +15,4 @@ algo_name algos.Sha1 = codes "sha1"
 abbrev pub algo_named : List ℕ → Option Algo
 algo_named bytes =
     option_or (then_some (bytes_eq bytes (algo_name algos.Md5)) algos.Md5)
-        (then_some (bytes_eq bytes (algo_name algos.Sha1)) algos.Sha1)
+    (then_some (bytes_eq bytes (algo_name algos.Sha1)) algos.Sha1)

@@ -29,8 +29,15 @@ pub record LedgerParts : Type 0 where
 
 -- what stands for an account that isn't there
 abbrev pub no_state : AccountState
-no_state = record { algo = algos.Md5; enabled = false; accepted = []; sequence = 0; taker = 0; moment = 0;
-    holder = None }
+no_state = record {
+  algo = algos.Md5;
+  enabled = false;
+  accepted = [];
+  sequence = 0;
+  taker = 0;
+  moment = 0;
+  holder = None;
+}
 
 -- what a ledger knows of the account of this number
 abbrev pub state_at : LedgerParts → ℕ → AccountState

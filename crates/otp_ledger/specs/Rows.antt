@@ -32,8 +32,16 @@ state_of row = record {
 
 -- any row
 abbrev pub no_row : AccountRow
-no_row = record { algo = algos.Md5; enabled = false; start = 0; sequence = 0; password = 0; taker = 0; moment = 0;
-    holder = None }
+no_row = record {
+  algo = algos.Md5;
+  enabled = false;
+  start = 0;
+  sequence = 0;
+  password = 0;
+  taker = 0;
+  moment = 0;
+  holder = None;
+}
 
 -- the row of a number
 abbrev pub row_at : List AccountRow → ℕ → AccountRow

@@ -84,7 +84,7 @@ IsOutcome parts contents before after ReadFailed EndsFailed (Err faults.OutOfMem
     IsSome parts.list × (after ≡ before)
 IsOutcome parts contents before after ReadFailed EndsFailed (Err faults.EndsFailed) =
     EndsFailed × ((words : Option (List (List ℕ))) × HasWords contents parts.list words
-        × (Goes OnlyReceived before after ⊎ Goes (PrintedPart parts words) before after))
+    × (Goes OnlyReceived before after ⊎ Goes (PrintedPart parts words) before after))
 IsOutcome parts contents before after ReadFailed EndsFailed (Err faults.PhraseRefused) =
     ((words : Option (List (List ℕ))) × HasWords contents parts.list words) × Goes RefusedPhrase before after
 

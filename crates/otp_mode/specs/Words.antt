@@ -18,8 +18,12 @@ pub record OtpParts : Type 0 where
 abbrev pub parts_of : List ℕ → List ℕ → List ℕ → List ℕ → Option (List ℕ) → Option OtpParts
 parts_of mode algo number seed list =
     if bytes_eq mode (codes "otp") && is_number_text number && is_seed_text seed
-    then option_map (λ a. record { algo = a; number = decimal_value number; seed = map to_ascii_lowercase seed;
-        list = list }) (algo_named algo)
+    then option_map (λ a. record {
+      algo = a;
+      number = decimal_value number;
+      seed = map to_ascii_lowercase seed;
+      list = list;
+    }) (algo_named algo)
     else None
 
 -- what the command line `otp ALGO N SEED` or `otp ALGO N SEED WORDS` asks for; any other asks for nothing

@@ -34,7 +34,7 @@ IsWords words [] text = ⊥
 IsWords words (i ∷ []) text = slice_get words i ≡ Some (str_to_ascii_uppercase text)
 IsWords words (i ∷ j ∷ places) text =
     (front : List ℕ) × (gap : List ℕ) × (rest : List ℕ) × (text ≡ front ++ (gap ++ rest))
-        × (slice_get words i ≡ Some (str_to_ascii_uppercase front))
+    × (slice_get words i ≡ Some (str_to_ascii_uppercase front))
     × (1 ≤ length gap) × (list_all is_blank gap ≡ true) × IsWords words (j ∷ places) rest
 
 -- a text spells this password in six words of the list, with right check bits

@@ -48,8 +48,8 @@ impl Model for Dictionary {
 
     ghost view = { λ d. map list_of d.words.items };
 
-    ghost invariant =
-        { λ d. IsPlaced (map list_of d.words.items) (get nat_cmp d.places) × IsDictionary (map list_of d.words.items) };
+    ghost invariant = { λ d. IsPlaced (map list_of d.words.items) (get nat_cmp d.places)
+        × IsDictionary (map list_of d.words.items) };
 }
 
 impl Dictionary {

@@ -84,7 +84,7 @@ abbrev pub GivenBack : Role → Option Link → Option Scene → Option Scene �
 GivenBack role None before after = after ≡ None
 GivenBack role (Some link) before after =
     Goes (Played (Finish role ∷ []) (record { role = role; taken = link.taken; sent = link.sent } ∷ [])
-        (link.left ∷ [])) before after
+    (link.left ∷ [])) before after
 
 -- nothing was asked of a post yet
 pub record IsUnplayed (scene : Scene) : Type 0 where

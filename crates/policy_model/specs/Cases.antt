@@ -116,14 +116,14 @@ login_verdict setup journal session passwords user =
 abbrev pub use_verdict : ℕ → ℕ → Option Event → Decision
 use_verdict handle needed opening =
     option_map_or (λ e. if allows (mode_of e.ask) needed then Permit 0 else Deny MODE_LACKING handle) opening
-        (Deny NO_HANDLE handle)
+    (Deny NO_HANDLE handle)
 
 abbrev pub grant_verdict : ℕ → ℕ → Option Grant → Decision
 grant_verdict free mode found =
     option_map_or (λ grant. if allows grant.mode mode then Permit free else Deny MODE_NOT_GRANTED mode) found
-        (Deny NOT_GRANTED 0)
+    (Deny NOT_GRANTED 0)
 
 abbrev pub table_verdict : Settings → List Event → ℕ → Ask → Option Kind → Decision
 table_verdict setup journal session ask kind =
     option_map_or (λ k. row_verdict setup journal session ask k (table_row (phase_of journal session) k)) kind
-        (Permit 0)
+    (Permit 0)

@@ -29,7 +29,7 @@ was_decoyed journal session =
 unfoldable pub verified_user : List Event → ℕ → Option Name
 verified_user journal session =
     option_and_then (λ place. challenged_user place.before session)
-        (last_or None (filter (λ place. is_own session accepts place.event) (places_of journal)))
+    (last_or None (filter (λ place. is_own session accepts place.event) (places_of journal)))
 
 -- the account that a session is logged in as
 abbrev pub verified_account : Settings → List Event → ℕ → Option Account
@@ -53,7 +53,7 @@ was_given_up journal user =
 unfoldable pub holder_of : List Event → Name → Option ℕ
 holder_of journal user =
     option_and_then (λ e. if was_given_up journal user || is_over journal e.session then None else Some e.session)
-        (last_taking_of journal user)
+    (last_taking_of journal user)
 
 -- the password of a permitted REPLY, if its session's last permitted CHALLENGE before it was for this user
 abbrev pub reply_for : Name → Place → Option ℕ

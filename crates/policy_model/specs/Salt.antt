@@ -21,8 +21,14 @@ salt_room = codes "decoy" ++ replicate 11 0
 
 -- the text of that salt, in a list of fixed room
 abbrev pub salt_text : FixedList 16
-salt_text = record { bytes = salt_room; len = 5; whole = refl; small = small_at salt_room refl; within = lit≤ tt;
-    padded = refl }
+salt_text = record {
+  bytes = salt_room;
+  len = 5;
+  whole = refl;
+  small = small_at salt_room refl;
+  within = lit≤ tt;
+  padded = refl;
+}
 
 -- the salt of the plain setup: the seed `decoy`
 unfoldable pub plain_salt : Seed

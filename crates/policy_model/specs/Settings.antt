@@ -81,7 +81,7 @@ is_account a = is_number 1 4294967294 a.uid && nat_le a.sequence 9999 && are_gra
 abbrev pub are_accounts : List Account → Bool
 are_accounts accounts =
     nat_le (length accounts) 1024 && list_all is_account accounts && are_distinct (λ a b. same_name a.name b.name)
-        accounts && are_distinct (λ a b. a.uid == b.uid) accounts
+    accounts && are_distinct (λ a b. a.uid == b.uid) accounts
 
 -- the ranges of a setup, by which a run makes at most 1,048,576 events
 pub record IsInRange (s : Settings) : Type 0 where

@@ -94,7 +94,7 @@ passwords_verdict journal passwords account =
 abbrev pub user_verdict : Settings → List Event → ℕ → List ℕ → Name → Decision
 user_verdict setup journal session passwords user =
     if not (option_map_or (λ holder. holder == session) (holder_of journal user) false)
-        then Deny HOLD_LOST (session_taking (last_taking_of journal user))
+    then Deny HOLD_LOST (session_taking (last_taking_of journal user))
     else (if length passwords == 0 then Deny NO_READING 0
     else option_map_or (passwords_verdict journal passwords) (account_of setup user) (Deny NO_MATCH 0))
 
@@ -107,7 +107,7 @@ unfoldable pub reply_verdict : Settings → List Event → ℕ → Option ℕ �
 reply_verdict setup journal session words hex =
     if was_decoyed journal session then decoy_verdict (readings words hex)
     else option_map_or (user_verdict setup journal session (readings words hex)) (challenged_user journal session)
-        (Deny HOLD_LOST 0)
+    (Deny HOLD_LOST 0)
 
 -- 6. what a session that is logged in asks
 
@@ -121,7 +121,7 @@ unfoldable pub handle_verdict : List Event → ℕ → ℕ → ℕ → Decision
 handle_verdict journal session handle needed =
     if handle == 0 then Permit 0
     else option_map_or (λ e. if allows (mode_of e.ask) needed then Permit 0 else Deny MODE_LACKING handle)
-        (handle_opening journal session handle) (Deny NO_HANDLE handle)
+    (handle_opening journal session handle) (Deny NO_HANDLE handle)
 
 -- the logged-in user's grant for a file, if there is one
 abbrev pub granted : Settings → List Event → ℕ → Label → Option Grant
@@ -133,7 +133,7 @@ unfoldable pub open_verdict : Settings → List Event → ℕ → ℕ → Label 
 open_verdict setup journal session mode name =
     if nat_le 8 (length (live_handles_of journal session)) then Deny HANDLES_SPENT 8
     else option_map_or (λ grant. if allows grant.mode mode then Permit (free_handle_of journal session)
-        else Deny MODE_NOT_GRANTED mode) (granted setup journal session name) (Deny NOT_GRANTED 0)
+    else Deny MODE_NOT_GRANTED mode) (granted setup journal session name) (Deny NOT_GRANTED 0)
 
 -- a CLOSE: permitted for an open handle, otherwise rule 17, also for handle 0
 unfoldable pub close_verdict : List Event → ℕ → ℕ → Decision
@@ -144,8 +144,8 @@ close_verdict journal session handle =
 unfoldable pub info_verdict : Settings → List Event → ℕ → ℕ → Decision
 info_verdict setup journal session number =
     if list_any (nat_eq number) setup.info
-        then Permit (option_map_or (current_sequence journal) (verified_account setup journal session) 0)
-        else Deny NO_INFORMATION number
+    then Permit (option_map_or (current_sequence journal) (verified_account setup journal session) 0)
+    else Deny NO_INFORMATION number
 
 -- the rules of each kind of request; an EXPORT is permitted with the number of the user's account
 unfoldable pub kind_verdict : Settings → List Event → ℕ → Ask → Decision
@@ -174,7 +174,7 @@ abbrev pub own_verdict : Settings → List Event → ℕ → Ask → Decision
 own_verdict setup journal session (asks.Bad rule detail) = Deny rule detail
 own_verdict setup journal session ask =
     option_map_or (λ kind. row_verdict setup journal session ask kind (table_row (phase_of journal session) kind))
-        (kind_of ask) (Permit 0)
+    (kind_of ask) (Permit 0)
 
 -- 2. any other ask
 

@@ -14,4 +14,4 @@ abbrev pub sent_within : ℕ → Option Link → List ℕ → Option Link
 sent_within left None bytes = None
 sent_within left (Some l) bytes =
     if nat_le (length bytes) left then Some (record { left = l.left; taken = l.taken; sent = l.sent ++ bytes })
-        else None
+    else None

@@ -95,7 +95,7 @@ abbrev pub IsPut : Texts → Option Contents → Option Contents → Option Link
     → Result Recovery RecoveryError → Type 0
 IsPut texts old new before after ReplaceFailed EndsFailed (Ok recovery) =
     (recovery ≡ texts.recovery) × Goes (AreWritten texts) old new × Goes (Exchanged [] (string_bytes texts.line)) before
-        after
+    after
 IsPut texts old new before after ReplaceFailed EndsFailed (Err errors.ReplaceFailed) =
     ReplaceFailed × Goes (MayBeWritten texts) old new × (after ≡ before)
 IsPut texts old new before after ReplaceFailed EndsFailed (Err errors.SendFailed) =

@@ -16,12 +16,12 @@ abbrev pub IsInstalling : RenewParts → Renewal → Option Contents → Option 
     → Type 0 → Result Renewed RenewError → Type 0
 IsInstalling parts renewal old new before after ReplaceFailed EndsFailed (Ok renewed) =
     (renewed ≡ renewal.renewed) × (texts : Texts) × AreTexts parts renewal texts × IsPut texts old new before after
-        ReplaceFailed EndsFailed (Ok tt)
+    ReplaceFailed EndsFailed (Ok tt)
 IsInstalling parts renewal old new before after ReplaceFailed EndsFailed (Err errors.OutOfMemory) =
     (new ≡ old) × (after ≡ before)
 IsInstalling parts renewal old new before after ReplaceFailed EndsFailed (Err error) =
     (texts : Texts) × AreTexts parts renewal texts × IsPut texts old new before after ReplaceFailed EndsFailed
-        (Err error)
+    (Err error)
 
 -- why a log is refused: it isn't fresh, its reading failed, or there was no memory for its name
 abbrev pub IsLogRefused : Option (List ℕ) → Option Contents → Type 0 → RenewError → Type 0

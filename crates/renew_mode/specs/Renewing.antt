@@ -55,11 +55,11 @@ abbrev pub IsRenewing : RenewParts → Basis → Option Contents → Option Cont
     → Type 0 → Result Renewed RenewError → Type 0
 IsRenewing parts basis old new before after ReplaceFailed EndsFailed (Ok renewed) =
     (texts : Texts) × (between : Option Link) × IsMade parts basis renewed texts before between
-        × IsPut texts old new between after ReplaceFailed EndsFailed (Ok tt)
+    × IsPut texts old new between after ReplaceFailed EndsFailed (Ok tt)
 IsRenewing parts basis old new before after ReplaceFailed EndsFailed (Err (errors.NoRenewal fault)) =
     ComesOf parts basis before after EndsFailed (Err fault) × Goes SameFiles old new
 IsRenewing parts basis old new before after ReplaceFailed EndsFailed (Err errors.OutOfMemory) =
     Goes OnlyReceived before after × Goes SameFiles old new
 IsRenewing parts basis old new before after ReplaceFailed EndsFailed (Err error) =
     (texts : Texts) × (between : Option Link) × (renewed : Renewed) × IsMade parts basis renewed texts before between
-        × IsPut texts old new between after ReplaceFailed EndsFailed (Err error)
+    × IsPut texts old new between after ReplaceFailed EndsFailed (Err error)

@@ -26,10 +26,10 @@ asked_by width kinds.Export payload = then_some (nat_le (length payload) 8192) (
 asked_by width kinds.Import payload = then_some (length payload == 0) Import
 asked_by width kinds.ReadAt payload =
     then_some (length payload == 14 && nat_le 1 (number_at w16 12 payload) && nat_le (number_at w16 12 payload)
-        (transfer_max width)) (ReadAt (number_at w32 0 payload) (number_at w64 4 payload) (number_at w16 12 payload))
+    (transfer_max width)) (ReadAt (number_at w32 0 payload) (number_at w64 4 payload) (number_at w16 12 payload))
 asked_by width kinds.WriteAt payload =
     then_some (nat_le 13 (length payload) && nat_le (length payload) (transfer_max width + 12))
-        (WriteAt (number_at w32 0 payload) (number_at w64 4 payload) (drop 12 payload))
+    (WriteAt (number_at w32 0 payload) (number_at w64 4 payload) (drop 12 payload))
 asked_by width kinds.OpenFile [] = None
 asked_by width kinds.OpenFile (mode ∷ name) =
     then_some (nat_le 1 mode && nat_le mode 3 && is_label name) (OpenFile mode name)

@@ -14,8 +14,13 @@ use Rattle.serve_mode.specs.Words.{Named, Plain, Source}
 -- accounts
 abbrev pub plain_entries : SetupEntries
 plain_entries = record {
-  texts = record { socket = codes "otplogd.sock"; launcher = codes "otplogd"; vault = codes "vault";
-      words = codes "words"; banner = [] };
+  texts = record {
+    socket = codes "otplogd.sock";
+    launcher = codes "otplogd";
+    vault = codes "vault";
+    words = codes "words";
+    banner = [];
+  };
   salt = codes "decoy";
   frames = Narrow;
   counts = record { workers = 1; connections = 1; requests = 64; tries = 3; hold = 30000 };

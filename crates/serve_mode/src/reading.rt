@@ -44,8 +44,8 @@ pub(crate) fn make_ready<'a, F: Files, I: Information>(
 ) -> Result<House<'a, I>, ServeError>
     ensures read { IfOk result (λ house. IsReadFrom (source_of command.now) (I.forms information.now)
         (F.contents files.new) house.setup house.dictionary) }
-    ensures
-        fresh { IfOk result (λ house. IfSome (F.contents files.new) (HasFreshLog (log_of (source_of command.now)))) }
+    ensures fresh { IfOk result
+        (λ house. IfSome (F.contents files.new) (HasFreshLog (log_of (source_of command.now)))) }
     ensures information { IfOk result (λ house. house.information.now ≡ information.now) }
     ensures error { (error : ServeError) → result ≡ Err error → IsUnready (source_of command.now)
         (I.forms information.now) (F.contents files.new)

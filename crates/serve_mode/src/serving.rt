@@ -43,8 +43,7 @@ pub(crate) fn serve<I: Information + Sync, S: Site, K: Sink, R: Threads + Wait +
     site: &mut S,
     log: K,
 ) -> Result<Ran<S::Post, K>, (ServeError, K)>
-    ensures
-        promises { IfOk result
+    ensures promises { IfOk result
         (λ ran. RunPromises (service_by house.now.setup house.now.dictionary (I.forms house.now.information.now))
         ran.accept_failed ran.journal.items ran.posts.items S.Post.scene S.Post.faults (K.held log) (K.held ran.log)
         (K.faults log) (K.faults ran.log)) }

@@ -96,7 +96,7 @@ operations_by setup p (asks.ReadAt handle offset max) message =
     if is_permit p.event.decision then read_operations handle (file_at setup p handle) offset max else []
 operations_by setup p (asks.WriteAt handle offset len) message =
     if is_permit p.event.decision then write_operations handle (file_at setup p handle) offset
-        (written_bytes setup.frames message) else []
+    (written_bytes setup.frames message) else []
 operations_by setup p _ message = []
 
 -- the operations that an opening or a request calls for

@@ -37,8 +37,8 @@ decoy_challenge_text setup user = challenge_of (decoy_algo setup user) (decoy_nu
 abbrev pub challenge_text : Settings → Name → ℕ → List ℕ
 challenge_text setup user value =
     if nat_lt value DECOYS_FROM
-        then option_map_or (λ account. challenge_of account.algo value (seed_bytes account.seed))
-        (account_of setup user) []
+    then option_map_or (λ account. challenge_of account.algo value (seed_bytes account.seed))
+    (account_of setup user) []
     else decoy_challenge_text setup user
 
 -- what a form says of a user with so many passwords left
@@ -50,7 +50,7 @@ said_of key account sequence =
 abbrev pub info_text : List Key → ℕ → Option Account → ℕ → List ℕ
 info_text forms number user sequence =
     option_map_or (λ key. option_map_or (λ account. said_of key account sequence) user [])
-        (find (λ key. key.number == number) forms) []
+    (find (λ key. key.number == number) forms) []
 
 -- the body for a permitted ask: banner, challenge, import record, the bytes read, a handle, an information text,
 -- otherwise nothing
@@ -70,7 +70,7 @@ abbrev pub permitted_value : Service → List ℕ → Place → List Act → Ask
 permitted_value service exported p done (asks.Export len) value = None
 permitted_value service exported p done ask value =
     Some (option_map_or Device (slice_get (filter_map failed_device done) 0)
-        (Done (done_body service exported p done ask value)))
+    (Done (done_body service exported p done ask value)))
 
 -- the answer to a decision, as it is shown; none to a lost one
 abbrev pub answer_value : Service → List ℕ → Place → List Act → Decision → Option AnswerValue
@@ -88,7 +88,7 @@ reply_message message session answer =
 unfoldable pub reply_to : Service → List ℕ → Message → Place → List Act → List ℕ
 reply_to service exported message p done =
     option_map_or (λ answer. spelling_of service.setup.frames (reply_message message p.event.session answer))
-        (answer_value service exported p done (shown_of p.event.decision)) []
+    (answer_value service exported p done (shown_of p.event.decision)) []
 
 -- the bytes that a child is sent for a step; none if no message brought it
 abbrev pub answer_to : Service → List ℕ → Step → List ℕ

@@ -38,7 +38,7 @@ Asks words requests.Finish ask = ask ≡ asks.Finish
 abbrev pub IsAskOf : Width → List (List ℕ) → Message → Ask → Type 0
 IsAskOf width words message ask =
     MatchResult (request_of width message.header.kind message.header.flags message.body) (λ value. Asks words value ask)
-        (λ bad. ask ≡ asks.Bad bad.rule bad.detail)
+    (λ bad. ask ≡ asks.Bad bad.rule bad.detail)
 
 -- this is the ask that a child makes by this message, a whole frame
 pub record CameBy (service : Service) (message : Message) (ask : Ask) : Type 0 where

@@ -19,7 +19,7 @@ user_at setup place = verified_account setup place.before place.event.session
 abbrev pub user_role : Settings → Place → Role
 user_role setup place =
     option_map_or (λ account. User place.event.session account.uid account.name) (user_at setup place)
-        (Pre place.event.session)
+    (Pre place.event.session)
 
 -- a user's file: the number of the user and the file's label
 pub record File : Type 0 where
@@ -31,4 +31,4 @@ abbrev pub file_at : Settings → Place → ℕ → Option File
 file_at setup place handle =
     let name = option_and_then (λ e. label_named e.ask) (handle_opening place.before place.event.session handle) in
     option_and_then (λ account. option_map (λ label. record { uid = account.uid; name = label }) name)
-        (user_at setup place)
+    (user_at setup place)

@@ -119,7 +119,7 @@ handed_is_over e why a b held last faults done is =
     let counts = done.leaves.spends.1 in
     let same = ap (λ s. s.setup) stays.service in
     let within : LeavesWithin setup a.live.session b.seat.rights b.seat.seen last.rights =
-        subst (λ s. LeavesWithin s a.live.session b.seat.rights b.seat.seen last.rights) same (subst (λ n. LeavesWithin b.desk.service.setup n b.seat.rights b.seat.seen last.rights) stays.session is.rights) in
+    subst (λ s. LeavesWithin s a.live.session b.seat.rights b.seat.seen last.rights) same (subst (λ n. LeavesWithin b.desk.service.setup n b.seat.rights b.seat.seen last.rights) stays.session is.rights) in
     record {
       over = over_here setup b.desk.service.setup a.seat.rights.worker b.seat.rights.worker last.seen same counts.worker is.over;
       rights = handed_within setup a.live.session a.seat.rights b.seat.rights last.rights a.seat.seen b.seat.seen counts.worker counts.made within;

@@ -174,9 +174,7 @@ fn serve_pre<A: Turns, P: Post, T: Texts>(
             close_pre(post, child, conn);
             why
         }
-        Turn::HandsOver { event } => {
-            hand_over(turns, post, Handed { live, event }, desk)
-        }
+        Turn::HandsOver { event } => { hand_over(turns, post, Handed { live, event }, desk) }
         Turn::GoesOn => unreachable!(),
     }
 }

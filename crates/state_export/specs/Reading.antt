@@ -21,7 +21,7 @@ pub record Field : Type 0 where
 abbrev pub content_of : ℕ → ℕ → ℕ → List ℕ → Result Field StateFault
 content_of low high len bytes =
     demand Length (then_some (nat_le low len && nat_le len high && nat_le len (length bytes))
-        (record { content = take len bytes; behind = drop len bytes }))
+    (record { content = take len bytes; behind = drop len bytes }))
 
 -- the field at the front of these bytes, if it has this tag and a content of `low` to `high` bytes
 abbrev pub field_of : ℕ → ℕ → ℕ → List ℕ → Result Field StateFault
@@ -37,8 +37,12 @@ state_of bytes = do
   terminal ← field_of 1 0 64 fields
   unread ← field_of 2 0 4096 terminal.behind
   counts ← field_of 3 8 8 unread.behind
-  demand Trailing (then_some (length counts.behind == 0) (record { terminal = terminal.content; unread = unread.content;
-      lines = number_at w32 0 counts.content; bytes = number_at w32 4 counts.content }))
+  demand Trailing (then_some (length counts.behind == 0) (record {
+    terminal = terminal.content;
+    unread = unread.content;
+    lines = number_at w32 0 counts.content;
+    bytes = number_at w32 4 counts.content;
+  }))
 
 -- the import record of a user and a state, or the state's fault
 abbrev pub imported : ℕ → List ℕ → Result StateValue StateFault → Result ImportValue ImportFault

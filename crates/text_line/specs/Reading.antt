@@ -9,4 +9,4 @@ use Rattle.std.specs.Str.Parse.{digits_value}
 unfoldable pub decimal_of : List ℕ → Option ℕ
 decimal_of text =
     then_some (bytes_eq text (decimal (digits_value 10 text)) && nat_lt (digits_value 10 text) (2 ^ 64))
-        (digits_value 10 text)
+    (digits_value 10 text)

@@ -47,8 +47,15 @@ cell_facts terms passes quota id y = record { id = id; terms = Some (terms y); p
 -- what contracts see of a pass of the cell
 abbrev pub pass_facts : {R T : Type 0} → TableId → View R T → PassFacts R T
 pass_facts cell v =
-    record { number = v.number; cell = cell; terms = v.terms; passes = v.passes; quota = v.quota; seen = v.seen;
-        mine = v.mine }
+    record {
+      number = v.number;
+      cell = cell;
+      terms = v.terms;
+      passes = v.passes;
+      quota = v.quota;
+      seen = v.seen;
+      mine = v.mine;
+    }
 
 -- what no call changes of a pass
 abbrev pub IsSamePass : {R T : Type 0} → PassFacts R T → PassFacts R T → Type 0

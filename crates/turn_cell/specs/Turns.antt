@@ -139,8 +139,19 @@ module _ {O R T : Type 0} (history : O → List R) (owner : R → ℕ) (setting 
 -- a pass of this number that can give all above it, and has seen nothing
 abbrev pub pass_from : {R T : Type 0} → Setting T → ℕ → View R T
 pass_from t n =
-    record { number = n; terms = t.terms; passes = t.passes; quota = t.quota; seen = []; mine = []; holding = false;
-        live = true; from = n + 1; until = t.passes; folded = [] }
+    record {
+      number = n;
+      terms = t.terms;
+      passes = t.passes;
+      quota = t.quota;
+      seen = [];
+      mine = [];
+      holding = false;
+      live = true;
+      from = n + 1;
+      until = t.passes;
+      folded = [];
+    }
 
 abbrev pub newcomer : {R T : Type 0} → Setting T → View R T
 newcomer t = pass_from t 0
@@ -160,5 +171,16 @@ joined v w = record v { folded = mark_of w ∷ v.folded }
 
 -- what a pass is that was taken in
 abbrev pub spent : {R T : Type 0} → T → View R T
-spent t = record { number = 0; terms = t; passes = 0; quota = 0; seen = []; mine = []; holding = false; live = false;
-    from = 0; until = 0; folded = [] }
+spent t = record {
+  number = 0;
+  terms = t;
+  passes = 0;
+  quota = 0;
+  seen = [];
+  mine = [];
+  holding = false;
+  live = false;
+  from = 0;
+  until = 0;
+  folded = [];
+}

@@ -4,8 +4,7 @@ use Rattle.monitor_run.proofs.worker.serve_at_cell.Goals as goal
 
 pub serve_worker-end-requires-clause-may_serve : goal.serve_worker-end-requires-clause-may_serve
 serve_worker-end-requires-clause-may_serve g c κs within =
-    let service = g.T.Texts.service c.args.worker.now.desk.replies.texts.now in
-    (
+    let service = g.T.Texts.service c.args.worker.now.desk.replies.texts.now in (
       c.setup-setup.ensures.value,
       may_serve_all service.setup c.setup-setup.result.now c.args.cell.now c.args.worker.now.pass (g.P.Post.scene c.args.worker.now.post) (g.P.Post.faults c.args.worker.now.post) c.setup-setup.ensures.value c.requires.ready,
     )

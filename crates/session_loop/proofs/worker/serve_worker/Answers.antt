@@ -129,8 +129,7 @@ run_session-why-requires-clause-may_open g c κs within =
     let now = c.loop in
     let setup = (g.T.Texts.service c.args.desk.now.replies.texts.now).setup in
     let below : now.counter < setup.connections = search rules in
-    let same : (g.A.Turns.at now.turns).setup ≡ setup = now.invariant.setup ∙ c.requires.may_serve.0 in
-    (
+    let same : (g.A.Turns.at now.turns).setup ≡ setup = now.invariant.setup ∙ c.requires.may_serve.0 in (
       same ∙ ap (λ s. s.setup) (sym now.invariant.desk),
       may_open setup (g.A.Turns.at c.args.turns.now).rights (g.A.Turns.at now.turns).rights (g.A.Turns.at now.turns).seen now.counter (quota_here setup (g.A.Turns.at c.args.turns.now) c.requires.may_serve.0 c.requires.may_serve.1) now.invariant.left below now.invariant.over now.invariant.worker (g.A.Turns.at now.turns).setup same,
     )
