@@ -4,3 +4,5 @@ pub mod RealSink
 pub mod RealStream
 pub mod RealPost
 pub mod RealSite
+pub mod Findings
+pub mod UsersFiles

@@ -1,6 +1,7 @@
 -- Inner: what contracts see of real files.
 use Rattle.std.specs.Prelude.{ℕ}
 use Rattle.outside_real.specs.declared.files.RealFiles.{RealFiles}
+use Rattle.outside_real.specs.declared.seen.SeenFiles.{SeenFiles}
 
 -- how many readings failed
 abbrev pub read_faults_of : {R : Type 0} → RealFiles R → ℕ
@@ -9,3 +10,7 @@ read_faults_of f = f.read_faults
 -- how many replacings failed
 abbrev pub replace_faults_of : {R : Type 0} → RealFiles R → ℕ
 replace_faults_of f = f.replace_faults
+
+-- how each file was found that was read
+abbrev pub seen_of : {R : Type 0} → RealFiles R → SeenFiles
+seen_of f = f.seen

@@ -1,6 +1,7 @@
-ghost use Rattle.std.specs.Prelude.{◌≡◌, ◌<◌, ◌≤◌, IfOk, IfSome, None, length, take};
+ghost use Rattle.std.specs.Prelude.{◌≡◌, ◌<◌, ◌≤◌, IfOk, IfSome, None, OnErr, length, take};
 ghost use Rattle.std.specs.Io.KnownBytes.{Consumes, IsAtEnd};
 ghost use Rattle.outside.specs.Faults.{count_after};
+ghost use Rattle.outside_real.specs.Findings.{KeepsFindings, SameOthers};
 
 use crate::again::read_again;
 use crate::counted::counted;
@@ -18,7 +19,7 @@ use std::rt::Files as FileSystem;
 ///
 /// A file is read as one: a reading from its front opens it, and those of the pieces after it are of
 /// the same open file, also where another file is given its name in between. A file that was read is
-/// replaced only as long as it is the one that was read.
+/// replaced only as long as it is the one that was read first: reading it once more changes nothing of that.
 #[derive(Drop)]
 pub struct RealFiles<R> {
     rt: R,
@@ -30,7 +31,7 @@ pub struct RealFiles<R> {
     replace_faults: u64,
 }
 
-/// Which file the last call was about, and why it failed, if it did.
+/// Which file the last call was about that failed, and why; or, where none failed, the last call.
 #[derive(Drop)]
 struct LastCall {
     path: Option<String>,
@@ -38,6 +39,9 @@ struct LastCall {
 }
 
 impl LastCall {
+    ghost use Rattle.std.specs.Prelude.{IsNone, IsSome};
+    ghost use Rattle.std.specs.Option.{option_or};
+
     /// There was no call.
     fn none() -> LastCall {
         LastCall {
@@ -47,10 +51,22 @@ impl LastCall {
     }
 
     /// A call at this path.
-    fn at(alloc: Global, path: &str, error: Option<io::Error>) -> LastCall {
+    fn at(alloc: Global, path: &str, error: Option<io::Error>) -> LastCall
+        ensures { result.error ≡ error }
+    {
         LastCall {
             path: String::from_str(alloc, path).ok(),
             error,
+        }
+    }
+
+    /// Keeps a call at this path, unless it succeeded and one before it failed.
+    fn note(&mut self, alloc: Global, path: &str, error: Option<io::Error>)
+        ensures error { self.new.error ≡ option_or error self.old.error }
+        ensures kept { IsSome self.old.error → IsNone error → self.new ≡ self.old }
+    {
+        if error.is_some() || self.error.is_none() {
+            *self = LastCall::at(alloc, path, error);
         }
     }
 }
@@ -74,7 +90,7 @@ impl<R> RealFiles<R> {
         }
     }
 
-    /// The path of the file that was read or replaced last.
+    /// The path of the file that couldn't be read or replaced last, or else of the one that was last.
     pub fn last_path(&self) -> Option<&str> {
         match &self.last.path {
             Some(path) => Some(path.as_str()),
@@ -82,14 +98,14 @@ impl<R> RealFiles<R> {
         }
     }
 
-    /// Why the last reading or replacing failed, if it did.
+    /// Why the last reading or replacing that failed did so, if one failed.
     pub fn last_error(&self) -> Option<io::Error> {
         self.last.error
     }
 }
 
 impl<R: FileSystem<File = File> + Drop> Files for RealFiles<R> {
-    ghost use Rattle.outside_real.specs.RealFiles.{read_faults_of, replace_faults_of};
+    ghost use Rattle.outside_real.specs.RealFiles.{read_faults_of, replace_faults_of, seen_of};
 
     ghost contents = { λ _. None };
 
@@ -103,10 +119,11 @@ impl<R: FileSystem<File = File> + Drop> Files for RealFiles<R> {
         ensures counts { read_faults_of self.new ≡ count_after result (read_faults_of self.old) }
         ensures kept { read_faults_of self.old ≤ read_faults_of self.new }
         ensures others { replace_faults_of self.new ≡ replace_faults_of self.old }
+        ensures seen { KeepsFindings (seen_of self.old) (seen_of self.new) }
     {
         let outcome = self.read_piece(name.as_str(), offset, buf);
         if offset == 0 || outcome.is_err() {
-            self.last = LastCall::at(self.alloc, name.as_str(), outcome.err());
+            self.last.note(self.alloc, name.as_str(), outcome.err());
         }
         counted(&mut self.read_faults, outcome)
     }
@@ -114,12 +131,14 @@ impl<R: FileSystem<File = File> + Drop> Files for RealFiles<R> {
     /// Writes a new file beside the old one, with its permissions, owner and group, flushes it to the
     /// disk, and gives it the old one's name. So whoever reads the file sees what it held or the new
     /// bytes, and after a crash it holds one of these. A symbolic link is followed to its end. It is a
-    /// fault where the file isn't the one any more that was last read.
+    /// fault where the file isn't the one any more that was read first, since it was last replaced.
     fn replace(&mut self, name: &Word, bytes: &[u8]) -> Result<(), Failed>
         ensures counts { replace_faults_of self.new
             ≡ count_after result (replace_faults_of self.old) }
         ensures kept { replace_faults_of self.old ≤ replace_faults_of self.new }
         ensures others { read_faults_of self.new ≡ read_faults_of self.old }
+        ensures seen { OnErr result (seen_of self.new ≡ seen_of self.old) }
+        ensures seen_others { SameOthers name.now (seen_of self.old) (seen_of self.new) }
     {
         self.reading = None;
         let outcome = self.replace_known(name.as_str(), bytes);
@@ -128,13 +147,14 @@ impl<R: FileSystem<File = File> + Drop> Files for RealFiles<R> {
 }
 
 impl<R: FileSystem<File = File>> RealFiles<R> {
-    ghost use Rattle.outside_real.specs.RealFiles.{read_faults_of, replace_faults_of};
+    ghost use Rattle.outside_real.specs.RealFiles.{read_faults_of, replace_faults_of, seen_of};
 
     /// Reads a file from an offset on into the front of a buffer. `None`: there is no such file.
     fn read_piece(&mut self, path: &str, offset: u64, buf: &mut [u8]) -> io::Result<Option<usize>>
         ensures bound { IfOk result (λ found. IfSome found (λ n. n ≤ length buf.old)) }
         ensures read_faults { read_faults_of self.new ≡ read_faults_of self.old }
         ensures replace_faults { replace_faults_of self.new ≡ replace_faults_of self.old }
+        ensures seen { KeepsFindings (seen_of self.old) (seen_of self.new) }
     {
         let begun = self.reading.take();
         let opened = reading_at(&self.rt, self.alloc, begun, path, offset)?;
@@ -149,6 +169,7 @@ impl<R: FileSystem<File = File>> RealFiles<R> {
         ensures bound { IfOk result (λ found. IfSome found (λ n. n ≤ length buf.old)) }
         ensures read_faults { read_faults_of self.new ≡ read_faults_of self.old }
         ensures replace_faults { replace_faults_of self.new ≡ replace_faults_of self.old }
+        ensures seen { seen_of self.new ≡ seen_of self.old }
     {
         let Some(mut reading) = opened else {
             return Ok(None);
@@ -164,9 +185,11 @@ impl<R: FileSystem<File = File>> RealFiles<R> {
     fn replace_known(&mut self, path: &str, bytes: &[u8]) -> io::Result<()>
         ensures read_faults { read_faults_of self.new ≡ read_faults_of self.old }
         ensures replace_faults { replace_faults_of self.new ≡ replace_faults_of self.old }
+        ensures seen { OnErr result (seen_of self.new ≡ seen_of self.old) }
+        ensures seen_others { SameOthers path.now (seen_of self.old) (seen_of self.new) }
     {
         let outcome = replace_file(&self.rt, self.alloc, path, self.seen.of(path), bytes);
-        self.last = LastCall::at(self.alloc, path, outcome.err());
+        self.last.note(self.alloc, path, outcome.err());
         if outcome.is_ok() {
             self.seen.forget(path);
         }

@@ -1,6 +1,8 @@
 //! The real outside: a Unix socket, child programs, files, standard input and output, and a log to any
-//! writer. Each object counts its faults and tells nothing of the bytes that pass. Nothing here need be
-//! believed but what `README.md` says of the machine; the program stands above.
+//! writer. Each object counts its faults and tells nothing of the bytes that pass. Its contracts say which
+//! path, which command and which count a call works with; that the body then makes the right call of the
+//! system with it, no contract can see. `README.md` says what is only tested for that reason; the program
+//! stands above.
 #![tactic(auto)]
 
 mod again;

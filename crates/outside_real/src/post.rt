@@ -2,6 +2,9 @@ ghost use Rattle.std.specs.Prelude.{◌≡◌, ◌<◌, ◌≤◌, IfOk, IsSome,
 ghost use Rattle.outside.specs.Faults.{AcceptCounts, ConnCounts, CountNothing, FinishCounts, NoneFell, StartCounts};
 ghost use Rattle.outside.specs.Faults.{VaultCounts};
 ghost use Rattle.outside_real.specs.RealStream.{faults_of as stream_faults, role_of};
+ghost use Rattle.outside.specs.Launching.{launch_words};
+ghost use Rattle.request_catalogue.specs.TextBytes.{label_bytes};
+ghost use Rattle.std.specs.Process.{command_args, command_program};
 
 use crate::clock::PostClock;
 use crate::counted::counted;
@@ -9,7 +12,7 @@ use crate::limits::Limits;
 use crate::patience::{Patience, read_within, write_within};
 use crate::seat::Seat;
 use crate::socket;
-use crate::stream::{RealStream, close, launch};
+use crate::stream::{RealStream, close, command_of, start_child};
 use crate::vault::UserFile;
 use outside::{Failed, Faults, Place, Post, Role, link_count};
 use request_catalogue::Label;
@@ -18,7 +21,7 @@ use std::fs::File;
 use std::io;
 use std::net::Net;
 use std::os::unix::net::UnixStream;
-use std::process::{Processes, SystemProcess};
+use std::process::{Command, Processes, SystemProcess};
 use std::rt::Files;
 use std::time::{Clock, Duration};
 
@@ -149,8 +152,7 @@ impl<
             self.until = moment_after(self.begun, self.limits.session);
         }
         let patience = self.patience(self.limits.child);
-        let launcher = self.place.launcher.as_str();
-        let started = launch(&self.rt, self.alloc, launcher, *role, patience);
+        let started = self.launch(role, patience);
         counted(&mut self.faults.keeper, started)
     }
 
@@ -244,8 +246,32 @@ impl<
     }
 }
 
+impl<R: Processes<Started = SystemProcess> + Net + Clone + Drop> RealPost<R> {
+    ghost use Rattle.outside_real.specs.RealPost.{place_of};
+
+    /// The command for a child of this role: the place's launcher with the words of the role.
+    fn command_for(&self, role: &Role) -> io::Result<Command>
+        ensures program { IfOk result (λ command.
+            command_program command ≡ (place_of self.now).launcher) }
+        ensures words { IfOk result (λ command. command_args command ≡ launch_words role.now) }
+    {
+        command_of(self.alloc, self.place.launcher.as_str(), role)
+    }
+
+    /// Starts a child of this role by the place's launcher.
+    fn launch(&self, role: &Role, patience: Patience) -> io::Result<RealStream<R>>
+        ensures role { IfOk result (λ child. role_of child ≡ role.now) }
+        ensures faultless { IfOk result (λ child. stream_faults child ≡ 0) }
+    {
+        let command = self.command_for(role)?;
+        let launcher = self.place.launcher.as_str();
+        start_child(&self.rt, launcher, command, *role, patience)
+    }
+}
+
 impl<R: Files<File = File>> RealPost<R> {
     ghost use Rattle.outside_real.specs.RealPost.{faults_of, place_of};
+    ghost use Rattle.outside_real.specs.UsersFiles.{IsUsersFile};
 
     /// Keeps by what the system knows this thread, where it is the first in which the post waits.
     fn note_thread(&mut self)
@@ -260,17 +286,25 @@ impl<R: Files<File = File>> RealPost<R> {
         }
     }
 
+    /// The file of this user and name in the place's vault.
+    fn users_file(&self, uid: u32, name: &Label) -> io::Result<UserFile>
+        ensures { IfOk result (λ file.
+            IsUsersFile (place_of self.now).vault uid (label_bytes name.now) file) }
+    {
+        UserFile::of(&self.rt, self.alloc, self.place.vault.as_str(), uid, name)
+    }
+
     /// Reads a user's file.
     fn read_file(&self, uid: u32, name: &Label, offset: u64, buf: &mut [u8]) -> io::Result<usize>
         ensures { IfOk result (λ n. n ≤ length buf.old) }
     {
-        let file = UserFile::of(&self.rt, self.alloc, self.place.vault.as_str(), uid, name)?;
+        let file = self.users_file(uid, name)?;
         file.read(&self.rt, offset, buf)
     }
 
     /// Writes into a user's file.
     fn write_file(&self, uid: u32, name: &Label, offset: u64, bytes: &[u8]) -> io::Result<()> {
-        let file = UserFile::of(&self.rt, self.alloc, self.place.vault.as_str(), uid, name)?;
+        let file = self.users_file(uid, name)?;
         file.write(&self.rt, offset, bytes)
     }
 }

@@ -1,5 +1,8 @@
+ghost use Rattle.std.specs.Prelude.{◌≡◌, IfOk, None, OnOk, Some, unwrap_or};
+
 use crate::named::Identity;
 use std::alloc::Global;
+use std::collections::BTreeMap;
 use std::io;
 
 /// How a file was found.
@@ -11,63 +14,59 @@ pub(crate) enum Found {
     File(Identity),
 }
 
-/// A file that was read, and how it was found then.
-#[derive(Drop)]
-struct SeenFile {
-    path: String,
-    /// Nothing once it was replaced.
-    found: Option<Found>,
-}
-
-/// How each file was found when it was last read from its front.
+/// How each file was found when it was first read from its front, since it was last replaced. A later
+/// reading doesn't count, so that none can take a change of the file for the file that was read.
 #[derive(Drop)]
 pub(crate) struct SeenFiles {
-    files: Vec<SeenFile>,
+    files: BTreeMap<String, Found>,
 }
 
 impl SeenFiles {
+    ghost use Rattle.std.specs.Prelude.{List, ℕ};
+    ghost use Rattle.outside_real.specs.Findings.{KeepsFindings, SameOthers, found_at};
+
     /// No file was read.
-    pub(crate) fn new(alloc: Global) -> SeenFiles {
+    pub(crate) fn new(alloc: Global) -> SeenFiles
+        ensures { (path : List ℕ) → found_at result path ≡ None }
+    {
         SeenFiles {
-            files: Vec::new(alloc),
+            files: BTreeMap::new(alloc),
         }
     }
 
-    /// How the file at a path was found, if it was read since it was replaced.
-    pub(crate) fn of(&self, path: &str) -> Option<Found> {
-        for file in self.files.iter() {
-            if file.path.as_str() == path {
-                return file.found;
-            }
-        }
-        None
+    /// How the file at a path was found first, if it was read since it was replaced.
+    pub(crate) fn of(&self, path: &str) -> Option<Found>
+        ensures { result ≡ found_at self.now path.now }
+    {
+        self.files.get(path).copied()
     }
 
-    /// Keeps how the file at a path was found.
-    pub(crate) fn note(&mut self, alloc: Global, path: &str, found: Found) -> io::Result<()> {
-        if self.set(path, Some(found)) {
-            return Ok(());
+    /// Keeps how the file at a path was found, unless it was found before.
+    pub(crate) fn note(&mut self, alloc: Global, path: &str, found: Found) -> io::Result<()>
+        ensures first { OnOk result (found_at self.new path.now
+            ≡ Some (unwrap_or (found_at self.old path.now) found)) }
+        ensures kept { KeepsFindings self.old self.new }
+    {
+        match self.of(path) {
+            Some(_) => Ok(()),
+            None => self.put(alloc, path, found),
         }
-        self.files.push(SeenFile {
-            path: String::from_str(alloc, path)?,
-            found: Some(found),
-        })?;
-        Ok(())
     }
 
     /// Forgets how the file at a path was found.
-    pub(crate) fn forget(&mut self, path: &str) {
-        self.set(path, None);
+    pub(crate) fn forget(&mut self, path: &str)
+        ensures forgotten { found_at self.new path.now ≡ None }
+        ensures others { SameOthers path.now self.old self.new }
+    {
+        self.files.remove(path);
     }
 
-    /// Changes how the file at a path was found. Answers whether it was ever read.
-    fn set(&mut self, path: &str, found: Option<Found>) -> bool {
-        for file in self.files.iter_mut() {
-            if file.path.as_str() == path {
-                file.found = found;
-                return true;
-            }
-        }
-        false
+    /// Puts how the file at a path was found.
+    fn put(&mut self, alloc: Global, path: &str, found: Found) -> io::Result<()>
+        ensures put { OnOk result (found_at self.new path.now ≡ Some found) }
+        ensures others { SameOthers path.now self.old self.new }
+    {
+        self.files.insert(String::from_str(alloc, path)?, found)?;
+        Ok(())
     }
 }

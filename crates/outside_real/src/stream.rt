@@ -142,7 +142,24 @@ pub fn launch<R: Processes<Started = SystemProcess> + Net + Clone + Drop>(
     ensures role { IfOk result (λ child. child.role ≡ role) }
     ensures faultless { IfOk result (λ child. child.faults ≡ 0) }
 {
-    let (program, socket) = start_pair(rt, alloc, launcher, &role)?;
+    let command = command_of(alloc, launcher, &role)?;
+    start_child(rt, launcher, command, role, patience)
+}
+
+/// Starts a child of this role by its command, which is the launcher's with the words of the role.
+pub(crate) fn start_child<R: Processes<Started = SystemProcess> + Net + Clone + Drop>(
+    rt: &R,
+    launcher: &str,
+    command: Command,
+    role: Role,
+    patience: Patience,
+) -> io::Result<RealStream<R>>
+    requires program { command_program command ≡ launcher.now }
+    requires words { command_args command ≡ launch_words role }
+    ensures role { IfOk result (λ child. child.role ≡ role) }
+    ensures faultless { IfOk result (λ child. child.faults ≡ 0) }
+{
+    let (program, socket) = start_pair(rt, launcher, command, &role)?;
     Ok(RealStream {
         rt: rt.clone()?,
         program,
@@ -156,25 +173,43 @@ pub fn launch<R: Processes<Started = SystemProcess> + Net + Clone + Drop>(
 /// Starts the program of a child, and gives the socket that leads to it.
 fn start_pair<R: Processes<Started = SystemProcess> + Net>(
     rt: &R,
-    alloc: Global,
     launcher: &str,
+    mut command: Command,
     role: &Role,
-) -> io::Result<(Child<SystemProcess>, UnixStream)> {
+) -> io::Result<(Child<SystemProcess>, UnixStream)>
+    requires program { command_program command ≡ launcher.now }
+    requires words { command_args command ≡ launch_words role.now }
+{
     let (ours, theirs) = UnixStream::pair(rt)?;
-    Ok((start(rt, alloc, launcher, role, theirs)?, ours))
+    Ok((start(rt, launcher, &mut command, role, theirs)?, ours))
 }
 
 /// Starts the program of a child, whose standard input and output are both this socket.
 fn start<R: Processes<Started = SystemProcess>>(
     rt: &R,
-    alloc: Global,
     launcher: &str,
+    command: &mut Command,
     role: &Role,
     socket: UnixStream,
-) -> io::Result<Child<SystemProcess>> {
+) -> io::Result<Child<SystemProcess>>
+    requires program { command_program command.now ≡ launcher.now }
+    requires words { command_args command.now ≡ launch_words role.now }
+{
     let socket = OwnedFd::from(socket);
-    let mut command = command_of(alloc, launcher, role)?;
     command.stdin(socket.try_clone()?).stdout(socket);
+    spawn(rt, launcher, command, role)
+}
+
+/// Starts the program of a command, which is the launcher's with the words of the role.
+fn spawn<R: Processes<Started = SystemProcess>>(
+    rt: &R,
+    launcher: &str,
+    command: &mut Command,
+    role: &Role,
+) -> io::Result<Child<SystemProcess>>
+    requires program { command_program command.now ≡ launcher.now }
+    requires words { command_args command.now ≡ launch_words role.now }
+{
     command.spawn(rt)
 }
 

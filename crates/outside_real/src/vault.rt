@@ -26,6 +26,9 @@ pub struct UserFile {
 }
 
 impl UserFile {
+    ghost use Rattle.outside_real.specs.UsersFiles.{IsUsersFile};
+    ghost use Rattle.request_catalogue.specs.TextBytes.{label_bytes};
+
     /// The file of this user and name in a vault, which has to be there.
     pub fn of<R: Files>(
         rt: &R,
@@ -33,7 +36,9 @@ impl UserFile {
         vault: &str,
         uid: u32,
         name: &Label,
-    ) -> io::Result<UserFile> {
+    ) -> io::Result<UserFile>
+        ensures { IfOk result (λ file. IsUsersFile vault.now uid (label_bytes name.now) file) }
+    {
         if !fs::metadata(rt, vault)?.is_dir() {
             return Err(io::Error::from(ErrorKind::NotADirectory));
         }

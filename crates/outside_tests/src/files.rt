@@ -41,15 +41,35 @@ fn a_file_is_replaced_and_read(rt: HostRuntime) -> Result<(), Fault> {
     Ok(())
 }
 
-/// Whether a file that another one replaces after it was read is left alone, until it is read again.
+/// Whether a file that another one replaces after it was read is left alone, also once it was read again.
 fn is_left_alone<F: Files, G: Files>(files: &mut F, others: &mut G, file: &Word) -> bool {
     replace(files, file, b"abcdef") == Ok(())
         && read(files, file, 0) == Ok(Some((*b"abcd", 4)))
         && replace(others, file, b"xyz") == Ok(())
         && replace(files, file, b"again") == Err(Failed)
+        && read(files, file, 0) == Ok(Some((*b"xyz\0", 3)))
+        && replace(files, file, b"again") == Err(Failed)
         && read(others, file, 0) == Ok(Some((*b"xyz\0", 3)))
+}
+
+/// Whether a file that was read is replaced, read and replaced again, where nobody else changes it.
+fn is_replaced_twice<F: Files>(files: &mut F, file: &Word) -> bool {
+    replace(files, file, b"abcdef") == Ok(())
+        && read(files, file, 0) == Ok(Some((*b"abcd", 4)))
+        && read(files, file, 0) == Ok(Some((*b"abcd", 4)))
+        && replace(files, file, b"xyz") == Ok(())
         && read(files, file, 0) == Ok(Some((*b"xyz\0", 3)))
         && replace(files, file, b"again") == Ok(())
+        && read(files, file, 4) == Ok(Some((*b"n\0\0\0", 1)))
+}
+
+#[test]
+fn a_file_of_its_own_is_replaced_twice(rt: HostRuntime) -> Result<(), Fault> {
+    let file = temporary_path(&rt, rt.process(), "twice")?;
+    let mut files = RealFiles::new(rt, rt.alloc());
+    assert!(rt; is_replaced_twice(&mut files, &file));
+    fs::remove_file(&rt, file.as_str())?;
+    Ok(())
 }
 
 /// Whether a file that is made after it was looked for in vain is left alone.
@@ -140,5 +160,22 @@ fn folders_and_places_that_are_not_there_are_refused(rt: HostRuntime) -> Result<
     assert!(rt; read(&mut files, &folder, 0) == Err(Failed));
     let nowhere = Word::of(rt.alloc(), b"/no/such/folder/file")?;
     assert!(rt; replace(&mut files, &nowhere, b"x") == Err(Failed));
+    Ok(())
+}
+
+/// Whether the files tell of a call that failed also after one that succeeded.
+fn tells_of_failure(rt: HostRuntime, folder: &Word, file: &Word) -> bool {
+    let mut files = RealFiles::new(rt, rt.alloc());
+    let is_failed = read(&mut files, folder, 0) == Err(Failed);
+    let is_done = replace(&mut files, file, b"abcdef") == Ok(());
+    is_failed && is_done && files.last_path() == Some("/") && files.last_error().is_some()
+}
+
+#[test]
+fn a_call_that_failed_is_told_of_after_others(rt: HostRuntime) -> Result<(), Fault> {
+    let folder = Word::of(rt.alloc(), b"/")?;
+    let file = temporary_path(&rt, rt.process(), "told")?;
+    assert!(rt; tells_of_failure(rt, &folder, &file));
+    fs::remove_file(&rt, file.as_str())?;
     Ok(())
 }

@@ -540,7 +540,9 @@ fn keeps_files<P: Post>(post: &mut P, name: &Label) -> Result<bool, Failed> {
     post.vault_write(7, name, 0, b"a")?;
     let count = post.vault_read(7, name, 0, &mut buf)?;
     let others = post.vault_read(8, name, 0, &mut [0; 4])?;
-    Ok(missing == 0 && count == 4 && buf == *b"a\0cd\0\0\0\0" && others == 0)
+    // 7 and 65,536
+    let far = post.vault_read(65_543, name, 0, &mut [0; 4])?;
+    Ok(missing == 0 && count == 4 && buf == *b"a\0cd\0\0\0\0" && others == 0 && far == 0)
 }
 
 /// Whether neither reading nor writing a user's file succeeds, through the bound.
@@ -700,9 +702,9 @@ fn a_users_child_is_given_its_words(rt: HostRuntime) -> Result<(), Fault> {
     let user = Name::of(b"bob").ok_or("a name")?;
     let role = Role::User {
         session: 7,
-        uid: 1001,
+        uid: 70_001,
         user,
     };
-    assert!(rt; echo_writes(rt, "starts_user", &role, b"child-user 7 1001 bob\n")?);
+    assert!(rt; echo_writes(rt, "starts_user", &role, b"child-user 7 70001 bob\n")?);
     Ok(())
 }
