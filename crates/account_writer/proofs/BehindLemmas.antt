@@ -1,14 +1,12 @@
 -- One account after a setup that is written.
-use Rattle.std.proofs.Common.{◌≡◌, ℕ, zero, suc, Bool, true, false, cond, ◌||◌, ◌==◌, List, [], ◌∷◌, ◌++◌, map, length, Option, Some, None, option_and_then, option_map, Result, Ok, IsUtf8, codes, refl, sym, ap, ◌∙◌, subst, append_assoc, append-nil, eq-eqb, arith}
-use Rattle.std.specs.List.{list_all}
+use Rattle.std.proofs.Common.{◌≡◌, ℕ, zero, suc, Bool, true, false, cond, ◌==◌, List, [], ◌∷◌, ◌++◌, map, length, Option, Some, None, option_and_then, option_map, Result, Ok, IsUtf8, codes, refl, sym, ap, ◌∙◌, subst, eq-eqb, arith}
 use Rattle.std.specs.Str.Lossy.{utf8_valid_len}
-use Rattle.std.proofs.lemmas.Bool.{false≢true}
 use Rattle.std.proofs.lemmas.Option.{same_Some}
 use Rattle.std.proofs.lemmas.Str.{IsUtf8-append, utf8_valid_len-IsUtf8}
-use Rattle.toml.specs.Data.{Members, no_members, member, array, get_member, items_are_sorted, members_are_sorted, members_depth, members_have_valid_dates}
+use Rattle.toml.specs.Data.{Members, get_member, items_are_sorted, members_are_sorted, members_have_valid_dates}
 use Rattle.toml.specs.Tables.{Document, Expression, array_table, close, define, no_nodes}
 use Rattle.toml.specs.Parse.{line, lines, parse_document, skip_bom}
-use Rattle.toml.specs.Text.{IsDocumentText, IsLinesText, are_tables, elements, expressions, pairs, section, sections}
+use Rattle.toml.specs.Text.{IsDocumentText, IsLinesText}
 use Rattle.toml.specs.View.{items_of}
 use Rattle.toml.proofs.Blanks.{skip_newline}
 use Rattle.toml.proofs.ReadBack.{parse_document-printed}
@@ -25,110 +23,14 @@ use Rattle.account_file.specs.Faults.{demand_at}
 use Rattle.account_file.specs.Setups.{setup_of, top}
 use Rattle.account_file.specs.Trees.{read_each}
 use Rattle.account_file.proofs.EachLemmas.{list_all_more}
-use Rattle.account_writer.specs.Tables.{account_data, account_members, alone, grant_data, is_writable, number, setup_members}
+use Rattle.account_writer.specs.Tables.{account_data, alone, grant_data, is_writable, number, setup_members}
 use Rattle.account_writer.specs.Written.{IsFileOf, IsTextOf, accounts_of, with_account}
 use Rattle.account_writer.proofs.AccountReads.{accounts_read}
-use Rattle.account_writer.proofs.SetupReads.{accounts_dated, accounts_flat, others, setup_dated, setup_flat, text_is_setup}
+use Rattle.account_writer.proofs.LengthLemmas.{lines_fit}
+use Rattle.account_writer.proofs.LineLemmas.{Key, account_lines, accounts_key, alone_lines, lines_more, lines_spaced, own_lines}
+use Rattle.account_writer.proofs.SetupReads.{accounts_dated, accounts_flat, setup_dated, setup_flat, text_is_setup}
 
--- 1. Lines after lines
-
--- the parts of a key before the last, and the last
-abbrev Key : Type 0
-Key = List (List ℕ) × List ℕ
-
-abbrev has_lines : List Expression → Bool
-has_lines [] = false
-has_lines (e ∷ es) = true
-
-lines_join : (started : Bool) (es fs : List Expression) (bytes text : List ℕ) → (started || has_lines es) ≡ true
-    → IsLinesText false started es bytes → IsLinesText false true fs text
-    → IsLinesText false started (es ++ fs) (bytes ++ text)
-lines_join false [] fs bytes text some h more = absurd (false≢true some)
-lines_join true [] fs bytes text some h more =
-    subst (IsLinesText false true fs) (sym (ap (λ (w : List ℕ). w ++ text) h)) more
-lines_join started (e ∷ es) fs bytes text some h more =
-    let (this, rest, whole, line, rest_is) = h in (
-      this,
-      rest ++ text,
-      ap (λ (w : List ℕ). w ++ text) whole ∙ append_assoc this rest text,
-      line,
-      lines_join true es fs
-          rest text refl rest_is more,
-    )
-
--- an empty line before a header
-lines_spaced : (key : Key) (es : List Expression) (text : List ℕ)
-    → IsLinesText false false ((key, array_table) ∷ es) text
-    → IsLinesText false true ((key, array_table) ∷ es) (10 ∷ text)
-lines_spaced key es text h =
-    let (this, rest, whole, line, rest_is) = h in
-    (10 ∷ this, rest, ap (λ (w : List ℕ). 10 ∷ w) whole, ap (λ (w : List ℕ). 10 ∷ w) line, rest_is)
-
--- 2. The lines of a setup, and those of an account
-
-abbrev accounts_key : Key
-accounts_key = ([], codes "account")
-
--- the lines of an account
-abbrev account_lines : Account → List Expression
-account_lines a = elements accounts_key (items_of (account_data a ∷ []))
-
--- those after its header
-abbrev own_lines : Account → List Expression
-own_lines a = (pairs (account_members a) ++ sections (codes "account" ∷ []) (account_members a)) ++ []
-
-alone_lines : (a : Account) → expressions (alone a) ≡ account_lines a
-alone_lines a = append-nil (account_lines a)
-
-all_tables : (accounts : List Account) → are_tables (items_of (map account_data accounts)) ≡ true
-all_tables [] = refl
-all_tables (a ∷ accounts) = all_tables accounts
-
-elements_more : (accounts : List Account) (a : Account)
-    → elements accounts_key (items_of (map account_data (accounts ++ a ∷ []))) ≡ elements accounts_key
-    (items_of (map account_data accounts)) ++ account_lines a
-elements_more [] a = refl
-elements_more (b ∷ accounts) a =
-    let own = pairs (account_members b) ++ sections (codes "account" ∷ []) (account_members b) in
-    ap (λ (es : List Expression). (accounts_key, array_table) ∷ (own ++ es)) (elements_more accounts a)
-    ∙ ap (λ (es : List Expression). (accounts_key, array_table) ∷ es)
-    (sym (append_assoc own (elements accounts_key (items_of (map account_data accounts))) (account_lines a)))
-
-no_info : (info : List ℕ) → section ([], codes "info") (array (items_of (map number info))) ≡ []
-no_info [] = refl
-no_info (n ∷ info) = refl
-
-no_sections : (s : Settings) → sections [] (others s) ≡ []
-no_sections s = rw (no_info s.info) refl
-
-setup_lines : (s : Settings) (accounts : List Account)
-    → expressions (setup_members s (map account_data accounts)) ≡ pairs (others s) ++ elements accounts_key
-    (items_of (map account_data accounts))
-setup_lines s [] = ap (λ (es : List Expression). pairs (others s) ++ es) (no_sections s)
-setup_lines s (a ∷ accounts) =
-    let own = elements accounts_key (items_of (map account_data (a ∷ accounts))) in
-    rw (all_tables accounts) (ap (λ (es : List Expression). pairs (others s) ++ es)
-    (ap (λ (es : List Expression). own ++ es) (no_sections s) ∙ append-nil own))
-
--- after what is written for a setup, the lines of an account are those of the setup with the account
-lines_more : (s : Settings) (a : Account) (bytes text : List ℕ)
-    → IsDocumentText false (setup_members s (map account_data s.accounts)) bytes
-    → IsLinesText false true (account_lines a) text
-    → IsDocumentText false (setup_members (with_account s a) (map account_data (s.accounts ++ a ∷ []))) (bytes ++ text)
-lines_more s a bytes text file behind =
-    let so_far = pairs (others s) ++ elements accounts_key (items_of (map account_data s.accounts)) in
-    let all : expressions (setup_members (with_account s a) (map account_data (s.accounts ++ a ∷ []))) ≡ so_far ++
-    account_lines a =
-    setup_lines (with_account s a) (s.accounts ++ a ∷ [])
-    ∙ ap (λ (es : List Expression). pairs (others s) ++ es) (elements_more s.accounts a)
-    ∙ sym (append_assoc (pairs (others s)) (elements accounts_key (items_of (map account_data s.accounts)))
-    (account_lines a)) in
-    let own : IsLinesText false false so_far bytes = subst (λ (es : List Expression). IsLinesText false false es bytes)
-    (setup_lines s s.accounts) file in
-    subst (λ (es : List Expression). IsLinesText false false es (bytes ++ text)) (sym all)
-    (lines_join false so_far (account_lines a) bytes text refl own behind)
-
--- 3. What is written is read
+-- 1. What is written is read
 
 numbers_sorted : (info : List ℕ) → items_are_sorted (items_of (map number info)) ≡ true
 numbers_sorted [] = refl
@@ -156,7 +58,7 @@ file_read s bytes is =
 pub alone_dated : (a : Account) → members_have_valid_dates (alone a) ≡ true
 alone_dated a = rw (accounts_dated (a ∷ [])) refl
 
--- 4. An account alone, after an empty line
+-- 2. An account alone, after an empty line
 
 -- one more turn changes nothing that was read
 turn_more : (doc : Document) (m : ℕ) (d : Document)
@@ -231,17 +133,20 @@ alone_read a text utf8 legal writable parsed =
     ∙ ap (λ (o : Option Members). demand_at (top keys.File) rules.NotToml o >>= accounts_in) parsed
     ∙ accounts_read (a ∷ []) (alone_legal a legal) (rw writable refl)
 
--- 5. The text of an account
+-- 3. The text of an account
 
 file_more : (s : Settings) (a : Account) (bytes text : List ℕ) → IsFileOf s bytes → IsInRange (with_account s a)
     → is_writable a ≡ true → IsUtf8 text → IsLinesText false true (account_lines a) text
     → IsFileOf (with_account s a) (bytes ++ text)
-file_more s a bytes text is range writable utf8 behind = record {
-  in_range = range;
-  writable = list_all_more is_writable s.accounts a is.writable writable;
-  utf8 = IsUtf8-append bytes text is.utf8 utf8;
-  lines = lines_more s a bytes text is.lines behind;
-}
+file_more s a bytes text is range writable utf8 behind =
+    let lines = lines_more s a bytes text is.lines behind in
+    record {
+      in_range = range;
+      writable = list_all_more is_writable s.accounts a is.writable writable;
+      utf8 = IsUtf8-append bytes text is.utf8 utf8;
+      lines = lines;
+      few = lines_fit (with_account s a) (bytes ++ text) range lines;
+    }
 
 pub is_text : (a : Account) (text : List ℕ) → is_account a ≡ true → is_writable a ≡ true → IsUtf8 (10 ∷ text)
     → IsDocumentText false (alone a) text → IsTextOf a (10 ∷ text)

@@ -1,5 +1,5 @@
 -- A setup with what a ledger knows of its accounts is a setup.
-use Rattle.std.proofs.Common.{◌≡◌, ℕ, zero, suc, ◌+◌, ◌<◌, true, ◌&&◌, List, [], ◌∷◌, ◌++◌, map, length, get_or, take, nat_le, Ok, refl, sym, ap, ◌∙◌, arith, ◌==◌}
+use Rattle.std.proofs.Common.{◌≡◌, ℕ, zero, suc, ◌+◌, ◌<◌, true, ◌&&◌, List, [], ◌∷◌, ◌++◌, map, length, get_or, take, nat_le, refl, sym, ap, subst, ◌∙◌, arith, ◌==◌}
 use Rattle.std.specs.List.{list_all}
 use Rattle.std.proofs.lemmas.Bool.{and_parts, and_from}
 use Rattle.std.proofs.lemmas.List.{map-append, take_more}
@@ -14,11 +14,10 @@ use Rattle.toml.specs.declared.value.Value.{Value}
 use Rattle.otp_ledger.specs.Accounts.{AccountState, LedgerParts, current_of, no_state}
 use Rattle.otp_ledger.specs.declared.ledger.Current.{Current}
 use Rattle.otp_ledger.specs.Standing.{state_by}
-use Rattle.account_file.specs.Entries.{entries_of}
-use Rattle.account_file.specs.Setups.{setup_of}
 use Rattle.policy_model.specs.Logins.{account_after}
 use Rattle.account_writer.specs.CurrentSetup.{IsSetupAfter, current_account, current_accounts, current_setup}
 use Rattle.account_writer.specs.Tables.{is_writable, with_current}
+use Rattle.account_writer.specs.Written.{IsFileOf}
 use Rattle.account_writer.proofs.ListLemmas.{distinct-map}
 
 -- 1. The accounts
@@ -115,9 +114,12 @@ accounts_after : (accounts : List Account) (journal : List Event) → current_ac
 accounts_after [] journal = refl
 accounts_after (a ∷ accounts) journal = ap (λ (more : List Account). account_after journal a ∷ more) (accounts_after accounts journal)
 
-pub is_setup_after : (setup : Settings) (l : LedgerParts) (bytes : List ℕ) → l.setup ≡ setup → setup_of bytes ≡ Ok (entries_of (current_setup setup l.accounts)) → IsSetupAfter setup l bytes
+pub is_setup_after : (setup : Settings) (l : LedgerParts) (bytes : List ℕ) → l.setup ≡ setup
+    → IsFileOf (current_setup setup l.accounts) bytes → IsSetupAfter setup l bytes
 is_setup_after setup l bytes own is = record {
   by_journal = λ journal st.
       let known : l.accounts ≡ map (state_by journal) setup.accounts = st.accounts ∙ ap (λ (s : Settings). map (state_by journal) s.accounts) own in
-      is ∙ ap (λ (accounts : List Account). Ok (entries_of (record setup { accounts = accounts }))) (ap (current_accounts setup.accounts) known ∙ accounts_after setup.accounts journal);
+      let same : current_accounts setup.accounts l.accounts ≡ map (account_after journal) setup.accounts =
+      ap (current_accounts setup.accounts) known ∙ accounts_after setup.accounts journal in
+      subst (λ (accounts : List Account). IsFileOf (record setup { accounts = accounts }) bytes) same is;
 }

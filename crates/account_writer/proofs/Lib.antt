@@ -3,6 +3,8 @@ pub mod AsciiLemmas
 pub mod BehindLemmas
 pub mod CurrentLemmas
 pub mod KeyReads
+pub mod LengthLemmas
+pub mod LineLemmas
 pub mod ListLemmas
 pub mod PutLemmas
 pub mod SetupReads

@@ -1,5 +1,5 @@
 -- Believed: a setup with what a ledger knows of its accounts.
-use Rattle.std.specs.Prelude.{ℕ, ◌≡◌, List, map, Ok}
+use Rattle.std.specs.Prelude.{ℕ, List, map}
 use Rattle.std.specs.List.{zip}
 use Rattle.policy_model.specs.declared.account.Account.{Account}
 use Rattle.policy_model.specs.declared.event.Event.{Event}
@@ -7,8 +7,7 @@ use Rattle.policy_model.specs.Logins.{account_after}
 use Rattle.policy_model.specs.Settings.{Settings}
 use Rattle.otp_ledger.specs.Accounts.{AccountState, LedgerParts, current_of}
 use Rattle.otp_ledger.specs.Standing.{StandsFor}
-use Rattle.account_file.specs.Entries.{entries_of}
-use Rattle.account_file.specs.Setups.{setup_of}
+use Rattle.account_writer.specs.Written.{IsFileOf}
 
 -- an account with the sequence and the password that a ledger knows of it
 abbrev pub current_account : Account → AccountState → Account
@@ -26,7 +25,6 @@ current_setup setup states = record setup { accounts = current_accounts setup.ac
 abbrev pub setup_after : Settings → List Event → Settings
 setup_after setup journal = record setup { accounts = map (account_after journal) setup.accounts }
 
--- bytes spell the setup after each journal that a ledger stands for
+-- bytes are the file of the setup after each journal that a ledger stands for
 pub record IsSetupAfter (setup : Settings) (l : LedgerParts) (bytes : List ℕ) : Type 0 where
-  pub by_journal : (journal : List Event) → StandsFor l journal → setup_of bytes
-      ≡ Ok (entries_of (setup_after setup journal))
+  pub by_journal : (journal : List Event) → StandsFor l journal → IsFileOf (setup_after setup journal) bytes

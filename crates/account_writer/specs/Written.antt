@@ -1,5 +1,5 @@
 -- Believed: the bytes written for a setup, and for one account after it.
-use Rattle.std.specs.Prelude.{ℕ, ◌≡◌, false, true, List, [], ◌∷◌, ◌++◌, map, codes, Result, Ok, IsUtf8}
+use Rattle.std.specs.Prelude.{ℕ, ◌≡◌, ◌≤◌, false, true, List, [], ◌∷◌, ◌++◌, length, map, codes, Result, Ok, IsUtf8}
 use Rattle.std.specs.List.{list_all}
 use Rattle.toml.specs.Data.{get_member}
 use Rattle.toml.specs.Text.{IsDocumentText}
@@ -26,6 +26,8 @@ pub record IsFileOf (s : Settings) (bytes : List ℕ) : Type 0 where
   pub writable : list_all is_writable s.accounts ≡ true
   pub utf8 : IsUtf8 bytes
   pub lines : IsDocumentText false (setup_members s (map account_data s.accounts)) bytes
+  -- no longer than a reader takes
+  pub few : length bytes ≤ 8388608
 
 -- the accounts that these bytes spell, whatever else of a setup is there or missing
 abbrev pub accounts_of : List ℕ → Result (List AccountEntry) SetupFault

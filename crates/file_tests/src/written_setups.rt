@@ -128,6 +128,25 @@ fn the_last_password_is_read_back(rt: HostRuntime) -> Result<(), Fail> {
     Ok(())
 }
 
+/// A file between a comment and an empty line.
+fn padded(alloc: Global, bytes: &[u8]) -> Result<Vec<u8>, AllocError> {
+    let mut all = Vec::from_slice(alloc, b"#\n")?;
+    all.extend_from_slice(bytes)?;
+    all.push(b'\n')?;
+    Ok(all)
+}
+
+/// What stands around a file is passed over, so what is read of bytes doesn't say that they are the
+/// file that was written.
+#[test]
+fn a_comment_and_an_empty_line_are_passed_over(rt: HostRuntime) -> Result<(), Fail> {
+    let bytes = written(rt.alloc(), FILE)?;
+    let all = padded(rt.alloc(), bytes.as_slice())?;
+    let accounts = accounts_in(rt.alloc(), all.as_slice())?;
+    assert!(rt; same(&accounts, ACCOUNTS));
+    Ok(())
+}
+
 /// Lines that the file has after the takeover: the keys that were left out, the seed in lower case,
 /// the new password.
 const LINES: &str = "banner = \"\"

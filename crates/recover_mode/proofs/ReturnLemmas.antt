@@ -1,5 +1,5 @@
 -- What a run logged is what is written.
-use Rattle.std.proofs.Common.{◌≡◌, ℕ, List, [], ◌∷◌, map, Option, Some, None, Result, Ok, Err, refl, sym, ap, subst, ◌∙◌}
+use Rattle.std.proofs.Common.{◌≡◌, ℕ, List, [], ◌∷◌, map, Option, Some, None, Result, Ok, Err, IfSome, refl, sym, ap, subst, ◌∙◌}
 use Rattle.std.specs.Prelude.{option_map}
 use Rattle.outside.specs.Files.{Contents}
 use Rattle.outside.specs.Link.{Link}
@@ -9,10 +9,10 @@ use Rattle.policy_model.specs.declared.event.Event.{Event}
 use Rattle.policy_model.specs.Settings.{Settings}
 use Rattle.otp_ledger.specs.Accounts.{AccountState, new_state}
 use Rattle.account_file.specs.Entries.{entries_of}
-use Rattle.account_file.specs.Setups.{setup_of}
 use Rattle.policy_model.specs.Logins.{account_after}
 use Rattle.account_writer.specs.CurrentSetup.{current_accounts, current_setup, setup_after}
-use Rattle.setup_reading.specs.Read.{setup_in}
+use Rattle.account_writer.specs.Written.{IsFileOf}
+use Rattle.setup_reading.specs.Read.{judged_setup, setup_in}
 use Rattle.durable_log.specs.Records.{HasRecords}
 use Rattle.ledger_journal.specs.declared.answer.Recovered.{Recovered}
 use Rattle.ledger_journal.specs.declared.answer.RecoverError.{RecoverError}
@@ -65,7 +65,10 @@ spelled-once parts one other files e f =
 written-spelled : (parts : RecoverParts) (setup target : Settings) (image : List ℕ) (texts : Texts) (old new : Contents) (made : AreTexts parts setup image texts) → AreWritten texts old new → current_setup setup made.recovered.ledger.accounts ≡ target → IsSpelled parts target new
 written-spelled parts setup target image texts old new made written same ne =
     let there : new parts.setup ≡ Some texts.bytes.items = ap new (sym made.setup_file) ∙ written.setup (λ e. ne (sym made.setup_file ∙ e ∙ made.log_file)) in
-    ap (option_map setup_of) there ∙ ap Some (made.spelled ∙ ap (λ (s : Settings). Ok (entries_of s)) same)
+    let file : IsFileOf target texts.bytes.items = subst (λ (s : Settings). IsFileOf s texts.bytes.items) same made.written in (
+      ap (option_map judged_setup) there ∙ ap Some (made.spelled ∙ ap (λ (s : Settings). Ok (entries_of s)) same),
+      subst (λ (f : Option (List ℕ)). IfSome f (IsFileOf target)) (sym there) file,
+    )
 
 -- ---- the log of a run
 

@@ -7,9 +7,10 @@ use Rattle.outside.specs.Told.{Goes}
 use Rattle.policy_model.specs.declared.event.Event.{Event}
 use Rattle.policy_model.specs.Settings.{Settings}
 use Rattle.account_file.specs.Entries.{entries_of}
-use Rattle.account_file.specs.Setups.{setup_of}
 use Rattle.policy_model.specs.Logins.{account_after}
 use Rattle.account_writer.specs.CurrentSetup.{current_setup}
+use Rattle.account_writer.specs.Written.{IsFileOf}
+use Rattle.setup_reading.specs.Read.{judged_setup}
 use Rattle.durable_log.specs.Records.{HasRecords}
 use Rattle.fresh_log.specs.Fresh.{IsFresh}
 use Rattle.ledger_journal.specs.declared.answer.Recovered.{Recovered}
@@ -62,18 +63,20 @@ IsLogError setup image _ = ⊥
 pub record AreTextsOf (parts : RecoverParts) (setup : Settings) (recovered : Recovered) (texts : Texts) : Type 0 where
   pub setup_file : texts.setup ≡ parts.setup
   pub log_file : texts.log ≡ parts.log
-  pub spelled : setup_of texts.bytes.items ≡ Ok (entries_of (current_setup setup recovered.ledger.accounts))
+  pub spelled : judged_setup texts.bytes.items ≡ Ok (entries_of (current_setup setup recovered.ledger.accounts))
+  pub written : IsFileOf (current_setup setup recovered.ledger.accounts) texts.bytes.items
   pub lines : texts.recovery.lines ≡ recovered.lines
   pub accepted : texts.recovery.accepted ≡ recovered.accepted
   pub line : string_bytes texts.line ≡ recovery_line texts.recovery
 
--- what `recover` writes and sends: a file that spells the setup as it was recovered, and a line with the counts
+-- what `recover` writes and sends: the file of the setup as it was recovered, and a line with the counts
 pub record AreTexts (parts : RecoverParts) (setup : Settings) (image : List ℕ) (texts : Texts) : Type 0 where
   pub recovered : Recovered
   pub answered : IsBroughtBack setup image (Ok recovered)
   pub setup_file : texts.setup ≡ parts.setup
   pub log_file : texts.log ≡ parts.log
-  pub spelled : setup_of texts.bytes.items ≡ Ok (entries_of (current_setup setup recovered.ledger.accounts))
+  pub spelled : judged_setup texts.bytes.items ≡ Ok (entries_of (current_setup setup recovered.ledger.accounts))
+  pub written : IsFileOf (current_setup setup recovered.ledger.accounts) texts.bytes.items
   pub lines : texts.recovery.lines ≡ recovered.lines
   pub accepted : texts.recovery.accepted ≡ recovered.accepted
   pub line : string_bytes texts.line ≡ recovery_line texts.recovery

@@ -1,13 +1,13 @@
 -- Believed: what a run logged is what the mode `recover` writes.
-use Rattle.std.specs.Prelude.{◌≡◌, ◌≢◌, List, count_by, length, map, Some, option_map, Result, Ok, Err}
+use Rattle.std.specs.Prelude.{◌≡◌, ◌≢◌, List, count_by, length, map, Some, IfSome, Result, Ok, Err}
 use Rattle.outside.specs.Files.{Contents}
 use Rattle.policy_model.specs.declared.event.Event.{Event}
 use Rattle.policy_model.specs.Asks.{accepts}
 use Rattle.policy_model.specs.Settings.{Settings}
 use Rattle.account_file.specs.Entries.{entries_of}
-use Rattle.account_file.specs.Setups.{setup_of}
 use Rattle.policy_model.specs.Logins.{account_after}
 use Rattle.account_writer.specs.CurrentSetup.{setup_after}
+use Rattle.account_writer.specs.Written.{IsFileOf}
 use Rattle.setup_reading.specs.Read.{setup_in}
 use Rattle.durable_log.specs.Records.{HasRecords}
 use Rattle.ledger_journal.specs.Journals.{IsWhole, records_of}
@@ -31,10 +31,11 @@ pub record HasRunAlready (parts : RecoverParts) (first setup : Settings) (journa
   pub already : setup.accounts ≡ map (account_after journal) first.accounts
   pub logged : HasRecords (image_in (files parts.log)) (records_of journal)
 
--- the setup file spells this setup, unless the log has the same name
+-- the setup file is read as this setup and is the file that is written for it, unless the log has the same name
 abbrev pub IsSpelled : RecoverParts → Settings → Contents → Type 0
 IsSpelled parts setup files =
-    parts.setup ≢ parts.log → option_map setup_of (files parts.setup) ≡ Some (Ok (entries_of setup))
+    parts.setup ≢ parts.log → (setup_in files parts.setup ≡ Some (Ok (entries_of setup)))
+    × IfSome (files parts.setup) (IsFileOf setup)
 
 -- the counts of a recovery are those of this journal
 pub record IsCounted (journal : List Event) (recovery : Recovery) : Type 0 where

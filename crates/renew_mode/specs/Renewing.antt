@@ -6,7 +6,8 @@ use Rattle.outside.specs.Told.{Goes}
 use Rattle.request_catalogue.specs.declared.texts.Name.{Name}
 use Rattle.request_catalogue.specs.TextBytes.{name_bytes}
 use Rattle.account_file.specs.Entries.{entries_of}
-use Rattle.account_file.specs.Setups.{setup_of}
+use Rattle.account_writer.specs.Written.{IsFileOf}
+use Rattle.setup_reading.specs.Read.{judged_setup}
 use Rattle.otp_extended.specs.declared.renewal.Renewed.{Renewed}
 use Rattle.otp_extended.specs.declared.run.Renewal.{Renewal}
 use Rattle.otp_extended.specs.declared.run.RenewalFault.{RenewalFault}
@@ -18,10 +19,11 @@ use Rattle.renew_mode.specs.declared.error.RenewError.TheVariants as errors
 use Rattle.renew_mode.specs.declared.basis.Basis.{Basis}
 use Rattle.renew_mode.specs.declared.texts.Texts.{Texts}
 
--- what `renew` writes and sends: a file that spells the new setup, and a line with the new sequence
+-- what `renew` writes and sends: the file of the new setup, and a line with the new sequence
 pub record AreTexts (parts : RenewParts) (renewal : Renewal) (texts : Texts) : Type 0 where
   pub file : texts.file ≡ parts.setup
-  pub spelled : setup_of texts.bytes.items ≡ Ok (entries_of renewal.setup)
+  pub spelled : judged_setup texts.bytes.items ≡ Ok (entries_of renewal.setup)
+  pub written : IsFileOf renewal.setup texts.bytes.items
   pub line : texts.line.items ≡ renewed_line parts.user renewal.renewed.sequence
 
 -- what came of the input's first line as a response of the user; nothing was sent

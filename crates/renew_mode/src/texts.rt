@@ -2,7 +2,8 @@
 
 ghost use Rattle.std.specs.Prelude.{◌≡◌, IfOk, Ok};
 ghost use Rattle.account_file.specs.Entries.{entries_of};
-ghost use Rattle.account_file.specs.Setups.{setup_of};
+ghost use Rattle.account_writer.specs.Written.{IsFileOf};
+ghost use Rattle.setup_reading.specs.Read.{judged_setup};
 ghost use Rattle.otp_extended.specs.Commands.{command_parts};
 ghost use Rattle.renew_mode.specs.Renewing.{AreTexts};
 
@@ -39,9 +40,10 @@ pub(crate) fn texts_of(
     })
 }
 
-/// The bytes of a setup file that spells a setup.
+/// The bytes of the file of a setup.
 fn setup_bytes(alloc: Global, setup: &Setup) -> Result<Vec<u8>, AllocError>
-    ensures { IfOk result (λ bytes. setup_of bytes.items ≡ Ok (entries_of setup.now)) }
+    ensures spelled { IfOk result (λ bytes. judged_setup bytes.items ≡ Ok (entries_of setup.now)) }
+    ensures written { IfOk result (λ bytes. IsFileOf setup.now bytes.items) }
 {
     let ledger = Ledger::new(alloc, setup, 0)?;
     write_accounts(alloc, setup, &ledger)

@@ -16,6 +16,12 @@ use Rattle.policy_laws.proofs.Alike.{shows_no_accounts}
 use Rattle.policy_model.specs.declared.event.Event.{Event}
 use Rattle.policy_model.specs.Journal.{has_lost, kept_events}
 use Rattle.policy_model.specs.Settings.{Settings}
+use Rattle.account_writer.specs.CurrentSetup.{setup_after}
+use Rattle.account_writer.specs.Written.{IsFileOf}
+use Rattle.account_writer.proofs.BehindLemmas.{file_read}
+use Rattle.account_file.specs.Entries.{entries_of}
+use Rattle.setup_reading.specs.Read.{judged_setup}
+use Rattle.setup_reading.proofs.ReadLemmas.{judged-short}
 use Rattle.policy_model.proofs.Legal.{IsLegal-none}
 use Rattle.service_model.specs.Places.{worker_places}
 use Rattle.service_model.specs.Service.{Service}
@@ -184,13 +190,19 @@ maybe_through name bytes a b c kept m = record { either = go m.either } where
   go (inl same) = inl (same_through a b c kept same)
   go (inr replaced) = inr (replaced_through name bytes a b c kept replaced)
 
+-- the file of a setup is read as this setup
+file_judged : (setup : Settings) (bytes : List ℕ) → IsFileOf setup bytes → judged_setup bytes ≡ Ok (entries_of setup)
+file_judged setup bytes is = judged-short bytes (entries_of setup) is.few (file_read setup bytes is)
+
 accounts_named : (name : List ℕ) (setup : Settings) (ledger : LedgerParts) (end written : Result (Unit {0}) ServeError) (lost failed : Bool) (journal : List Event) (old mid new : Option Contents) (ReplaceRose : Type 0) → EndTells end written lost failed → StandsFor ledger (kept_events journal) → Goes SameFiles old mid → WritesNamed name setup ledger mid new ReplaceRose written → IsWritten written → AreAccountsWritten name setup (status_of end) journal old new ReplaceRose
 accounts_named name setup ledger end written lost failed journal old mid new ReplaceRose tells stands kept w (inl done) =
     let did = subst (WritesNamed name setup ledger mid new ReplaceRose) done w in
+    let file = did.1.by_journal (kept_events journal) stands in
     let goes = same_then old mid new (Replaced name did.0) (replaced_through name did.0) kept did.2 in
     record {
       bytes = did.0;
-      spells = λ _. did.1.by_journal (kept_events journal) stands;
+      spells = λ _. file_judged (setup_after setup (kept_events journal)) did.0 file;
+      file = λ _. file;
       written = λ _. goes;
       tried = λ _. inl goes;
       failed = λ e. absurd (let f : ◌≡◌ {A = Result (Unit {0}) ServeError} (Ok tt) (Err errors.ReplaceFailed) = sym done ∙ tells.eight e in cc);
@@ -201,6 +213,7 @@ accounts_named name setup ledger end written lost failed journal old mid new Rep
     record {
       bytes = [];
       spells = λ e. absurd (tells.printed e oom);
+      file = λ e. absurd (tells.printed e oom);
       written = λ e. absurd (tells.printed (ap is_run_status e) oom);
       tried = λ h. absurd (ran h);
       failed = λ e. absurd (tells.printed (ap is_run_status e) oom);
@@ -211,10 +224,12 @@ accounts_named name setup ledger end written lost failed journal old mid new Rep
       ran (inr e) = tells.printed (ap is_run_status e) oom
 accounts_named name setup ledger end written lost failed journal old mid new ReplaceRose tells stands kept w (inr (inr not)) =
     let did = subst (WritesNamed name setup ledger mid new ReplaceRose) not w in
+    let file = did.1.by_journal (kept_events journal) stands in
     let goes = same_then old mid new (MayBeReplaced name did.0) (maybe_through name did.0) kept did.3 in
     record {
       bytes = did.0;
-      spells = λ _. did.1.by_journal (kept_events journal) stands;
+      spells = λ _. file_judged (setup_after setup (kept_events journal)) did.0 file;
+      file = λ _. file;
       written = λ e. absurd (let f : ◌≡◌ {A = Result (Unit {0}) ServeError} (Err errors.ReplaceFailed) (Ok tt) = sym not ∙ (tells.zero e).2 in cc);
       tried = λ _. inr (did.2, goes);
       failed = λ _. (did.2, goes);
@@ -383,6 +398,7 @@ module _ {P : Type 0} (source : Source) (service : Service) (status : ℕ) (jour
     accounts (Named name log) = record {
       bytes = [];
       spells = λ e. absurd (let f : true ≡ false = sym e ∙ not_run in cc);
+      file = λ e. absurd (let f : true ≡ false = sym e ∙ not_run in cc);
       written = λ e. absurd (run e);
       tried = λ h. absurd (either h);
       failed = λ e. absurd (not 8 refl e);

@@ -4,8 +4,9 @@ use Rattle.std.specs.List.{list_any}
 use Rattle.policy_laws.specs.Consequences.{HasConsequences}
 use Rattle.policy_laws.specs.Strangers.{ShowsNoAccounts}
 use Rattle.account_file.specs.Entries.{entries_of}
-use Rattle.account_file.specs.Setups.{setup_of}
 use Rattle.account_writer.specs.CurrentSetup.{setup_after}
+use Rattle.account_writer.specs.Written.{IsFileOf}
+use Rattle.setup_reading.specs.Read.{judged_setup}
 use Rattle.info_hooks.specs.declared.key.Key.{Key}
 use Rattle.monitor_book.specs.Lines.{LogMatches}
 use Rattle.monitor_run.specs.Headline.{AreFaultless, ConversationsMatch, FaultEndsAreCounted, FaultsAreCounted}
@@ -49,12 +50,16 @@ ListensAt setup posts before after = Gains before (served_places setup posts) af
 abbrev pub is_run_status : ℕ → Bool
 is_run_status status = list_any (λ s. s == status) (0 ∷ 7 ∷ 8 ∷ 10 ∷ [])
 
--- the setup file gets the setup after the kept events, or may stay where replacing failed; with a status other than 0,
--- 7, 8 and 10 no file changes
+-- the setup file becomes that of the setup after the kept events, or may stay where replacing failed; with a status
+-- other than 0, 7, 8 and 10 none changes
 pub record AreAccountsWritten (name : List ℕ) (setup : Settings) (status : ℕ) (journal : List Event)
     (old new : Option Contents) (ReplaceRose : Type 0) : Type 0 where
   pub bytes : List ℕ
-  pub spells : is_run_status status ≡ true → setup_of bytes ≡ Ok (entries_of (setup_after setup (kept_events journal)))
+  -- what the next run reads
+  pub spells : is_run_status status ≡ true → judged_setup bytes
+      ≡ Ok (entries_of (setup_after setup (kept_events journal)))
+  -- nothing else stands in it, and the text that `enrol` prints may be appended
+  pub file : is_run_status status ≡ true → IsFileOf (setup_after setup (kept_events journal)) bytes
   pub written : status ≡ 0 → Goes (Replaced name bytes) old new
   pub tried : (status ≡ 7) ⊎ (status ≡ 10) → Goes (Replaced name bytes) old new
       ⊎ (ReplaceRose × Goes (MayBeReplaced name bytes) old new)

@@ -1,4 +1,4 @@
-use Rattle.std.proofs.Common.{◌≡◌, ℕ, ◌+◌, List, length, take, Option, Some, None, Result, Ok, Err, IfSome, refl, sym, ap, subst, ◌∙◌, arith}
+use Rattle.std.proofs.Common.{◌≡◌, ℕ, ◌+◌, ◌≤◌, Bool, List, length, take, Option, Some, None, Result, Ok, Err, IfSome, refl, sym, ap, subst, ◌∙◌, arith, le-leb}
 use Rattle.std.specs.Prelude.{nat_le, option_map}
 use Rattle.std.specs.Bool.{then_some}
 use Rattle.std.proofs.lemmas.Grind.{common_steps}
@@ -10,7 +10,7 @@ use Rattle.account_file.specs.declared.fault.SetupKey.TheVariants as keys
 use Rattle.account_file.specs.declared.fault.SetupRule.TheVariants as rules
 use Rattle.account_file.specs.declared.fault.SetupError.{SetupError}
 use Rattle.account_file.specs.declared.fault.SetupError.TheVariants as setup_errors
-use Rattle.account_file.specs.Entries.{entries_of}
+use Rattle.account_file.specs.Entries.{SetupEntries, entries_of}
 use Rattle.account_file.specs.Faults.{Answers, demand_at}
 use Rattle.account_file.specs.Setups.{setup_of, top}
 use Rattle.setup_reading.specs.Read.{IsSetupError, IsSetupIn, error_of_setup, judged_setup, setup_in}
@@ -23,6 +23,15 @@ short-front m bytes = grind (arith, common_steps)
 judged-front : (bytes : List ℕ) → judged_setup (take 8388609 bytes) ≡ judged_setup bytes
 unfolding judged_setup
 judged-front bytes = ap (λ short. demand_at (top keys.File) rules.TooLong short >>= setup_of) (short-front 8388608 bytes)
+
+-- a text within the limit is judged by what it spells
+pub judged-short : (bytes : List ℕ) (e : SetupEntries) → length bytes ≤ 8388608 → setup_of bytes ≡ Ok e
+    → judged_setup bytes ≡ Ok e
+unfolding judged_setup
+judged-short bytes e few spells =
+    ap (λ (b : Bool). demand_at (top keys.File) rules.TooLong (then_some b bytes) >>= setup_of)
+    (le-leb (length bytes) 8388608 few)
+    ∙ spells
 
 -- the front that was read of a file
 abbrev pub IsFrontOf : {A : Type 0} → (A → List ℕ) → Option A → Option Contents → List ℕ → Type 0

@@ -12,6 +12,7 @@ use Rattle.account_writer.specs.Tables.{account_data, is_writable, setup_members
 use Rattle.account_writer.specs.Written.{IsFileOf}
 use Rattle.account_writer.proofs.BehindLemmas.{file_read}
 use Rattle.account_writer.proofs.CurrentLemmas.{is_setup_after, range_current}
+use Rattle.account_writer.proofs.LengthLemmas.{lines_fit}
 use Rattle.account_writer.proofs.SetupReads.{setup_dated}
 use Rattle.account_writer.proofs.writing.write_accounts.Goals as goal
 
@@ -29,12 +30,16 @@ is_file setup states accounts values ms text bytes own range same seen are writa
     (are ∙ ap (map account_data) current) in
     let legal : list_all is_writable whole.accounts ≡ true = sym (ap (list_all is_writable) current) ∙ writable in
     let long : length setup.accounts ≡ length states = sym (ap length own) ∙ same in
+    let in_range = range_current setup states range long legal in
+    let written : IsDocumentText false (setup_members whole (map account_data whole.accounts)) bytes = subst
+    (IsDocumentText false (setup_members whole (map account_data whole.accounts))) (sym same_text)
+    (subst (λ (m : Members). IsDocumentText false m text) table lines) in
     record {
-      in_range = range_current setup states range long legal;
+      in_range = in_range;
       writable = legal;
       utf8 = subst IsUtf8 (sym same_text) utf8;
-      lines = subst (IsDocumentText false (setup_members whole (map account_data whole.accounts))) (sym same_text)
-          (subst (λ (m : Members). IsDocumentText false m text) table lines);
+      lines = written;
+      few = lines_fit whole bytes in_range written;
     }
 
 pub returns-clause-written : goal.returns-clause-written
@@ -54,7 +59,7 @@ returns-clause-current c =
 
 pub returns-clause-after : goal.returns-clause-after
 returns-clause-after c =
-    is_setup_after c.args.setup.now c.args.ledger.now c.into_bytes.result.items c.requires (returns-clause-current c)
+    is_setup_after c.args.setup.now c.args.ledger.now c.into_bytes.result.items c.requires (returns-clause-written c)
 
 pub printed-requires : goal.printed-requires
 printed-requires c =

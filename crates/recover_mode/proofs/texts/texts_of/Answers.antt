@@ -27,6 +27,7 @@ returns-clause-texts c =
       setup_file = texts.setup_file;
       log_file = texts.log_file;
       spelled = texts.spelled;
+      written = texts.written;
       lines = texts.lines;
       accepted = texts.accepted;
       line = texts.line;
