@@ -13,7 +13,7 @@ invariant_of-self-in-Err-clause-counted c =
 
 pub invariant_of-self-clause-told : goal.invariant_of-self-clause-told
 invariant_of-self-clause-told c =
-    counts_did _ _ _ _ _ (c.act.ensures.did (plan_of c.args.self.now.scripts.items)) (record { accept = refl; keeper = refl; conn = c.count_after-self.ensures ∙ sending_counts _ _ _; vault = refl }) c.args.self.now.told
+    counts_did _ _ _ _ _ (c.act.ensures.did (plan_of c.args.self.now.scripts.items)) (record { accept = refl; keeper = refl; conn = c.count_after-self.ensures ∙ sending_counts c.args.bytes.now c.match-find_failure.outcome c.args.self.now.faults.conn; vault = refl }) c.args.self.now.told
 
 pub invariant_of-self-in-Err-clause-told : goal.invariant_of-self-in-Err-clause-told
 invariant_of-self-in-Err-clause-told c =
