@@ -4,7 +4,7 @@ use Rattle.std.specs.BTreeMap.{get_by_text}
 use Rattle.outside_real.specs.declared.seen.Found.{Found}
 use Rattle.outside_real.specs.declared.seen.SeenFiles.{SeenFiles}
 
--- how the file at a path was found first, if it was read since it was last replaced
+-- how the file at a path was found first, or left since then, if it was read
 abbrev pub found_at : SeenFiles → List ℕ → Option Found
 found_at seen path = get_by_text seen.files path
 

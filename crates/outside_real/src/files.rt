@@ -1,7 +1,7 @@
-ghost use Rattle.std.specs.Prelude.{◌≡◌, ◌<◌, ◌≤◌, IfOk, IfSome, None, OnErr, length, take};
+ghost use Rattle.std.specs.Prelude.{◌≡◌, ◌<◌, ◌≤◌, IfOk, IfSome, IsSome, None, OnErr, length, take};
 ghost use Rattle.std.specs.Io.KnownBytes.{Consumes, IsAtEnd};
 ghost use Rattle.outside.specs.Faults.{count_after};
-ghost use Rattle.outside_real.specs.Findings.{KeepsFindings, SameOthers};
+ghost use Rattle.outside_real.specs.Findings.{KeepsFindings, SameOthers, found_at};
 
 use crate::again::read_again;
 use crate::counted::counted;
@@ -19,7 +19,8 @@ use std::rt::Files as FileSystem;
 ///
 /// A file is read as one: a reading from its front opens it, and those of the pieces after it are of
 /// the same open file, also where another file is given its name in between. A file that was read is
-/// replaced only as long as it is the one that was read first: reading it once more changes nothing of that.
+/// replaced only as long as it is the one that was read first, or that replaced it since: reading it once more
+/// changes nothing of that.
 #[derive(Drop)]
 pub struct RealFiles<R> {
     rt: R,
@@ -131,13 +132,15 @@ impl<R: FileSystem<File = File> + Drop> Files for RealFiles<R> {
     /// Writes a new file beside the old one, with its permissions, owner and group, flushes it to the
     /// disk, and gives it the old one's name. So whoever reads the file sees what it held or the new
     /// bytes, and after a crash it holds one of these. A symbolic link is followed to its end. It is a
-    /// fault where the file isn't the one any more that was read first, since it was last replaced.
+    /// fault where the file isn't the one any more that was read first, or that replaced it since.
     fn replace(&mut self, name: &Word, bytes: &[u8]) -> Result<(), Failed>
         ensures counts { replace_faults_of self.new
             ≡ count_after result (replace_faults_of self.old) }
         ensures kept { replace_faults_of self.old ≤ replace_faults_of self.new }
         ensures others { read_faults_of self.new ≡ read_faults_of self.old }
         ensures seen { OnErr result (seen_of self.new ≡ seen_of self.old) }
+        ensures known { IsSome (found_at (seen_of self.old) name.now)
+            → IsSome (found_at (seen_of self.new) name.now) }
         ensures seen_others { SameOthers name.now (seen_of self.old) (seen_of self.new) }
     {
         self.reading = None;
@@ -186,14 +189,15 @@ impl<R: FileSystem<File = File>> RealFiles<R> {
         ensures read_faults { read_faults_of self.new ≡ read_faults_of self.old }
         ensures replace_faults { replace_faults_of self.new ≡ replace_faults_of self.old }
         ensures seen { OnErr result (seen_of self.new ≡ seen_of self.old) }
+        ensures known { IsSome (found_at (seen_of self.old) path.now)
+            → IsSome (found_at (seen_of self.new) path.now) }
         ensures seen_others { SameOthers path.now (seen_of self.old) (seen_of self.new) }
     {
         let outcome = replace_file(&self.rt, self.alloc, path, self.seen.of(path), bytes);
         self.last.note(self.alloc, path, outcome.err());
-        if outcome.is_ok() {
-            self.seen.forget(path);
-        }
-        outcome
+        let identity = outcome?;
+        self.seen.leave(self.alloc, path, Found::File(identity));
+        Ok(())
     }
 }
 

@@ -19,14 +19,14 @@ const FRONT_MAX: usize = 64;
 const CHANGED: &str = "it was changed while this was at work, and was left alone";
 
 /// Puts a file with these bytes in the place of the one that the path leads to, if that is still as it
-/// was found.
+/// was found, and gives the new file's identity.
 pub(crate) fn replace_file<R: Files<File = File>>(
     rt: &R,
     alloc: Global,
     path: &str,
     found: Option<Found>,
     bytes: &[u8],
-) -> io::Result<()> {
+) -> io::Result<Identity> {
     let place = end_of(rt, alloc, path)?;
     replace_at(rt, alloc, place.as_str(), found, bytes)
 }
@@ -55,13 +55,16 @@ fn replace_at<R: Files<File = File>>(
     path: &str,
     found: Option<Found>,
     bytes: &[u8],
-) -> io::Result<()> {
+) -> io::Result<Identity> {
     let new = new_name(alloc, path)?;
     let new = new.as_str();
     // One that a run left there that was cut off.
     let _ = fs::remove_file(rt, new);
     match write_and_move(rt, new, path, found, bytes) {
-        Ok(()) => flush_folder(rt, path),
+        Ok(identity) => {
+            flush_folder(rt, path)?;
+            Ok(identity)
+        }
         Err(error) => {
             let _ = fs::remove_file(rt, new);
             match error.kind() {
@@ -83,7 +86,7 @@ fn end_in_place<R: Files<File = File>>(
     path: &str,
     found: Option<Found>,
     bytes: &[u8],
-) -> io::Result<()> {
+) -> io::Result<Identity> {
     let [front @ .., 0] = bytes else {
         return Err(io::Error::from(ErrorKind::Unsupported));
     };
@@ -96,7 +99,7 @@ fn end_in_place<R: Files<File = File>>(
     file.write_all_at(&[0], front.len() as u64)?;
     file.sync_all()?;
     file.set_len(bytes.len() as u64)?;
-    file.sync_all()
+    flush(&file)
 }
 
 /// Whether a file begins with these bytes.
@@ -122,12 +125,13 @@ fn write_and_move<R: Files<File = File>>(
     path: &str,
     found: Option<Found>,
     bytes: &[u8],
-) -> io::Result<()> {
-    write_file(rt, new, path, bytes)?;
+) -> io::Result<Identity> {
+    let identity = write_file(rt, new, path, bytes)?;
     if was_changed(rt, path, found)? {
         return Err(io::Error::other(CHANGED));
     }
-    fs::rename(rt, new, path)
+    fs::rename(rt, new, path)?;
+    Ok(identity)
 }
 
 /// Whether the file at a path is not as it was found, where it was looked for.
@@ -149,7 +153,7 @@ fn write_file<R: Files<File = File>>(
     path: &str,
     like: &str,
     bytes: &[u8],
-) -> io::Result<()> {
+) -> io::Result<Identity> {
     let mut options = OpenOptions::new();
     options.write(true).create_new(true).mode(OWNER_ALONE);
     let mut file = options.open(rt, path)?;
@@ -159,7 +163,13 @@ fn write_file<R: Files<File = File>>(
         Err(error) if error.kind() == ErrorKind::NotFound => {}
         Err(error) => return Err(error),
     }
-    file.sync_all()
+    flush(&file)
+}
+
+/// Flushes a file to the disk, and gives its identity.
+fn flush(file: &File) -> io::Result<Identity> {
+    file.sync_all()?;
+    Ok(Identity::of(&file.metadata()?))
 }
 
 /// Gives a file the owner, the group and the permissions of another.

@@ -1,4 +1,4 @@
-ghost use Rattle.std.specs.Prelude.{◌≡◌, IfOk, None, OnOk, Some, unwrap_or};
+ghost use Rattle.std.specs.Prelude.{◌≡◌, None, OnErr, OnOk, Some, unwrap_or};
 
 use crate::named::Identity;
 use std::alloc::Global;
@@ -14,15 +14,15 @@ pub(crate) enum Found {
     File(Identity),
 }
 
-/// How each file was found when it was first read from its front, since it was last replaced. A later
-/// reading doesn't count, so that none can take a change of the file for the file that was read.
+/// How each file was found when it was first read from its front, and since then how it was left when it was
+/// replaced. A later reading doesn't count, so that none can take a change for the file that was read.
 #[derive(Drop)]
 pub(crate) struct SeenFiles {
     files: BTreeMap<String, Found>,
 }
 
 impl SeenFiles {
-    ghost use Rattle.std.specs.Prelude.{List, ℕ};
+    ghost use Rattle.std.specs.Prelude.{IsSome, List, ℕ};
     ghost use Rattle.outside_real.specs.Findings.{KeepsFindings, SameOthers, found_at};
 
     /// No file was read.
@@ -34,7 +34,7 @@ impl SeenFiles {
         }
     }
 
-    /// How the file at a path was found first, if it was read since it was replaced.
+    /// How the file at a path was found or left, if it was read.
     pub(crate) fn of(&self, path: &str) -> Option<Found>
         ensures { result ≡ found_at self.now path.now }
     {
@@ -53,17 +53,21 @@ impl SeenFiles {
         }
     }
 
-    /// Forgets how the file at a path was found.
-    pub(crate) fn forget(&mut self, path: &str)
-        ensures forgotten { found_at self.new path.now ≡ None }
+    /// Keeps how the file at a path was left, if it was found before. Where there isn't the memory it stays as
+    /// it was found, so that it is never replaced again.
+    pub(crate) fn leave(&mut self, alloc: Global, path: &str, left: Found)
+        ensures known { IsSome (found_at self.old path.now) → IsSome (found_at self.new path.now) }
         ensures others { SameOthers path.now self.old self.new }
     {
-        self.files.remove(path);
+        if self.of(path).is_some() {
+            let _ = self.put(alloc, path, left);
+        }
     }
 
     /// Puts how the file at a path was found.
     fn put(&mut self, alloc: Global, path: &str, found: Found) -> io::Result<()>
         ensures put { OnOk result (found_at self.new path.now ≡ Some found) }
+        ensures err { OnErr result (found_at self.new path.now ≡ found_at self.old path.now) }
         ensures others { SameOthers path.now self.old self.new }
     {
         self.files.insert(String::from_str(alloc, path)?, found)?;

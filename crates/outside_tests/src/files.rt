@@ -63,6 +63,30 @@ fn is_replaced_twice<F: Files>(files: &mut F, file: &Word) -> bool {
         && read(files, file, 4) == Ok(Some((*b"n\0\0\0", 1)))
 }
 
+/// Whether a file that was read and replaced is left alone once another one replaced it.
+fn is_guarded_on<F: Files, G: Files>(files: &mut F, others: &mut G, file: &Word) -> bool {
+    read(files, file, 0) == Ok(None)
+        && replace(files, file, b"abcdef") == Ok(())
+        && replace(others, file, b"xyz") == Ok(())
+        && replace(files, file, b"again") == Err(Failed)
+        && read(others, file, 0) == Ok(Some((*b"xyz\0", 3)))
+}
+
+/// Whether the files of the machine leave a file alone that was changed after they replaced it.
+fn guard_replaced_file(rt: HostRuntime, file: &Word) -> bool {
+    let mut files = RealFiles::new(rt, rt.alloc());
+    let mut others = RealFiles::new(rt, rt.alloc());
+    is_guarded_on(&mut files, &mut others, file)
+}
+
+#[test]
+fn a_file_that_was_replaced_is_guarded_on(rt: HostRuntime) -> Result<(), Fault> {
+    let file = temporary_path(&rt, rt.process(), "guarded")?;
+    assert!(rt; guard_replaced_file(rt, &file));
+    fs::remove_file(&rt, file.as_str())?;
+    Ok(())
+}
+
 #[test]
 fn a_file_of_its_own_is_replaced_twice(rt: HostRuntime) -> Result<(), Fault> {
     let file = temporary_path(&rt, rt.process(), "twice")?;
