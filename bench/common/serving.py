@@ -1,5 +1,5 @@
 """What the scripts of bench/ share: the program, a monitor that runs, and figures with their spread."""
-import contextlib, os, shutil, signal, socket, statistics, subprocess, sys, tempfile, time
+import collections, contextlib, os, shutil, signal, socket, statistics, subprocess, sys, tempfile, time
 
 TOP = os.path.dirname(os.path.dirname(os.path.dirname(os.path.abspath(__file__))))
 LIMIT = float(os.environ.get("LIMIT", "60"))  # seconds for each wait
@@ -82,12 +82,12 @@ def keep(uid, name, text):
 
 @contextlib.contextmanager
 def running(words, log="log", **more):
-    """A program that listens at the place `socket`, with its log in a file. It is killed at last."""
+    """A program that listens on a Unix socket, with its log in a file. It is killed at last."""
     with open(log, "wb") as file, open("printed", "wb") as printed:
         child = subprocess.Popen(words, stdin=subprocess.DEVNULL, stdout=printed, stderr=file,
                                  start_new_session=True, **more)
     try:
-        wait_for(lambda: child.poll() is not None or is_listening(), "socket")
+        wait_for(lambda: child.poll() is not None or is_listening(child.pid), "socket")
         if child.poll() is not None:
             raise RuntimeError(f"it ended with {ending(child.returncode)}: {read(log)[-500:]!r}")
         yield child
@@ -97,15 +97,24 @@ def running(words, log="log", **more):
             child.wait()
 
 
-def is_listening(path="socket"):
-    """Whether somebody listens, without a connection that would count."""
+def descriptors(pid):
+    """What a process's descriptors lead to, and how many lead there."""
+    links = []
+    for number in os.listdir(f"/proc/{pid}/fd"):
+        with contextlib.suppress(FileNotFoundError):
+            links.append(os.readlink(f"/proc/{pid}/fd/{number}"))
+    return collections.Counter(links)
+
+
+def is_listening(pid):
+    """Whether a process listens on a Unix socket, without a connection that would count. The sockets of other processes
+    may have the same name, since the system keeps a relative one as it was given."""
     with open("/proc/net/unix") as sockets:
-        here = os.path.abspath(path)
-        for line in sockets:
-            words = line.split()
-            if len(words) == 8 and words[7] in (path, here) and words[3] == "00010000":
-                return True
-    return False
+        listening = {f"socket:[{words[6]}]" for words in map(str.split, sockets) if words[3] == "00010000"}
+    try:
+        return not listening.isdisjoint(descriptors(pid))
+    except OSError:  # it has ended
+        return False
 
 
 def wait_for(is_there, what, limit=LIMIT):
@@ -118,14 +127,14 @@ def wait_for(is_there, what, limit=LIMIT):
 
 
 def others(pid):
-    """The processes of a session of processes besides its leader."""
+    """The processes of a session of processes besides its leader, and the leader's children in sessions of their own."""
     found = []
     for number in filter(str.isdigit, os.listdir("/proc")):
         try:
             words = read(f"/proc/{number}/stat").rsplit(b")", 1)[1].split()
         except OSError:
             continue
-        if int(words[3]) == pid and int(number) != pid:
+        if pid in (int(words[1]), int(words[3])) and int(number) != pid:
             found.append(int(number))
     return found
 
