@@ -1,5 +1,5 @@
-"""What the scripts of bench/ share: the program, a monitor that runs, and figures with their spread."""
-import collections, contextlib, os, shutil, signal, socket, statistics, subprocess, sys, tempfile, time
+"""What the scripts of bench/ share: the program, a monitor that runs, and what the system says of it."""
+import collections, contextlib, os, shutil, signal, socket, subprocess, sys, tempfile, time
 
 TOP = os.path.dirname(os.path.dirname(os.path.dirname(os.path.abspath(__file__))))
 LIMIT = float(os.environ.get("LIMIT", "60"))  # seconds for each wait
@@ -127,7 +127,7 @@ def wait_for(is_there, what, limit=LIMIT):
 
 
 def others(pid):
-    """The processes of a session of processes besides its leader, and the leader's children in sessions of their own."""
+    """The processes of a session besides its leader, and the leader's children in sessions of their own."""
     found = []
     for number in filter(str.isdigit, os.listdir("/proc")):
         try:
@@ -156,8 +156,3 @@ def memory(pid):
     with open(f"/proc/{pid}/status") as file:
         lines = dict(line.split(":", 1) for line in file)
     return {key: int(lines[key].split()[0]) for key in ("VmPeak", "VmHWM", "VmRSS", "Threads")}
-
-
-def spread(values, form="{:.2f}"):
-    """The median of some figures, from the least to the greatest."""
-    return f"{form.format(statistics.median(values))} ({form.format(min(values))} to {form.format(max(values))})"

@@ -5,7 +5,7 @@ import sys
 import time
 
 sys.path.insert(0, os.path.join(os.path.dirname(os.path.abspath(__file__)), "..", "common"))
-from turns import instructions, spread
+from turns import instructions, row, take_turns
 
 # The drills, and how often each is run in one measurement.
 CASES = [(1, 20), (8, 10), (64, 3)]
@@ -24,43 +24,34 @@ def rate(command, events, times):
     return times * events / (time.perf_counter() - began)
 
 
-def measure(commands, n, times, runs):
-    """Prints rates and ratios, and gives the events and, by the commands' names, the instructions where they are counted."""
+def measure(commands, n, times):
+    """Gives the rows, and returns the events and, by the commands' names, the instructions where they are counted."""
     texts = {drill(command) for command in commands.values()}
     if len(texts) != 1:
         sys.exit(f"the programs differ at {n}")
     events = int(texts.pop().split("events ")[1].split()[0])
-    rates = {name: [] for name in commands}
-    for _ in range(runs):
-        for name, command in commands.items():
-            rates[name].append(rate(command, events, times))
-    costs = {}
-    for name, command in commands.items():
-        cost = instructions(*command)
-        if cost is not None:
-            costs[name] = cost
-        counted = f", {cost // events} instructions an event" if name in costs else ""
-        print(f"drill {n:2} {name:14}: {spread(rates[name], '9.0f')} events a second{counted}")
+    rates = take_turns(commands, lambda command: rate(command, events, times))
+    costs = {name: instructions(*command) for name, command in commands.items()}
+    each = {name: cost and cost / events for name, cost in costs.items()}
     for name in list(commands)[1:]:
-        ratios = [ours / theirs for ours, theirs in zip(rates["ours"], rates[name])]
-        print(f"drill {n:2} ratio         : {spread(ratios, '.2f')} of the {name}", flush=True)
+        row(f"a drill of {n}", name, "events/s", (rates["ours"], rates[name]), (each["ours"], each[name]))
     return events, costs
 
 
-def main(ours, twin, runs):
+def main(ours, twin):
     before = None
     for n, times in CASES:
         commands = {
             "ours": (ours, "drill", str(n)),
-            "twin, 4 threads": (twin, str(n), "4"),
-            "twin, 1 thread": (twin, str(n), "1"),
+            "a plain Rust twin, 4 threads": (twin, str(n), "4"),
+            "a plain Rust twin, 1 thread": (twin, str(n), "1"),
         }
-        events, costs = measure(commands, n, times, int(runs))
-        if before:
+        events, costs = measure(commands, n, times)
+        if before and costs["ours"]:
             more = events - before[0]
-            for name in costs:
-                each = (costs[name] - before[1][name]) // more
-                print(f"drill {n:2} {name:14}: {each} instructions for each of the {more} events that it has more", flush=True)
+            for name, cost in costs.items():
+                extra = (cost - before[1][name]) // more
+                print(f"a drill of {n}, {name}: {extra} instructions for each of the {more} events more", flush=True)
         before = events, costs
 
 

@@ -7,13 +7,12 @@ import sys
 
 sys.path.insert(0, os.path.join(os.path.dirname(os.path.abspath(__file__)), "..", "common"))
 from policy import fold
-from turns import instructions, lines_of, spread
+from turns import RUNS, instructions, lines_of, row, take_turns
 
 EVENTS = 1000  # appended in a run
 COUNTED = 100, 300  # the appends of which valgrind counts the instructions
 FULL = 1048576  # the events that a run makes at most
 ACCOUNTS, PASSWORDS = 1024, 256
-RECOVERIES = 3
 
 
 def opened_and_ended(count):
@@ -81,38 +80,32 @@ def append_cost(program):
     return None if None in costs else (costs[1] - costs[0]) // (COUNTED[1] - COUNTED[0])
 
 
-def compare(programs, turns):
-    rates = {name: [] for name in programs}
-    for _ in range(turns):
-        for name, program in programs.items():
-            rates[name].append(append(program, EVENTS))
-    for name, program in programs.items():
-        cost = append_cost(program)
-        counted = "" if cost is None else f", {cost:,} instructions each"
-        print(f"{name}: {spread(rates[name], ',.0f')} events/s{counted}")
-    ratios = [ours / theirs for ours, theirs in zip(*rates.values(), strict=True)]
-    print(f"ratio: {spread(ratios, '.2f')} of the loop's rate", flush=True)
+def compare(programs):
+    rates = take_turns(programs, lambda program: append(program, EVENTS))
+    costs = [append_cost(program) for program in programs.values()]
+    row("an append to the durable log", "a loop in C", "events/s", rates.values(), costs)
 
 
 def recovery(program, name, image, accepted):
     """Times the recovery of an image of a full log."""
     write("image", image)
     seconds, peaks = [], []
-    for _ in range(RECOVERIES):
+    for _ in range(RUNS):
         said = subprocess.run([program, "recover", "image"], check=True, capture_output=True, text=True).stdout
         answered = re.match(r"(\d+) (\d+) (\d+)\n", said)
         if answered is None or answered.groups()[:2] != (str(FULL), str(accepted)):
             sys.exit(f"{name}: {said[:200]!r}")
         seconds.append(int(answered[3]) / 1e9)
         peaks.append(int(re.search(r"VmHWM:\s+(\d+) kB", said)[1]) / 1024)
-    print(f"{name}: {FULL} lines, {accepted} accepted replies, in {spread(seconds, '.2f')} s, "
-          f"{statistics.median(peaks):.0f} MB at most, of which the image has {len(image) / 1048576:.0f}", flush=True)
+    row(f"the recovery of {FULL:,} lines, {name}", None, "s", [seconds])
+    print(f"the recovery of lines {name}: {statistics.median(peaks):.0f} MB at most, of which the image has "
+          f"{len(image) / 1048576:.0f}", flush=True)
 
 
-def main(ours, plain, turns):
-    compare({"ours": (ours, "append"), "C": (plain,)}, int(turns))
-    recovery(ours, "opened and ended", image_of(opened_and_ended(FULL)), 0)
-    recovery(ours, "logged in", image_of(logged_in(FULL)), FULL // 4)
+def main(ours, plain):
+    compare({"ours": (ours, "append"), "C": (plain,)})
+    recovery(ours, "which accept nothing", image_of(opened_and_ended(FULL)), 0)
+    recovery(ours, f"which accept {FULL // 4:,} replies", image_of(logged_in(FULL)), FULL // 4)
 
 
 main(*sys.argv[1:])

@@ -4,7 +4,7 @@ import statistics
 import sys
 
 sys.path.insert(0, os.path.join(os.path.dirname(os.path.abspath(__file__)), "..", "common"))
-from turns import instructions, lines_of, spread
+from turns import instructions, lines_of, row, take_turns
 
 # What is called, the passwords that were accepted before, the rounds and the calls of each. Of 1,024 calls of `spend`
 # one merges the two arrays of accepted passwords.
@@ -17,6 +17,7 @@ CASES = [
     ("spend", 90_000, 7, 1_024),
     ("hash", 1, 21, 512),
 ]
+NAMES = {"reply": "a reply", "spend": "judging and spending a password", "hash": "the hash step alone"}
 
 
 def run_once(program, case):
@@ -32,29 +33,20 @@ def call_cost(program, what, accepted):
     return None if few is None else (more - few) // (counts[1] - counts[0])
 
 
-def measure(programs, runs, case):
+def measure(programs, case):
     what, accepted = case[:2]
-    times = {name: [] for name in programs}
-    sums = set()
-    for _ in range(runs):
-        for name, program in programs.items():
-            nanos, total = run_once(program, case)
-            times[name].append(nanos)
-            sums.add(total)
-    if len(sums) != 1:
+    runs = take_turns(programs, lambda program: run_once(program, case))
+    if len({total for seen in runs.values() for _, total in seen}) != 1:
         sys.exit(f"the programs differ at {what} {accepted}")
-    for name, program in programs.items():
-        cost = call_cost(program, what, accepted)
-        counted = "" if cost is None else f", {cost} instructions"
-        print(f"{what} {accepted:6} {name:5}: {spread(times[name], '8.0f')} ns a call{counted}")
-    ratios = [theirs / ours for ours, theirs in zip(times["ours"], times["plain"])]
-    print(f"{what} {accepted:6} ratio: {spread(ratios, '.2f')} of the plain ledger's calls a second", flush=True)
+    name = NAMES[what] if what == "hash" else f"{NAMES[what]}, {accepted:,} accepted before"
+    times = ([nanos for nanos, _ in seen] for seen in runs.values())
+    costs = [call_cost(program, what, accepted) for program in programs.values()]
+    row(name, "a plain Rust ledger", "ns", times, costs)
 
 
-def main(ours, plain, runs):
-    programs = {"ours": ours, "plain": plain}
+def main(ours, plain):
     for case in CASES:
-        measure(programs, int(runs), case)
+        measure({"ours": ours, "plain": plain}, case)
 
 
 main(*sys.argv[1:])

@@ -3,12 +3,13 @@ import os
 import sys
 
 sys.path.insert(0, os.path.join(os.path.dirname(os.path.abspath(__file__)), "..", "common"))
-from turns import instructions, lines_of, spread
+from turns import instructions, lines_of, row, take_turns
 
 BLOCKS, STEPS, HASHES = 20, 50_000, 200_000
 # The steps of a session, and how many hashes four sessions take: for five replies, and for two decoys.
-MIXES = {"logins": 16, "long sessions": 1_000}
+LENGTHS = 16, 1_000
 HASHED = 7
+PLAIN = "a plain Rust core"
 
 
 class Run:
@@ -21,15 +22,13 @@ class Run:
         (_, nanos, _), = lines_of(program, "hash", HASHES)
         self.hashing = nanos / 1e9 / HASHES * BLOCKS * STEPS / (4 * length) * HASHED
 
-    def total(self):
-        return sum(self.blocks)
+    def whole(self):
+        """The steps a second."""
+        return BLOCKS * STEPS / sum(self.blocks)
 
     def bare(self):
-        return self.total() - self.hashing
-
-    def flatness(self):
-        """The last block's rate as a part of the first one's."""
-        return self.blocks[0] / self.blocks[-1]
+        """The steps a second without the hash steps."""
+        return BLOCKS * STEPS / (sum(self.blocks) - self.hashing)
 
 
 def step_cost(program, length):
@@ -38,30 +37,23 @@ def step_cost(program, length):
     return None if few is None else (more - few) / STEPS
 
 
-def measure(programs, times, mix):
-    length = MIXES[mix]
-    runs = {name: [] for name in programs}
-    for _ in range(times):
-        for name, program in programs.items():
-            runs[name].append(Run(program, length))
-    if any(run.answers != runs["ours"][0].answers for each in runs.values() for run in each):
-        sys.exit(f"the programs differ in {mix}")
-    for name, program in programs.items():
-        first, last = ([STEPS / run.blocks[place] for run in runs[name]] for place in (0, -1))
-        cost = step_cost(program, length)
-        counted = "" if cost is None else f", {cost:.0f} instructions a step"
-        print(f"{mix}, {name:5}: first block {spread(first, ',.0f')} steps a second, last {spread(last, ',.0f')}{counted}")
-        print(f"{mix}, {name:5}: last at {spread([run.flatness() for run in runs[name]], '.2f')} of the first")
-    pairs = list(zip(runs["ours"], runs["plain"]))
-    whole = [plain.total() / ours.total() for ours, plain in pairs]
-    bare = [plain.bare() / ours.bare() for ours, plain in pairs]
-    print(f"{mix} ratio: {spread(whole, '.2f')} of the plain core's steps a second, {spread(bare, '.2f')} without hash steps",
-          flush=True)
+def measure(programs, length):
+    runs = take_turns(programs, lambda program: Run(program, length))
+    if any(run.answers != runs["ours"][0].answers for seen in runs.values() for run in seen):
+        sys.exit(f"the programs differ in sessions of {length} steps")
+    name = f"a step in sessions of {length:,} steps"
+    costs = [step_cost(program, length) for program in programs.values()]
+    row(name, PLAIN, "steps/s", ([run.whole() for run in seen] for seen in runs.values()), costs)
+    row(f"{name}, without hash steps", PLAIN, "steps/s", ([run.bare() for run in seen] for seen in runs.values()))
+    for of, seen in runs.items():
+        last, first = ([STEPS / run.blocks[place] for run in seen] for place in (-1, 0))
+        owner = "" if of == "ours" else f"{of}: "
+        row(f"{owner}{name}, the last of {BLOCKS} blocks", "its first block", "steps/s", (last, first))
 
 
-def main(ours, plain, times):
-    for mix in MIXES:
-        measure({"ours": ours, "plain": plain}, int(times), mix)
+def main(ours, plain):
+    for length in LENGTHS:
+        measure({"ours": ours, PLAIN: plain}, length)
 
 
 main(*sys.argv[1:])
