@@ -8,6 +8,7 @@ import re
 import shutil
 import statistics
 import subprocess
+import sys
 
 RUNS = int(os.environ.get("RUNS", "9"))  # the turns
 
@@ -33,7 +34,8 @@ def instructions(program, *words):
         return None
     command = ["valgrind", "--tool=callgrind", "--callgrind-out-file=/dev/null", program, *map(str, words)]
     said = subprocess.run(command, check=True, capture_output=True, text=True).stderr
-    return int(re.search(r"Collected : (\d+)", said).group(1))
+    found = re.search(r"Collected : (\d+)", said)
+    return int(found[1]) if found else sys.exit(f"valgrind counts nothing of {program}: {said[-200:]!r}")
 
 
 def ends(values):
