@@ -2,13 +2,13 @@
 
 A row is printed for people. Where ROWS names a file it is added to that too, as a line of JSON, for bench/run.
 """
+import functools
 import json
 import os
 import re
 import shutil
 import statistics
 import subprocess
-import sys
 
 RUNS = int(os.environ.get("RUNS", "9"))  # the turns
 
@@ -29,13 +29,19 @@ def take_turns(programs, run, turns=RUNS):
 
 
 def instructions(program, *words):
-    """How many instructions a program takes; none without valgrind."""
+    """How many instructions a program takes; none without valgrind, or where that can't run it."""
     if not shutil.which("valgrind"):
         return None
     command = ["valgrind", "--tool=callgrind", "--callgrind-out-file=/dev/null", program, *map(str, words)]
-    said = subprocess.run(command, check=True, capture_output=True, text=True).stderr
-    found = re.search(r"Collected : (\d+)", said)
-    return int(found[1]) if found else sys.exit(f"valgrind counts nothing of {program}: {said[-200:]!r}")
+    ran = subprocess.run(command, capture_output=True, text=True)
+    found = re.search(r"Collected : (\d+)", ran.stderr)
+    return int(found[1]) if found and ran.returncode == 0 else leave_out_count(program)
+
+
+@functools.lru_cache(maxsize=None)
+def leave_out_count(program):
+    """Says once of each program that it isn't counted."""
+    leave_out(f"the instructions of {os.path.basename(program)}", "valgrind can't run it")
 
 
 def ends(values):

@@ -47,7 +47,7 @@ def main(ours, twin):
             "a plain Rust twin, 1 thread": (twin, str(n), "1"),
         }
         events, costs = measure(commands, n, times)
-        if before and costs["ours"]:
+        if before and None not in costs.values():
             more = events - before[0]
             for name, cost in costs.items():
                 extra = (cost - before[1][name]) // more
