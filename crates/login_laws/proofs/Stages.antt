@@ -16,8 +16,8 @@ use Rattle.policy_model.specs.declared.event.Event.{Event}
 use Rattle.policy_model.specs.declared.phase.Phase.{Phase}
 use Rattle.policy_model.specs.declared.phase.Phase.TheVariants.{Pre, Challenged, Verified, User, Over}
 use Rattle.policy_model.specs.declared.reading.TheConstants.{DECOYS_FROM}
-use Rattle.policy_model.specs.Asks.{accepts, came_by_frame, ends_session, exports, is_denied_reply, is_login_step}
-use Rattle.policy_model.specs.Asks.{leaves, permits_kind, takes, takes_user, value_of}
+use Rattle.policy_model.specs.Asks.{accepts, came_by_frame, closes_file, ends_session, exports, is_denied_reply}
+use Rattle.policy_model.specs.Asks.{is_login_step, leaves, opens_file, permits_kind, takes, takes_user, value_of}
 use Rattle.policy_model.specs.Legal.{IsLegal, IsNext}
 use Rattle.policy_model.specs.Logins.{account_of, challenged_user, is_live, replies_of, verified_user}
 use Rattle.policy_model.specs.Phases.{is_over}
@@ -57,6 +57,8 @@ pub record IsQuiet (e : Event) : Type 0 where
   pub greets_none : permits_kind kinds.Banner e ≡ false
   pub imports_none : permits_kind kinds.Import e ≡ false
   pub takes_nobody : (user : Name) → takes_user user e ≡ false
+  pub opens_none : opens_file e ≡ false
+  pub closes_none : (handle : ℕ) → closes_file handle e ≡ false
 
 quiet_by : (e : Event) (ask : Ask) → is_talk ask ≡ true → IsQuiet (event_as e ask (Permit 0))
 quiet_by e (asks.ReadAt handle offset max) is =
@@ -72,6 +74,8 @@ quiet_by e (asks.ReadAt handle offset max) is =
       greets_none = refl;
       imports_none = refl;
       takes_nobody = λ user. refl;
+      opens_none = refl;
+      closes_none = λ handle. refl;
     }
 quiet_by e (asks.WriteAt handle offset len) is =
     record {
@@ -86,6 +90,8 @@ quiet_by e (asks.WriteAt handle offset len) is =
       greets_none = refl;
       imports_none = refl;
       takes_nobody = λ user. refl;
+      opens_none = refl;
+      closes_none = λ handle. refl;
     }
 quiet_by e (asks.Note text) is =
     record {
@@ -100,6 +106,8 @@ quiet_by e (asks.Note text) is =
       greets_none = refl;
       imports_none = refl;
       takes_nobody = λ user. refl;
+      opens_none = refl;
+      closes_none = λ handle. refl;
     }
 quiet_by e _ is = absurd cc
 

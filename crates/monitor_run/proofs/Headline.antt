@@ -31,7 +31,7 @@ use Rattle.service_model.proofs.Stories.{all_lost_ends, all_opened, never_stoppe
 use Rattle.session_loop.specs.Stories.{RoseBy, asks_among}
 use Rattle.monitor_run.specs.Headline.{AreFaultless, ConversationsMatch, EachScene, FaultEndsAreCounted, IsAnsweredWhole, IsFaultless, IsServedWhole, NoAcceptFailed, RunsToQuota, SessionsInOrder, SomeAcceptFailed, ends_by, ends_by_accept_fault, lost_by, openings_by}
 use Rattle.monitor_run.specs.Ran.{RunEnded, WorkerRan}
-use Rattle.welcome_laws.proofs.Welcomed.{users_get_in}
+use Rattle.welcome_laws.proofs.Welcomed.{users_are_served, users_get_in}
 
 -- ---- what the worker of each post did
 
@@ -239,6 +239,7 @@ answered_whole service failed journal posts scene faults run legal few range non
           (sym (ap (asks_among is_link_end) did.2.all) ∙ link) in
           let served = sittings_of service did.0 journal worker (scene post) (faults post) did.2 in
           let welcomed = users_get_in service journal legal few kept range ended worker did.2.sittings served each in
+          let files = users_are_served service journal legal few kept range ended worker did.2.sittings served each in
           IfSome-weaker (scene post) (IsStory did.2.sittings did.0) (IsServedWhole service journal worker)
           (λ s story. record {
             sittings = did.2.sittings;
@@ -247,4 +248,5 @@ answered_whole service failed journal posts scene faults run legal few range non
             story = story;
             answered = each;
             welcomed = welcomed;
+            files = files;
           }) did.2.story

@@ -22,6 +22,7 @@ use Rattle.service_model.specs.Ends.{is_fault_end, is_keeper_end, is_link_end}
 use Rattle.service_model.specs.Service.{Service}
 use Rattle.service_model.specs.Sittings.{AreAnswered, AreSittingsOf, Sitting}
 use Rattle.service_model.specs.Stories.{IsStory, LastAccept, is_stop}
+use Rattle.welcome_laws.specs.Files.{UsersAreServed}
 use Rattle.welcome_laws.specs.Welcome.{UsersGetIn}
 
 -- ---- the journal is legal
@@ -123,8 +124,8 @@ pub record IsFaultless {P : Type 0} (faults : P → Faults) (post : P) : Type 0 
 pub record AreFaultless {P : Type 0} (faults : P → Faults) (posts : List P) : Type 0 where
   pub each : (worker : ℕ) (post : P) → slice_get posts worker ≡ Some post → IsFaultless faults post
 
--- a worker's sessions are all its events, match what its post reports, got every answer, and welcomed each user who
--- came to log in
+-- a worker's sessions are all its events, match what its post reports, and got every answer; users who came to log in
+-- were welcomed and served their files
 pub record IsServedWhole (service : Service) (journal : List Event) (worker : ℕ) (s : Scene) : Type 0 where
   pub sittings : List Sitting
   pub last : LastAccept
@@ -132,6 +133,7 @@ pub record IsServedWhole (service : Service) (journal : List Event) (worker : �
   pub story : IsStory sittings last s
   pub answered : AllByRecursion (λ sitting. AreAnswered service [] sitting.parts) sittings
   pub welcomed : UsersGetIn service journal sittings
+  pub files : UsersAreServed service journal sittings
 
 -- no session ended by a fault, and each worker's sessions were served whole (`IsServedWhole`)
 pub record IsAnsweredWhole {P : Type 0} (service : Service) (scene : P → Option Scene) (journal : List Event)

@@ -42,7 +42,8 @@ use Rattle.login_laws.specs.Login.{is_talk}
 use Rattle.login_laws.proofs.Judged.{banner_permitted}
 use Rattle.login_laws.proofs.Stages.{Lasts, Stage, banner_on, more, nothing}
 use Rattle.login_laws.proofs.Walk.{State, own_session, start}
-use Rattle.welcome_laws.specs.Client.{AgreesWith, ClientSays, is_receiving}
+use Rattle.welcome_laws.specs.Client.{AgreesWith, is_receiving}
+use Rattle.welcome_laws.proofs.Saying.{SaysThen}
 use Rattle.welcome_laws.proofs.Lines.{IsWaiting, IsWhole, Tells, Waits, behind_shorter, first_next, greeted}
 use Rattle.welcome_laws.proofs.Lines.{greeted_next, so_far}
 use Rattle.welcome_laws.proofs.Lines.{waits_first, waits_more}
@@ -105,11 +106,11 @@ no_part done is = subst IsAside (sym is) tt
 pub clock_alone : (done : List Act) (now : ℕ) → done ≡ acts.Clock now ∷ [] → IsAside done
 clock_alone done now is = subst IsAside (sym is) tt
 
-aside_says : (lines bytes : List ℕ) (done later : List Act) → IsAside done → ClientSays lines bytes (done ++ later)
-    → ClientSays lines bytes later
-aside_says lines bytes [] later is client = client
-aside_says lines bytes (acts.Clock moment ∷ []) later is client = client
-aside_says lines bytes _ later is client = absurd is
+aside_says : (Last : List ℕ → Type 0) (lines bytes : List ℕ) (done later : List Act) → IsAside done
+    → SaysThen Last lines bytes (done ++ later) → SaysThen Last lines bytes later
+aside_says Last lines bytes [] later is client = client
+aside_says Last lines bytes (acts.Clock moment ∷ []) later is client = client
+aside_says Last lines bytes _ later is client = absurd is
 
 aside_counts : (done later : List Act) → IsAside done
     → count_by is_receiving (done ++ later) ≡ count_by is_receiving later
@@ -120,7 +121,8 @@ aside_counts _ later is = absurd is
 
 module _ (service : Service) (journal : List Event) (worker session : ℕ) (legal : IsLegal service.setup journal)
     (none : has_lost journal ≡ false) (small : session < 2 ^ 32) (end : PartEnd) (final : Option Step)
-    (rest unread : List ℕ) (ended : EndsSo service.setup.frames end final rest unread) (behind : List Place) where
+    (rest unread : List ℕ) (ended : EndsSo service.setup.frames end final rest unread) (behind : List Place)
+    (Last : List ℕ → Type 0) where
   -- the steps that are left, the session as it stands, and the step at which a request is served
   abbrev pub rest_of : List Step → List Step
   rest_of served =
@@ -142,7 +144,7 @@ module _ (service : Service) (journal : List Event) (worker session : ℕ) (lega
     pub steps : List Step
     pub now : Here (more 1 s) Q
         (had (say text) (Done []) ∷ history) steps
-    pub client : ClientSays lines bytes (step_acts
+    pub client : SaysThen Last lines bytes (step_acts
         (rest_of steps))
     pub received : receives (rest_of steps) ≡ receives (rest_of served)
 
@@ -151,7 +153,7 @@ module _ (service : Service) (journal : List Event) (worker session : ℕ) (lega
       → Here s Q history served
       → pre_next history ≡ Some (say text) → 1 ≤ length text → length text ≤ 16000 → length history < 4097
       → is_over_phase s.phase ≡ false → s.asked < service.setup.requests
-      → ClientSays lines bytes (step_acts (rest_of served)) → Said s Q history served lines bytes text
+      → SaysThen Last lines bytes (step_acts (rest_of served)) → Said s Q history served lines bytes text
   says s Q history served lines bytes text lasts now next some few short live asked client =
       let v = next_served service journal worker session legal none small Pre [] end final rest unread ended behind
       (say text) s Q history served lasts now next (lit< tt, lit< tt, some, few) short in
@@ -159,14 +161,14 @@ module _ (service : Service) (journal : List Event) (worker session : ℕ) (lega
       let t = talks service journal worker session legal none small Pre [] end final rest unread ended behind (say text)
       s Q history served lasts v (ap is_talk ask) live asked in
       let sent = says_text service v.step text (lit< tt, lit< tt, some, few) v.is v.meets.message ask t.permit in
-      let client' : ClientSays lines bytes (acts.ConnSend text sent.0 ∷ step_acts v.left) = subst
-      (λ done. ClientSays lines bytes (done ++ step_acts v.left)) sent.1
-      (subst (λ steps. ClientSays lines bytes (step_acts steps)) v.are client) in
+      let client' : SaysThen Last lines bytes (acts.ConnSend text sent.0 ∷ step_acts v.left) = subst
+      (λ done. SaysThen Last lines bytes (done ++ step_acts v.left)) sent.1
+      (subst (λ steps. SaysThen Last lines bytes (step_acts steps)) v.are client) in
       by_outcome v t sent.0 sent.1 client' where
         by_outcome : (v : Met (say text) s Q history served) → Talks service journal worker session legal none small Pre [] end
             final rest unread ended behind s Q v.step → (outcome : Result (Unit {0}) Failed)
             → v.step.acts ≡ acts.ConnSend text outcome ∷ []
-            → ClientSays lines bytes (acts.ConnSend text outcome ∷ step_acts v.left)
+            → SaysThen Last lines bytes (acts.ConnSend text outcome ∷ step_acts v.left)
             → Said s Q history served lines bytes text
         by_outcome v t (Err failed) is client' = absurd client'
         by_outcome v t (Ok done) is client' =
@@ -178,7 +180,7 @@ module _ (service : Service) (journal : List Event) (worker session : ℕ) (lega
             record {
               steps = b.more;
               now = b.now;
-              client = subst (λ steps. ClientSays lines bytes (step_acts steps)) b.left_is client';
+              client = subst (λ steps. SaysThen Last lines bytes (step_acts steps)) b.left_is client';
               received = ap receives (sym b.left_is) ∙ none_more (receives v.left)
                   ∙ sym (ap receives v.are ∙ ap (λ done. count_by is_receiving (done ++ step_acts v.left)) is
                   ∙ count-cons is_receiving (acts.ConnSend text (Ok done)) (step_acts v.left));
@@ -197,7 +199,7 @@ module _ (service : Service) (journal : List Event) (worker session : ℕ) (lega
     pub served_is : served ≡ step ∷ steps
     pub now : Here (more 1 s) Q
         (had read_more (Done (c ∷ body)) ∷ history) steps
-    pub client : ClientSays lines (bytes ++ c ∷ body)
+    pub client : SaysThen Last lines (bytes ++ c ∷ body)
         (step_acts (rest_of steps))
     pub received : receives (rest_of served) ≡ receives (rest_of steps) + 1
 
@@ -206,7 +208,7 @@ module _ (service : Service) (journal : List Event) (worker session : ℕ) (lega
       → Here s Q history served
       → pre_next history ≡ Some read_more → length history < 4097 → is_over_phase s.phase ≡ false
       → s.asked < service.setup.requests
-      → ClientSays lines bytes (step_acts (rest_of served)) → Read s Q history served lines bytes
+      → SaysThen Last lines bytes (step_acts (rest_of served)) → Read s Q history served lines bytes
   reads s Q history served lines bytes lasts now next short live asked client =
       let v = next_served service journal worker session legal none small Pre [] end final rest unread ended behind
       read_more s Q history served lasts now next (lit< tt, lit< tt, lit≤ tt, lit≤ tt) short in
@@ -214,14 +216,14 @@ module _ (service : Service) (journal : List Event) (worker session : ℕ) (lega
       let t = talks service journal worker session legal none small Pre [] end final rest unread ended behind read_more
       s Q history served lasts v (ap is_talk ask) live asked in
       let got = receives_bytes service v.step v.step.message 512 v.is.acts ask t.permit in
-      let client' : ClientSays lines bytes (acts.ConnRecv 512 got.0 ∷ step_acts v.left) = subst
-      (λ done. ClientSays lines bytes (done ++ step_acts v.left)) got.1
-      (subst (λ steps. ClientSays lines bytes (step_acts steps)) v.are client) in
+      let client' : SaysThen Last lines bytes (acts.ConnRecv 512 got.0 ∷ step_acts v.left) = subst
+      (λ done. SaysThen Last lines bytes (done ++ step_acts v.left)) got.1
+      (subst (λ steps. SaysThen Last lines bytes (step_acts steps)) v.are client) in
       by_outcome v t got.0 got.1 client' where
         by_outcome : (v : Met read_more s Q history served) → Talks service journal worker session legal none small Pre [] end
             final rest unread ended behind s Q v.step → (outcome : Result (List ℕ) Failed)
             → v.step.acts ≡ acts.ConnRecv 512 outcome ∷ []
-            → ClientSays lines bytes (acts.ConnRecv 512 outcome ∷ step_acts v.left)
+            → SaysThen Last lines bytes (acts.ConnRecv 512 outcome ∷ step_acts v.left)
             → Read s Q history served lines bytes
         by_outcome v t (Err failed) is client' = absurd client'
         by_outcome v t (Ok []) is client' = absurd (omega (arith, client'.0))
@@ -245,7 +247,7 @@ module _ (service : Service) (journal : List Event) (worker session : ℕ) (lega
               steps = b.more;
               served_is = b.served_is;
               now = b.now;
-              client = subst (λ steps. ClientSays lines (bytes ++ c ∷ body) (step_acts steps)) b.left_is client'.3;
+              client = subst (λ steps. SaysThen Last lines (bytes ++ c ∷ body) (step_acts steps)) b.left_is client'.3;
               received = ap receives v.are ∙ ap (λ done. count_by is_receiving (done ++ step_acts v.left)) is
                   ∙ count-cons is_receiving (acts.ConnRecv 512 (Ok (c ∷ body))) (step_acts v.left)
                   ∙ ap (λ n. 1 + n) (ap receives b.left_is) ∙ one_last
@@ -258,7 +260,7 @@ module _ (service : Service) (journal : List Event) (worker session : ℕ) (lega
       (history : List Exchange) (served : List Step) (lines bytes : List ℕ) : Type 0 where
     pub steps : List Step
     pub now : Here next R (had request answer ∷ history) steps
-    pub client : ClientSays lines bytes (step_acts (rest_of steps))
+    pub client : SaysThen Last lines bytes (step_acts (rest_of steps))
     pub received : receives (rest_of steps) ≡ receives (rest_of served)
 
   pub asked_aside : (request : RequestValue) (answer : AnswerValue) (s next : State) (Q R : List Event → Type 0)
@@ -268,18 +270,18 @@ module _ (service : Service) (journal : List Event) (worker session : ℕ) (lega
       → Stage service.setup journal worker session next R (v.step.place.before ++ v.step.place.event ∷ [])
       → answer_to service [] v.step ≡ spelling_of service.setup.frames
       (reply_message (request_message request) session answer) → IsReadable session request answer
-      → IsAside v.step.acts → ClientSays lines bytes (step_acts (rest_of served))
+      → IsAside v.step.acts → SaysThen Last lines bytes (step_acts (rest_of served))
       → Asked request answer next R history served lines bytes
   asked_aside request answer s next Q R history served lines bytes v some few going unexported stage told read aside
       client =
       let b = answered_now service journal worker session legal none small Pre [] end final rest unread ended behind
       request answer s next Q R history served v some few going unexported stage told read in
-      let client' = aside_says lines bytes v.step.acts (step_acts v.left) aside
-      (subst (λ steps. ClientSays lines bytes (step_acts steps)) v.are client) in
+      let client' = aside_says Last lines bytes v.step.acts (step_acts v.left) aside
+      (subst (λ steps. SaysThen Last lines bytes (step_acts steps)) v.are client) in
       record {
         steps = b.more;
         now = b.now;
-        client = subst (λ steps. ClientSays lines bytes (step_acts steps)) b.left_is client';
+        client = subst (λ steps. SaysThen Last lines bytes (step_acts steps)) b.left_is client';
         received = ap receives (sym b.left_is) ∙ sym (aside_counts v.step.acts (step_acts v.left) aside)
             ∙ sym (ap receives v.are);
       }
@@ -296,7 +298,7 @@ module _ (service : Service) (journal : List Event) (worker session : ℕ) (lega
     pub waits : Waits count challenged bytes history
     pub has : HasLines count bytes
     pub agrees : AgreesWith lines bytes
-    pub client : ClientSays lines bytes (step_acts (rest_of steps))
+    pub client : SaysThen Last lines bytes (step_acts (rest_of steps))
     pub held : length (behind_lines count bytes) ≤ 812
     pub sum : length bytes ≤ 512 * asked
     pub spent : asked + receives (rest_of steps) ≤ left
@@ -314,7 +316,7 @@ module _ (service : Service) (journal : List Event) (worker session : ℕ) (lega
     pub waits : Waits count challenged bytes history
     pub whole : IsWhole count lines bytes
     pub agrees : AgreesWith lines bytes
-    pub client : ClientSays lines bytes (step_acts (rest_of steps))
+    pub client : SaysThen Last lines bytes (step_acts (rest_of steps))
     pub held : length (behind_lines count bytes) ≤ 812
     pub sum : length bytes ≤ 512 * asked
     pub spent : asked + receives (rest_of steps) ≤ left
@@ -413,7 +415,7 @@ module _ (service : Service) (journal : List Event) (worker session : ℕ) (lega
     pub tells : Tells count challenged bytes text history
     pub whole : IsWhole count lines bytes
     pub agrees : AgreesWith lines bytes
-    pub client : ClientSays lines bytes (step_acts (rest_of steps))
+    pub client : SaysThen Last lines bytes (step_acts (rest_of steps))
     pub held : length (behind_lines count bytes) ≤ 812
     pub sum : length bytes ≤ 512 * asked
     pub spent : asked + 1 + receives (rest_of steps) ≤ left
@@ -460,7 +462,7 @@ module _ (service : Service) (journal : List Event) (worker session : ℕ) (lega
 
   pub opened : IsSetupInRange service.setup → (lines : List ℕ) → HasLines 1 lines
       → ((e : ℕ) → line_end lines ≡ Some e → e ≤ 300) → (served : List Step) → Here start Nothing [] served
-      → ClientSays lines [] (step_acts (rest_of served)) → receives (rest_of served) + 8 ≤ service.setup.requests
+      → SaysThen Last lines [] (step_acts (rest_of served)) → receives (rest_of served) + 8 ≤ service.setup.requests
       → Lined 0 false (line_state false 0 0) Nothing lines (receives (rest_of served) + 2)
   unfolding operations_of
   opened range lines whole short served now client room =

@@ -405,7 +405,7 @@ state_short state is =
 
 -- ---- the text of a denial, and of a challenge
 
-decimal_short : (n : ℕ) → n ≤ 9999 → length (decimal n) ≤ 4
+pub decimal_short : (n : ℕ) → n ≤ 9999 → length (decimal n) ≤ 4
 decimal_short n le =
     subst (λ (ds : List ℕ). length ds ≤ 4) (short_digits-decimal n le)
     (omega (arith, length-drop (leading_zeros n) (four_digits n)))

@@ -39,7 +39,7 @@ use Rattle.service_model.specs.Acts.{ReadsClock, failed_device, operations_by, o
 use Rattle.service_model.specs.Answers.{challenge_text, decoy_challenge_text}
 use Rattle.service_model.specs.Cases.{account_challenge_text}
 use Rattle.service_model.specs.Parts.{EndsSo, PartEnd}
-use Rattle.service_model.specs.Places.{Step, step_places}
+use Rattle.service_model.specs.Places.{Step, step_acts, step_places}
 use Rattle.service_model.specs.Service.{Service}
 use Rattle.service_model.proofs.Lists.{count-cons}
 use Rattle.login_laws.specs.Login.{ComesAfter}
@@ -47,8 +47,9 @@ use Rattle.login_laws.proofs.Stages.{IsLogged, Lasts, event_as, nothing, reply_o
 use Rattle.login_laws.proofs.Tries.{IsJudgedChallenge, IsJudgedReply, abandon_permitted, challenge_judged, reply_judged}
 use Rattle.login_laws.proofs.Tries.{request_on, taking_few}
 use Rattle.login_laws.proofs.Walk.{Next, State, own_session}
-use Rattle.welcome_laws.specs.Client.{AreEarlier, BeginWith, is_response, may_open}
-use Rattle.welcome_laws.specs.Welcome.{AcceptsNobodyElse}
+use Rattle.welcome_laws.specs.Client.{AgreesWith, AreEarlier, BeginWith, is_response, may_open}
+use Rattle.welcome_laws.specs.Welcome.{AcceptsNobodyElse, texts_told}
+use Rattle.welcome_laws.proofs.Saying.{SaysThen}
 use Rattle.welcome_laws.proofs.Before as child
 use Rattle.welcome_laws.proofs.Before.{Nothing, clock_alone, line_state, live_phase, no_part, short_denial, short_reply}
 use Rattle.welcome_laws.proofs.Before.{verified_state}
@@ -100,7 +101,8 @@ either_way false b h = h
 
 module _ (service : Service) (journal : List Event) (worker session : ℕ) (legal : IsLegal service.setup journal)
     (none : has_lost journal ≡ false) (small : session < 2 ^ 32) (end : PartEnd) (final : Option Step)
-    (rest unread : List ℕ) (ended : EndsSo service.setup.frames end final rest unread) (behind : List Place) where
+    (rest unread : List ℕ) (ended : EndsSo service.setup.frames end final rest unread) (behind : List Place)
+    (Last : List ℕ → Type 0) where
   -- ---- where the session stands, of this child's part
 
   abbrev rest_of : List Step → List Step
@@ -123,18 +125,18 @@ module _ (service : Service) (journal : List Event) (worker session : ℕ) (lega
 
   abbrev Lined : ℕ → Bool → State → (List Event → Type 0) → List ℕ → ℕ → Type 0
   Lined count challenged s Q lines left =
-      child.Lined service journal worker session legal none small end final rest unread ended behind count challenged s
+      child.Lined service journal worker session legal none small end final rest unread ended behind Last count challenged s
       Q lines left
 
   abbrev Answering : ℕ → Bool → State → (List Event → Type 0) → List ℕ → List ℕ → ℕ → Type 0
   Answering count challenged s Q lines text left =
-      child.Answering service journal worker session legal none small end final rest unread ended behind count
+      child.Answering service journal worker session legal none small end final rest unread ended behind Last count
       challenged s Q lines text left
 
   abbrev Asked : RequestValue → AnswerValue → State → (List Event → Type 0) → List Exchange → List Step → List ℕ
       → List ℕ → Type 0
   Asked request answer next R history served lines bytes =
-      child.Asked service journal worker session legal none small end final rest unread ended behind request answer next
+      child.Asked service journal worker session legal none small end final rest unread ended behind Last request answer next
       R history served lines bytes
 
   -- ---- a line that is answered at once
@@ -221,7 +223,7 @@ module _ (service : Service) (journal : List Event) (worker session : ℕ) (lega
       let idle = no_acts v.step.acts (v.is.acts.operations ∙ no_operations p v.step.message ask) in
       let told' = answer_done service [] session requests.Abandon v.step asks.Abandon 0 v.meets.message own ask permit
       (λ len e. absurd cc) (ap (filter_map failed_device) idle) in
-      let b = child.asked_aside service journal worker session legal none small end final rest unread ended behind requests.Abandon (Done []) s (line_state false (l.asked + 1) tried) Nothing Nothing l.history
+      let b = child.asked_aside service journal worker session legal none small end final rest unread ended behind Last requests.Abandon (Done []) s (line_state false (l.asked + 1) tried) Nothing Nothing l.history
       l.steps lines l.bytes v next short
       (event_by (λ e. ends_session e ≡ false) p.event asks.Abandon (Permit 0) ask permit refl)
       (event_by (λ e. exports e ≡ false) p.event asks.Abandon (Permit 0) ask permit refl)
@@ -344,7 +346,7 @@ module _ (service : Service) (journal : List Event) (worker session : ℕ) (lega
             (ap (line_state true (l.asked + 1)) (no_more_tried tried)) in
             let told' = answer_done service [] session (requests.Challenge name) v.step (asks.Challenge user now) value
             v.meets.message own ask permit (λ len e. absurd cc) (ap (filter_map failed_device) clock) in
-            let b = child.asked_aside service journal worker session legal none small end final rest unread ended behind (requests.Challenge name) (Done text) s (line_state true (l.asked + 1) tried) Nothing
+            let b = child.asked_aside service journal worker session legal none small end final rest unread ended behind Last (requests.Challenge name) (Done text) s (line_state true (l.asked + 1) tried) Nothing
             Nothing l.history l.steps lines l.bytes v next short
             (event_by (λ e. ends_session e ≡ false) p.event (asks.Challenge user now) (Permit value) ask permit refl)
             (event_by (λ e. exports e ≡ false) p.event (asks.Challenge user now) (Permit value) ask permit refl)
@@ -376,7 +378,7 @@ module _ (service : Service) (journal : List Event) (worker session : ℕ) (lega
             (ap (line_state false (l.asked + 1)) (no_more_tried tried)) in
             let told' = answer_denied service [] session (requests.Challenge name) v.step 12 detail v.meets.message own
             (ap shown_of deny) in
-            let b = child.asked_aside service journal worker session legal none small end final rest unread ended behind (requests.Challenge name) (Denied 12 detail) s (line_state false (l.asked + 1) tried)
+            let b = child.asked_aside service journal worker session legal none small end final rest unread ended behind Last (requests.Challenge name) (Denied 12 detail) s (line_state false (l.asked + 1) tried)
             Nothing Nothing l.history l.steps lines l.bytes v next short
             (event_by (λ e. ends_session e ≡ false) p.event (asks.Challenge user now) (Deny 12 detail) ask deny refl)
             (event_by (λ e. exports e ≡ false) p.event (asks.Challenge user now) (Deny 12 detail) ask deny refl)
@@ -402,7 +404,7 @@ module _ (service : Service) (journal : List Event) (worker session : ℕ) (lega
   -- ---- `resp`, where a challenge is open
 
   -- after a REPLY that was accepted
-  pub record Accepted (user : Name) (account : Account) (left : ℕ) : Type 0 where
+  pub record Accepted (user : Name) (account : Account) (lines : List ℕ) (left : ℕ) : Type 0 where
     pub before : List Event
     pub reply : Event
     pub replied : ComesAfter journal before reply
@@ -424,6 +426,11 @@ module _ (service : Service) (journal : List Event) (worker session : ℕ) (lega
     pub spent : asked ≤ left
     pub had_few : length history < asked
     pub counted : count < asked
+    pub told : texts_told before session ≡ suc count
+    pub has : HasLines (suc count) lines
+    pub whole : HasLines (suc count) bytes
+    pub agrees : AgreesWith lines bytes
+    pub client : SaysThen Last lines bytes (step_acts (rest_of steps))
 
   pub no_operations : (p : Place) (message : Option Message) (words hex : Option ℕ) → p.event.ask ≡ asks.Reply words hex
       → operations_of service.setup p message ≡ []
@@ -433,10 +440,11 @@ module _ (service : Service) (journal : List Event) (worker session : ℕ) (lega
   responded : (user : Name) (account : Account) (count tried : ℕ) (lines line response : List ℕ) (left total : ℕ) → left + 1 ≤ total
       → left + 2 ≤ service.setup.requests → service.setup.requests ≤ 4096
       → front_of (behind_lines count lines) ≡ Line line → pre_command line ≡ commands.Respond response
-      → AcceptsNobodyElse service.setup journal session user account → Lined count true (line_state true 0 tried) Nothing lines left
-      → Accepted user account total
+      → AcceptsNobodyElse service.setup journal session user account → HasLines (suc count) lines
+      → Lined count true (line_state true 0 tried) Nothing lines left
+      → Accepted user account lines total
       ⊎ Answering count false (line_state false 0 (tried + 1)) Nothing lines (denied_text 16) (left + 2)
-  responded user account count tried lines line response left total within room most front is only l =
+  responded user account count tried lines line response left total within room most front is only has l =
       by_decision p.event.decision refl (reply_judged service.setup journal worker session s p.before p.event words hex
       n.holds.at n.comes n.own refl (omega (arith, l.spent, room)) ask) where
         lasts : Lasts service.setup journal worker session Nothing
@@ -479,14 +487,14 @@ module _ (service : Service) (journal : List Event) (worker session : ℕ) (lega
         idle : v.step.acts ≡ []
         idle = no_acts v.step.acts (v.is.acts.operations ∙ no_operations p v.step.message words hex ask)
 
-        permitted : (value : ℕ) → p.event.decision ≡ Permit value → Accepted user account total
+        permitted : (value : ℕ) → p.event.decision ≡ Permit value → Accepted user account lines total
         permitted value permit =
             let yes = event_by (λ e. accepts e ≡ true) p.event (asks.Reply words hex) (Permit value) ask permit refl in
             let on = reply_on service.setup journal worker session s p.before p.event user words hex value n.holds.at
             n.comes n.own refl ask permit (only.only p.before p.event n.comes.stands own yes) in
             let told' = answer_done service [] session (requests.Reply response) v.step (asks.Reply words hex) value
             v.meets.message own ask permit (λ len e. absurd cc) (ap (filter_map failed_device) idle) in
-            let b = child.asked_aside service journal worker session legal none small end final rest unread ended behind (requests.Reply response) (Done []) s (verified_state (l.asked + 1) tried) Nothing
+            let b = child.asked_aside service journal worker session legal none small end final rest unread ended behind Last (requests.Reply response) (Done []) s (verified_state (l.asked + 1) tried) Nothing
             (IsLogged service.setup journal worker session user) l.history l.steps lines l.bytes v next short
             (event_by (λ e. ends_session e ≡ false) p.event (asks.Reply words hex) (Permit value) ask permit refl)
             (event_by (λ e. exports e ≡ false) p.event (asks.Reply words hex) (Permit value) ask permit refl)
@@ -514,6 +522,11 @@ module _ (service : Service) (journal : List Event) (worker session : ℕ) (lega
               spent = omega (arith, l.spent, within);
               had_few = omega (arith, l.had_few);
               counted = omega (arith, l.counted);
+              told = n.holds.told refl ∙ l.waits.texts;
+              has = has;
+              whole = l.whole.whole;
+              agrees = l.agrees;
+              client = b.client;
             }
 
         denied : (rule detail : ℕ) → p.event.decision ≡ Deny rule detail
@@ -530,7 +543,7 @@ module _ (service : Service) (journal : List Event) (worker session : ℕ) (lega
             ∙ ap (λ b. cond b (Deny 16 0) (Deny rule detail)) login in
             let told' = answer_denied service [] session (requests.Reply response) v.step 16 0 v.meets.message own shown
             in
-            let b = child.asked_aside service journal worker session legal none small end final rest unread ended behind (requests.Reply response) (Denied 16 0) s
+            let b = child.asked_aside service journal worker session legal none small end final rest unread ended behind Last (requests.Reply response) (Denied 16 0) s
             (line_state false (l.asked + 1) (tried + 1)) Nothing Nothing l.history l.steps lines l.bytes v next short
             (event_by (λ e. ends_session e ≡ false) p.event (asks.Reply words hex) (Deny rule detail) ask deny goes)
             (event_by (λ e. exports e ≡ false) p.event (asks.Reply words hex) (Deny rule detail) ask deny refl)
@@ -541,7 +554,7 @@ module _ (service : Service) (journal : List Event) (worker session : ℕ) (lega
             (denied_text 16) left (requests.Reply response) (Denied 16 0) l b
             (tells_wrong count true l.bytes response l.history l.waits)
 
-        by_decision : (d : Decision) → p.event.decision ≡ d → IsJudgedReply d → Accepted user account total
+        by_decision : (d : Decision) → p.event.decision ≡ d → IsJudgedReply d → Accepted user account lines total
             ⊎ Answering count false (line_state false 0 (tried + 1)) Nothing lines (denied_text 16) (left + 2)
         by_decision (Permit value) is judged = inl (permitted value is)
         by_decision (Deny rule detail) is judged = inr (denied rule detail is judged)
@@ -592,16 +605,16 @@ module _ (service : Service) (journal : List Event) (worker session : ℕ) (lega
         → front_of (behind_lines count lines) ≡ Line line → pre_command line ≡ command → is_quit command ≡ false
         → (challenged ≡ true → may ≡ true)
         → (is_response command ≡ true → AcceptsNobodyElse service.setup journal session user account)
-        → Lined count challenged (line_state challenged 0 tried) Nothing lines left
-        → Accepted user account total ⊎ Passed may count tried lines left command
+        → HasLines (suc count) lines → Lined count challenged (line_state challenged 0 tried) Nothing lines left
+        → Accepted user account lines total ⊎ Passed may count tried lines left command
     passed may count tried challenged line left total (commands.Terminal text) within room tries front is stays open_so
-        only l =
+        only has l =
         inr (at_text may count tried challenged line (codes "done\n") left (commands.Terminal text) front
         (ap (λ c. pre_request c challenged) is) (lit≤ tt, lit≤ tt) open_so l)
-    passed may count tried true line left total (commands.User name) within room tries front is stays open_so only l =
+    passed may count tried true line left total (commands.User name) within room tries front is stays open_so only has l =
         inr (at_text may count tried true line (codes "what\n") left (commands.User name) front
         (ap (λ c. pre_request c true) is) (lit≤ tt, lit≤ tt) (λ yes. refl) l)
-    passed may count tried false line left total (commands.User name) within room tries front is stays open_so only l =
+    passed may count tried false line left total (commands.User name) within room tries front is stays open_so only has l =
         let n = named numbers count tried lines line name left tries room most front is l in
         inr (record {
           challenged = n.challenged;
@@ -612,9 +625,9 @@ module _ (service : Service) (journal : List Event) (worker session : ℕ) (lega
           tried_so = omega arith;
           answering = n.answering;
         })
-    passed may count tried true line left total (commands.Respond text) within room tries front is stays open_so only
+    passed may count tried true line left total (commands.Respond text) within room tries front is stays open_so only has
         l =
-        elim (responded user account count tried lines line text left total within room most front is (only refl) l) [
+        elim (responded user account count tried lines line text left total within room most front is (only refl) has l) [
           | inl a ↦ inl a
           | inr answering ↦ inr (record {
             challenged = false;
@@ -626,11 +639,11 @@ module _ (service : Service) (journal : List Event) (worker session : ℕ) (lega
             answering = answering;
           })
         ]
-    passed may count tried false line left total (commands.Respond text) within room tries front is stays open_so only
+    passed may count tried false line left total (commands.Respond text) within room tries front is stays open_so only has
         l =
         inr (at_text may count tried false line (codes "what\n") left (commands.Respond text) front
         (ap (λ c. pre_request c false) is) (lit≤ tt, lit≤ tt) (λ yes. absurd cc) l)
-    passed may count tried true line left total commands.Cancel within room tries front is stays open_so only l =
+    passed may count tried true line left total commands.Cancel within room tries front is stays open_so only has l =
         inr (record {
           challenged = false;
           tries = tried;
@@ -640,12 +653,12 @@ module _ (service : Service) (journal : List Event) (worker session : ℕ) (lega
           tried_so = omega arith;
           answering = cancelled count tried lines line left room most front is l;
         })
-    passed may count tried false line left total commands.Cancel within room tries front is stays open_so only l =
+    passed may count tried false line left total commands.Cancel within room tries front is stays open_so only has l =
         inr (at_text may count tried false line (codes "what\n") left commands.Cancel front
         (ap (λ c. pre_request c false) is) (lit≤ tt, lit≤ tt) (λ yes. absurd cc) l)
-    passed may count tried challenged line left total commands.Quit within room tries front is stays open_so only l =
+    passed may count tried challenged line left total commands.Quit within room tries front is stays open_so only has l =
         absurd cc
-    passed may count tried challenged line left total commands.Other within room tries front is stays open_so only l =
+    passed may count tried challenged line left total commands.Other within room tries front is stays open_so only has l =
         inr (at_text may count tried challenged line (codes "what\n") left commands.Other front
         (ap (λ c. pre_request c challenged) is) (lit≤ tt, lit≤ tt) open_so l)
 
@@ -658,7 +671,7 @@ module _ (service : Service) (journal : List Event) (worker session : ℕ) (lega
         → tried + count_by is_response earlier < service.setup.tries
         → (list_any is_response earlier ≡ true → AcceptsNobodyElse service.setup journal session user account)
         → Lined count challenged (line_state challenged 0 tried) Nothing lines left
-        → Accepted user account total ⊎ Come lines command others place total
+        → Accepted user account lines total ⊎ Come lines command others place total
     all_passed command others [] may count tried challenged place left total at is room has begin stays open_so closed tries only
         l =
         let shut : challenged ≡ false = none_open challenged may open_so closed in
@@ -686,12 +699,12 @@ module _ (service : Service) (journal : List Event) (worker session : ℕ) (lega
         let first = first_line command others earlier (behind_lines (suc count) lines) begin.1 in
         elim (passed may count tried challenged begin.0.text left total c (omega (arith, is)) (omega (arith, is, room))
         (omega (arith, tries)) begin.0.front begin.0.is all.0 open_so
-        (λ yes. only (ap (λ b. b || list_any is_response earlier) yes)) l) [
+        (λ yes. only (ap (λ b. b || list_any is_response earlier) yes)) whole l) [
           | inl a ↦ inl a
           | inr p ↦ all_passed command others earlier (may_open may c) (suc count) p.tries p.challenged place
               (left + 2) total (omega (arith, at)) (omega (arith, is)) room whole begin.1 all.1 p.open_so closed (omega (arith, tries, counted, p.tried_so))
               (λ yes. only (either_way (is_response c) (list_any is_response earlier) yes))
-              (child.told service journal worker session legal none small end final rest unread ended behind count
+              (child.told service journal worker session legal none small end final rest unread ended behind Last count
               p.challenged (line_state p.challenged 0 p.tries) Nothing lines begin.0.text p.text (left + 2)
               (nothing service.setup journal worker session) (whole, ap is_some first.whole)
               (only_end (line_end (behind_lines (suc count) lines)) first.end first.whole first.short) begin.0.front
@@ -704,7 +717,7 @@ module _ (service : Service) (journal : List Event) (worker session : ℕ) (lega
         → BeginWith (earlier ++ (command ∷ others)) lines → AreEarlier service.setup.tries earlier
         → (list_any is_response earlier ≡ true → AcceptsNobodyElse service.setup journal session user account)
         → Lined 0 false (line_state false 0 0) Nothing lines left
-        → Accepted user account (left + 2 * length earlier) ⊎ Come lines command others (length earlier)
+        → Accepted user account lines (left + 2 * length earlier) ⊎ Come lines command others (length earlier)
         (left + 2 * length earlier)
     tried_all command others earlier left room begin are only l =
         all_passed command others earlier false 0 0 false (length earlier) left (left + 2 * length earlier) (omega arith)
