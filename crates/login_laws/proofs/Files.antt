@@ -1,5 +1,5 @@
 -- What is decided of the files of a session that is logged in, and what it makes of them.
-use Rattle.std.proofs.Common.{◌≡◌, ◌≢◌, ℕ, ◌<◌, Bool, true, false, not, cond, eqb, nat_le, List, [], ◌∷◌, ◌++◌}
+use Rattle.std.proofs.Common.{◌≡◌, ℕ, ◌<◌, Bool, true, false, not, cond, eqb, nat_le, List, [], ◌∷◌, ◌++◌}
 use Rattle.std.proofs.Common.{length, Option, Some, None, refl, sym, ap, subst, ◌∙◌, eq-eqb, filter}
 use Rattle.std.specs.Prelude.{◌==◌, ◌||◌, is_none, unwrap_or}
 use Rattle.std.specs.List.{find}
@@ -19,19 +19,19 @@ use Rattle.policy_model.specs.declared.phase.Phase.TheVariants.{User}
 use Rattle.policy_model.specs.Asks.{accepts, came_by_frame, closes_file, kind_of, mode_of, opens_file, permits_kind}
 use Rattle.policy_model.specs.Asks.{value_of}
 use Rattle.policy_model.specs.Cases.{account_named, grant_verdict, grants_of, handle_of, use_verdict}
-use Rattle.policy_model.specs.Handles.{free_handle_of, handle_opening, live_handles_of}
+use Rattle.policy_model.specs.Handles.{handle_opening, live_handles_of}
 use Rattle.policy_model.specs.Journal.{has_event}
 use Rattle.policy_model.specs.Logins.{account_of, challenged_user, verified_user}
 use Rattle.policy_model.specs.Phases.{table_row}
 use Rattle.policy_model.specs.Settings.{Settings, same_label}
-use Rattle.policy_model.specs.Verdict.{allows, close_verdict, handle_verdict, kind_verdict, open_verdict}
+use Rattle.policy_model.specs.Verdict.{allows, kind_verdict, open_verdict}
 use Rattle.session_laws.specs.Handled.{handles_after}
 use Rattle.session_laws.specs.Judged.{cell_decision, is_over_phase}
 use Rattle.session_laws.proofs.HandleSteps.{live_handles_of-other, live_handles_of-own}
 use Rattle.session_laws.proofs.Judging.{close_is, read_is, write_is}
 use Rattle.session_laws.proofs.UserLemmas.{verified_user-other, verified_user-own}
 use Rattle.login_laws.proofs.Judged.{decided}
-use Rattle.login_laws.proofs.Stages.{IsQuiet, Lasts, event_as, spelled}
+use Rattle.login_laws.proofs.Stages.{Lasts, spelled}
 use Rattle.login_laws.proofs.Walk.{At, Comes, State, not_own}
 
 -- what neither opens nor closes a file leaves the open ones

@@ -1,6 +1,6 @@
 -- The user's child does what its client's lines ask of its files.
-use Rattle.std.proofs.Common.{◌≡◌, ℕ, zero, suc, ◌+◌, ◌*◌, ◌<◌, ◌≤◌, ◌^◌, Bool, true, false, ◌&&◌, List, [], ◌∷◌, ◌++◌}
-use Rattle.std.proofs.Common.{length, Option, Some, Ok, refl, sym, ap, subst, ◌∙◌, append_assoc, arith, inl, inr}
+use Rattle.std.proofs.Common.{◌≡◌, ℕ, zero, suc, ◌+◌, ◌*◌, ◌<◌, ◌≤◌, ◌^◌, true, false, List, [], ◌∷◌, ◌++◌}
+use Rattle.std.proofs.Common.{length, Option, Some, Ok, refl, sym, ap, subst, ◌∙◌, arith, inl, inr}
 use Rattle.std.proofs.Common.{lit≤}
 use Rattle.std.specs.Prelude.{codes, is_some}
 use Rattle.std.specs.Fmt.{decimal}
@@ -8,7 +8,6 @@ use Rattle.std.specs.Int.{from_le_bytes, to_le_bytes, w32}
 use Rattle.std.specs.List.{list_all}
 use Rattle.std.proofs.lemmas.Bool.{and_from, and_parts}
 use Rattle.std.proofs.lemmas.List.{append-nil, length-append}
-use Rattle.request_catalogue.specs.declared.texts.Label.{Label}
 use Rattle.request_catalogue.specs.declared.texts.Name.{Name}
 use Rattle.request_catalogue.specs.Catalogue as requests
 use Rattle.request_catalogue.specs.Replies.{Done}
@@ -22,17 +21,16 @@ use Rattle.policy_model.specs.Journal.{Place, has_lost}
 use Rattle.policy_model.specs.Legal.{IsLegal}
 use Rattle.policy_model.specs.Logins.{account_of}
 use Rattle.child_protocol.specs.Exchanges.{Exchange}
-use Rattle.child_protocol.specs.Lines.{Front, HasLines, Line, More, behind_lines, front_of, line_end}
+use Rattle.child_protocol.specs.Lines.{HasLines, Line, More, behind_lines, front_of, line_end}
 use Rattle.child_protocol.specs.Pre.{read_more, say}
-use Rattle.child_protocol.specs.User.{Get, Leave, Put, Remark, Tell, Unknown, UserCommand, is_content, user_command}
-use Rattle.child_protocol.specs.User.{user_first, user_next}
+use Rattle.child_protocol.specs.User.{Get, Leave, Put, Remark, Tell, Unknown, UserCommand, is_content}
+use Rattle.child_protocol.specs.User.{user_first}
 use Rattle.child_protocol.proofs.MoreBytes.{HasLines-more, behind_lines-more, front_of-more}
 use Rattle.state_export.specs.Spelling.{StateValue}
 use Rattle.service_model.specs.Parts.{EndsSession, EndsSo}
 use Rattle.service_model.specs.Places.{Step}
 use Rattle.service_model.specs.Service.{Service}
 use Rattle.service_model.proofs.Lists.{count-cons}
-use Rattle.login_laws.proofs.Walk.{State}
 use Rattle.welcome_laws.specs.Client.{AgreesWith, is_receiving}
 use Rattle.welcome_laws.specs.Files.{AreDone, BeginWithCommands, BeginsWithCommand, GoesWell, IsDone, file_text}
 use Rattle.welcome_laws.specs.Files.{has_grant, is_granted}

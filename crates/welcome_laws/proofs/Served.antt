@@ -1,6 +1,6 @@
 -- The requests of the user's child after its welcome: a text, more bytes of the client, and its files.
-use Rattle.std.proofs.Common.{◌≡◌, ℕ, suc, ◌+◌, ◌<◌, ◌≤◌, ◌^◌, Bool, true, false, cond, List, [], ◌∷◌, ◌++◌, length, map}
-use Rattle.std.proofs.Common.{Option, Some, None, Result, Ok, Err, refl, sym, ap, subst, ◌∙◌, arith, eq-eqb, lit<, lit≤}
+use Rattle.std.proofs.Common.{◌≡◌, ℕ, ◌+◌, ◌<◌, ◌≤◌, ◌^◌, true, false, cond, List, [], ◌∷◌, ◌++◌, length, map}
+use Rattle.std.proofs.Common.{Option, Some, None, Result, Ok, Err, refl, ap, subst, ◌∙◌, arith, eq-eqb, lit<, lit≤}
 use Rattle.std.specs.Prelude.{◌==◌, count_by, filter_map, option_map}
 use Rattle.std.specs.Int.{to_le_bytes, w32}
 use Rattle.std.specs.List.{find, flat_map}
@@ -44,7 +44,7 @@ use Rattle.child_protocol.specs.Says.{User}
 use Rattle.child_protocol.specs.User.{user_next}
 use Rattle.child_protocol.proofs.Frames.{reads_in}
 use Rattle.state_export.specs.Spelling.{StateValue, state_bytes}
-use Rattle.service_model.specs.Acts.{Operation, ReadsFile, WritesFile, bytes_read, failed_device, operation_of}
+use Rattle.service_model.specs.Acts.{ReadsFile, WritesFile, bytes_read, failed_device, operation_of}
 use Rattle.service_model.specs.Acts.{operations_by, operations_of, read_operations, write_operations, written_by}
 use Rattle.service_model.specs.Acts.{written_bytes}
 use Rattle.service_model.specs.Answers.{answer_to, done_body, reply_message}
@@ -56,7 +56,7 @@ use Rattle.service_model.proofs.Lists.{count-cons}
 use Rattle.login_laws.specs.Login.{is_talk}
 use Rattle.login_laws.proofs.Files.{closes_one, close_permitted, having, is_allowed_by, leaves_files, open_permitted}
 use Rattle.login_laws.proofs.Files.{opens_one, read_permitted, write_permitted}
-use Rattle.login_laws.proofs.Stages.{Lasts, Stage, event_as, more, spelled}
+use Rattle.login_laws.proofs.Stages.{Lasts, Stage, event_as, more}
 use Rattle.login_laws.proofs.Tries.{request_on}
 use Rattle.login_laws.proofs.Walk.{State, own_session}
 use Rattle.welcome_laws.specs.Client.{AgreesWith, is_receiving}

@@ -1,6 +1,6 @@
 -- What the user's child asks after its welcome, along its client's lines.
-use Rattle.std.proofs.Common.{◌≡◌, ℕ, zero, suc, ◌+◌, ◌≤◌, ◌^◌, Bool, true, false, ◌&&◌, ◌||◌, cond, List, [], ◌∷◌, ◌++◌}
-use Rattle.std.proofs.Common.{length, Option, Some, None, refl, sym, ap, ◌∙◌, arith}
+use Rattle.std.proofs.Common.{◌≡◌, ℕ, zero, suc, ◌≤◌, Bool, true, false, ◌&&◌, ◌||◌, cond, List, [], ◌∷◌, ◌++◌}
+use Rattle.std.proofs.Common.{length, Option, Some, None, refl, sym, ap, ◌∙◌}
 use Rattle.std.specs.Prelude.{codes, nat_le}
 use Rattle.std.specs.Int.{from_le_bytes, w32}
 use Rattle.std.specs.List.{list_all}
@@ -8,17 +8,17 @@ use Rattle.std.proofs.lemmas.Bool.{and_parts, leb-true}
 use Rattle.request_catalogue.specs.Catalogue.{RequestValue}
 use Rattle.request_catalogue.specs.Catalogue as requests
 use Rattle.request_catalogue.specs.Replies.{Done}
-use Rattle.request_catalogue.specs.Texts.{is_label, is_note, is_printable, is_text}
+use Rattle.request_catalogue.specs.Texts.{is_label, is_note, is_printable}
 use Rattle.child_protocol.specs.Commands.{text_behind}
-use Rattle.child_protocol.specs.Exchanges.{Exchange, client_bytes, front_at, imported_unread, is_finish, sends_text}
+use Rattle.child_protocol.specs.Exchanges.{Exchange, client_bytes, front_at, imported_unread, is_finish}
 use Rattle.child_protocol.specs.Exchanges.{texts_of, underway}
 use Rattle.state_export.specs.Reading.{import_of}
-use Rattle.child_protocol.specs.Lines.{Front, HasLines, Line, More, behind_line, behind_lines, front_of}
+use Rattle.child_protocol.specs.Lines.{HasLines, Line, behind_line, behind_lines, front_of}
 use Rattle.child_protocol.specs.Pre.{read_more, say}
-use Rattle.child_protocol.specs.User.{Get, Leave, Put, Remark, Tell, Unknown, UserCommand, Who, command_at, file_text}
-use Rattle.child_protocol.specs.User.{get_command, if_legal, info_command, is_content, is_leave, leave_command}
-use Rattle.child_protocol.specs.User.{note_command, number_of, opened_request, put_command, put_or_command, put_parts}
-use Rattle.child_protocol.specs.User.{space_in, tell_command, user_command, user_done, user_first, user_follows}
+use Rattle.child_protocol.specs.User.{Get, Leave, Put, Remark, Unknown, UserCommand, Who, command_at}
+use Rattle.child_protocol.specs.User.{get_command, if_legal, info_command, is_content, is_leave}
+use Rattle.child_protocol.specs.User.{note_command, number_of, opened_request, put_command, put_or_command}
+use Rattle.child_protocol.specs.User.{space_in, tell_command, user_command, user_done, user_first}
 use Rattle.child_protocol.specs.User.{user_is_last, user_next, user_request}
 use Rattle.child_protocol.proofs.MoreBytes.{behind_lines-more}
 use Rattle.welcome_laws.proofs.Meeting.{had}
