@@ -60,8 +60,8 @@ abbrev pub bytes_received : Act → List ℕ
 bytes_received (acts.ConnRecv max (Ok bytes)) = bytes
 bytes_received _ = []
 
--- the client goes on with these lines until all are there, in pieces of at least one byte; no operation on its
--- connection or on files fails, and none brings too much
+-- the client goes on with these lines until all are there, in pieces of any size; no operation on it or on files
+-- fails or brings too much
 abbrev pub GoesWell : List ℕ → List ℕ → List Act → Type 0
 GoesWell lines before [] = Unit {0}
 GoesWell lines before (acts.ConnRecv max (Ok bytes) ∷ done) =
@@ -82,8 +82,8 @@ later_acts (pre ∷ parts) = flat_map (λ part. step_acts (requests_of part)) pa
 
 -- ---- the promise
 
--- a user who comes to log in asks for files: the lines after that of the accepted response are these commands, the
--- account has the grants, and there are enough requests
+-- a user who comes to log in asks for files: after the accepted response's line come these commands, the account has
+-- the grants, and requests are enough
 pub record AsksForFiles (service : Service) (journal : List Event) (user : Name) (account : Account)
     (response : List ℕ) (sitting : Sitting) (comes : ComesToLogIn service journal user account response sitting)
     (commands : List UserCommand) : Type 0 where
