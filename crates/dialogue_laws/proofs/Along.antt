@@ -1,46 +1,47 @@
 -- A shipped child's part of a session, step by step: its session's events stay those of its dialogue.
-use Rattle.std.proofs.Common.{◌≡◌, ◌≢◌, ℕ, ◌+◌, ◌<◌, ◌≤◌, ◌^◌, Bool, true, false, List, [], ◌∷◌, ◌++◌, length, Option}
+use Rattle.std.proofs.Common.{◌≡◌, ◌≢◌, ℕ, ◌<◌, ◌≤◌, ◌^◌, true, false, List, [], ◌∷◌, ◌++◌, length, Option}
 use Rattle.std.proofs.Common.{Some, None, option_to_list, refl, sym, ap, subst, ◌∙◌, append_assoc, arith}
 use Rattle.std.specs.Prelude.{IsSomeAnd}
 use Rattle.std.specs.List.{AllByRecursion}
-use Rattle.std.proofs.lemmas.Bool.{false≢true}
 use Rattle.std.proofs.lemmas.List.{length-append}
 use Rattle.request_catalogue.specs.Catalogue.{RequestValue}
-use Rattle.request_catalogue.specs.Replies.{AnswerValue}
-use Rattle.imsg_frame.specs.Message.{Message, spelling_of}
+use Rattle.request_catalogue.specs.Replies.{AnswerValue, reply_kind_of}
+use Rattle.request_catalogue.specs.Widths.{frame_max}
+use Rattle.imsg_frame.specs.Message.{Message, composed_of, spelling_of}
 use Rattle.imsg_frame.specs.Requests.{request_message}
 use Rattle.imsg_frame.proofs.Spelling.{length-spelling_of}
 use Rattle.policy_model.specs.declared.event.Decision.{Decision}
 use Rattle.policy_model.specs.declared.event.Decision.TheVariants.{Deny, Lost, Permit}
 use Rattle.policy_model.specs.declared.event.Event.{Event}
 use Rattle.policy_model.specs.declared.ranges.TheConstants.{EVENTS_LIMIT}
-use Rattle.policy_model.specs.Asks.{exports, is_lost, is_permit, is_violation, kind_of, shown_of}
-use Rattle.policy_model.specs.Journal.{Place, events_of, has_lost}
-use Rattle.policy_model.specs.Legal.{IsLegal, IsNext}
+use Rattle.policy_model.specs.Asks.{is_lost, is_permit, is_violation, shown_of}
+use Rattle.policy_model.specs.Journal.{Place, events_of}
+use Rattle.policy_model.specs.Legal.{IsLegal}
 use Rattle.policy_model.specs.Settings.{IsInRange, Settings}
 use Rattle.policy_model.proofs.Legal.{IsLegal-push}
 use Rattle.session_laws.proofs.SessionEvents.{events_of-other, events_of-own}
 use Rattle.child_protocol.specs.Exchanges.{Exchange}
 use Rattle.child_protocol.specs.Frames.{request_bytes}
 use Rattle.child_protocol.specs.Says.{Pre, Role, User, next_request}
-use Rattle.service_model.specs.Answers.{answer_to, answers}
+use Rattle.service_model.specs.Answers.{answer_to, answers, reply_message}
 use Rattle.service_model.specs.Cases.{message_bytes}
 use Rattle.service_model.specs.Parts.{GoesOn, IsRequestStep, step_bytes}
 use Rattle.service_model.specs.Places.{Step, step_places}
 use Rattle.service_model.specs.Requests.{Asks, CameBy}
 use Rattle.service_model.specs.Service.{Service}
 use Rattle.login_laws.proofs.Walk.{At, Comes, Stands, State, after, goes_on, not_own, own_session, stays}
-use Rattle.phase_laws.specs.Dialogue.{Answers, HasDialogue, HasEarlyDialogue, HasLateDialogue, StandsAlike}
+use Rattle.phase_laws.specs.Dialogue.{Answers, HasDialogue, StandsAlike}
 use Rattle.phase_laws.proofs.Law.{no_violation}
-use Rattle.welcome_laws.proofs.Meeting.{Meets, had, meets}
+use Rattle.welcome_laws.proofs.Meeting.{had, meets}
 use Rattle.welcome_laws.proofs.Rounds.{Went}
-use Rattle.dialogue_laws.specs.Children.{AreDialogue, AreFrames, AreMild, IsAskedNext}
-use Rattle.dialogue_laws.proofs.Answering.{Answered, answered_on, export_permitted, kept_on, kind_asked, told_as}
+use Rattle.dialogue_laws.specs.Children.{AreDialogue, AreFrames, AreMild, IsExchanged, IsAskedNext}
+use Rattle.dialogue_laws.proofs.Answering.{Answered, answered_on, kept_on, kind_asked, told_as}
 use Rattle.dialogue_laws.proofs.Details.{denial_fits}
 use Rattle.dialogue_laws.proofs.Following.{Follows, UnlessLost, follows, none_before, none_behind}
 use Rattle.dialogue_laws.proofs.Hearing.{Took, reply_framed, says_first, took}
 use Rattle.dialogue_laws.proofs.PreRanges.{pre_ranged}
-use Rattle.dialogue_laws.proofs.UserRanges.{IsHeard, Ranged, user_ranged}
+use Rattle.dialogue_laws.proofs.Ranges.{IsHeard, Ranged}
+use Rattle.dialogue_laws.proofs.UserRanges.{user_ranged}
 
 ranged : (role : Role) (history : List Exchange) (request : RequestValue) → IsHeard role history
     → next_request role history ≡ Some request → Ranged request
@@ -93,7 +94,7 @@ longer_dialogue before session (User who) history e x own next answers d = recor
   late = (d.second, e, refl, next, answers, d.late);
 }
 
--- a worker's open session has these exchanges behind it
+-- a worker's open session stands after these exchanges
 pub record Talked (setup : Settings) (worker session : ℕ) (role : Role) (history : List Exchange)
     (before : List Event) : Type 0 where
   pub state : State
@@ -157,7 +158,7 @@ module _ (service : Service) (journal : List Event) (legal : IsLegal service.set
     pub stands : Stands journal worker before (step_places (left_of served) ++ behind)
     pub each : AllByRecursion (IsRequestStep service) (left_of served)
     pub on : AllByRecursion GoesOn served
-    pub framed : AreFrames service exported (left_of served)
+    pub framed : AreFrames service exported served
     pub heard : IsHeard role history
     pub went : Went role session history (answers service exported served ++ last) (said_by (left_of served))
 
@@ -221,7 +222,7 @@ module _ (service : Service) (journal : List Event) (legal : IsLegal service.set
   -- the request was answered, and the child has one exchange more
   record Onward (history : List Exchange) (request : RequestValue) (step : Step) (more : List Step) : Type 0 where
     pub answer : AnswerValue
-    pub answers : Answers step.place.event (had request answer)
+    pub answered : IsExchanged service exported (had request answer) step
     pub now : Now (had request answer ∷ history) more
 
   onward : (history : List Exchange) (step : Step) (more : List Step) → Now history (step ∷ more)
@@ -230,7 +231,13 @@ module _ (service : Service) (journal : List Event) (legal : IsLegal service.set
       → Onward history f.request step more
   onward history step more now f some talked = record {
     answer = t.answer;
-    answers = answered;
+    answered = record {
+      told = answered;
+      sent = a.sent
+          ∙ ap (λ b. spelling_of service.setup.frames (composed_of (reply_kind_of m.header.kind m.header.flags)
+          m.header.peerid session b)) t.same
+          ∙ ap (λ n. spelling_of service.setup.frames (reply_message m n t.answer)) (sym own);
+    };
     now = record {
       before = p.before ++ p.event ∷ [];
       front = IsLegal-push service.setup p.before p.event f.follows.legal f.follows.next;
@@ -245,6 +252,9 @@ module _ (service : Service) (journal : List Event) (legal : IsLegal service.set
   } where
     p : Place
     p = step.place
+
+    m : Message
+    m = request_message f.request
 
     kept : is_lost p.event.decision ≡ false
     kept = kept_on p.event now.on.0.unended
@@ -268,7 +278,7 @@ module _ (service : Service) (journal : List Event) (legal : IsLegal service.set
         took service.setup.frames role session history f.request a.value (answers service exported more ++ last)
         (said_by (left_of more)) f.asked.next
         (reply_framed service.setup.frames session f.request a.value small
-        (subst (λ (b : List ℕ). length b ≤ Rattle.request_catalogue.specs.Widths.frame_max service.setup.frames) a.sent
+        (subst (λ (b : List ℕ). length b ≤ frame_max service.setup.frames) a.sent
         now.framed.0)) some
         (subst (λ b. Went role session history (b ++ (answers service exported more ++ last))
         (request_bytes f.request ++ said_by (left_of more))) a.sent
@@ -299,8 +309,8 @@ module _ (service : Service) (journal : List Event) (legal : IsLegal service.set
       state = after w.state p.event;
       at = goes_on service.setup journal worker session w.state p.before p.event w.at comes f.follows.own
           now.each.0.request;
-      dialogue = longer_dialogue p.before session role history p.event (had f.request t.answer) own f.asked.next answered
-          w.dialogue;
+      dialogue = longer_dialogue p.before session role history p.event (had f.request t.answer) own f.asked.next
+          answered w.dialogue;
     }
 
   -- an EXPORT that was permitted, by which the child leaves
@@ -316,7 +326,7 @@ module _ (service : Service) (journal : List Event) (legal : IsLegal service.set
   -- what is found along the steps that are left
   pub record Along (history : List Exchange) (served : List Step) : Type 0 where
     pub mild : AreMild service.setup (left_of served)
-    pub dialogue : AreDialogue service role history (left_of served)
+    pub dialogue : AreDialogue service exported role history (left_of served)
     pub leaves : (step : Step) → final ≡ Some step → Leaves step
 
   mild_at : (history : List Exchange) (request : RequestValue) (step : Step)
@@ -327,12 +337,13 @@ module _ (service : Service) (journal : List Event) (legal : IsLegal service.set
 
   pub along : (served : List Step) (history : List Exchange) → Now history served → Along history served
   along [] history now = by_final final refl now.stands now.each now.went where
-    by_final : (o : Option Step) → final ≡ o → Stands journal worker now.before (step_places (option_to_list o) ++ behind)
+    by_final : (o : Option Step) → final ≡ o
+        → Stands journal worker now.before (step_places (option_to_list o) ++ behind)
         → AllByRecursion (IsRequestStep service) (option_to_list o)
         → Went role session history last (said_by (option_to_list o)) → Along history []
     by_final None is stands each went = record {
       mild = subst (λ (o : Option Step). AreMild service.setup (option_to_list o)) (sym is) tt;
-      dialogue = subst (λ (o : Option Step). AreDialogue service role history (option_to_list o)) (sym is) tt;
+      dialogue = subst (λ (o : Option Step). AreDialogue service exported role history (option_to_list o)) (sym is) tt;
       leaves = λ step some. absurd (let no : None ≡ Some step = sym is ∙ some in cc);
     }
     by_final (Some step) is stands each went =
@@ -340,7 +351,7 @@ module _ (service : Service) (journal : List Event) (legal : IsLegal service.set
         record {
           mild = subst (λ (o : Option Step). AreMild service.setup (option_to_list o)) (sym is)
               (mild_at history f.request step f.asked, tt);
-          dialogue = subst (λ (o : Option Step). AreDialogue service role history (option_to_list o)) (sym is)
+          dialogue = subst (λ (o : Option Step). AreDialogue service exported role history (option_to_list o)) (sym is)
               (f.request, f.asked);
           leaves = λ other some.
               let same : step ≡ other = (let e : Some step ≡ Some other = sym is ∙ some in cc) in
@@ -358,7 +369,7 @@ module _ (service : Service) (journal : List Event) (legal : IsLegal service.set
       (λ some. let o = onward history step more now f some f.follows.holds in (
         had f.request o.answer,
         refl,
-        o.answers,
+        o.answered,
         along more (had f.request o.answer ∷ history) o.now,
       )) where
         f : First history step (left_of more)
@@ -368,10 +379,11 @@ module _ (service : Service) (journal : List Event) (legal : IsLegal service.set
 
         by_left : (left : List Step) → left_of more ≡ left
             → (1 ≤ length (said_by (left_of more)) → (x : Exchange) × (x.request ≡ f.request)
-            × Answers step.place.event x × Along (x ∷ history) more) → Along history (step ∷ more)
+            × IsExchanged service exported x step × Along (x ∷ history) more) → Along history (step ∷ more)
         by_left [] is goes = record {
           mild = (mild_at history f.request step f.asked, subst (AreMild service.setup) (sym is) tt);
-          dialogue = subst (λ steps. AreDialogue service role history (step ∷ steps)) (sym is) (f.request, f.asked);
+          dialogue = subst (λ steps. AreDialogue service exported role history (step ∷ steps)) (sym is)
+              (f.request, f.asked);
           leaves = λ other some. absurd (none_more more other
               (sym (ap (λ (o : Option Step). more ++ option_to_list o) some) ∙ is));
         }
@@ -388,11 +400,11 @@ module _ (service : Service) (journal : List Event) (legal : IsLegal service.set
             let r = goes (subst (λ left. 1 ≤ length (said_by left)) (sym is) some) in
             record {
               mild = (mild_at history f.request step f.asked, r.3.mild);
-              dialogue = subst (λ left. AreDialogue service role history (step ∷ left)) (sym is) (
+              dialogue = subst (λ left. AreDialogue service exported role history (step ∷ left)) (sym is) (
                 r.0,
                 subst (λ q. IsAskedNext service role history q step) (sym r.1) f.asked,
                 r.2,
-                subst (AreDialogue service role (r.0 ∷ history)) is r.3.dialogue,
+                subst (AreDialogue service exported role (r.0 ∷ history)) is r.3.dialogue,
               );
               leaves = r.3.leaves;
             }

@@ -1,5 +1,5 @@
 -- What the monitor answers to a request, and what the child is told by it.
-use Rattle.std.proofs.Common.{◌≡◌, ℕ, Bool, true, false, ◌&&◌, ◌||◌, cond, eqb, List, [], ◌∷◌, Option, Some, None}
+use Rattle.std.proofs.Common.{◌≡◌, ℕ, Bool, true, false, ◌&&◌, ◌||◌, cond, eqb, List, [], Option, Some, None}
 use Rattle.std.proofs.Common.{refl, sym, ap, subst, ◌∙◌}
 use Rattle.std.specs.Prelude.{filter_map, nat_le, slice_get}
 use Rattle.std.specs.Option.{option_map_or}
@@ -110,8 +110,8 @@ answered_on service exported session request step message own goes = by_decision
   valued d value shown is told = record {
     value = value;
     told = subst (λ x. IsTold x value) (sym shown) told;
-    sent = ap (λ (m : Option Message). option_map_or (λ x. reply_to service exported x step.place step.acts) m []) message
-        ∙ ap (λ (x : Decision). reply_bytes service.setup.frames (request_message request) e.session
+    sent = ap (λ (o : Option Message). option_map_or (λ m. reply_to service exported m step.place step.acts) o [])
+        message ∙ ap (λ (x : Decision). reply_bytes service.setup.frames (request_message request) e.session
         (answer_value service exported step.place step.acts x)) shown
         ∙ ap (reply_bytes service.setup.frames (request_message request) e.session) is
         ∙ ap (λ n. spelling_of service.setup.frames (reply_message (request_message request) n value)) own;

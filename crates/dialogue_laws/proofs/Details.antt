@@ -1,6 +1,6 @@
 -- The numbers of a denial fit its reply.
-use Rattle.std.proofs.Common.{◌≡◌, ℕ, ◌+◌, ◌-◌, ◌<◌, ◌≤◌, ◌^◌, Bool, true, false, not, ◌&&◌, ◌||◌, cond, eqb, nat_eq}
-use Rattle.std.proofs.Common.{List, [], ◌∷◌, length, Option, Some, None, filter, refl, sym, ap, subst, ◌∙◌, arith, lit<}
+use Rattle.std.proofs.Common.{◌≡◌, ℕ, ◌-◌, ◌<◌, ◌≤◌, ◌^◌, Bool, true, false, not, ◌&&◌, ◌||◌, cond, eqb, nat_eq}
+use Rattle.std.proofs.Common.{List, [], ◌∷◌, length, Option, Some, None, filter, refl, sym, subst, ◌∙◌, arith, lit<}
 use Rattle.std.proofs.Common.{lit≤}
 use Rattle.std.specs.Prelude.{is_none, nat_le}
 use Rattle.std.specs.List.{find, last_or, list_any}
@@ -21,7 +21,8 @@ use Rattle.policy_model.specs.declared.phase.Row.{Row}
 use Rattle.policy_model.specs.declared.ranges.TheConstants.{EVENTS_LIMIT}
 use Rattle.policy_model.specs.Asks.{came_by_frame, is_denied_reply, is_lost, is_proper, kind_of, mode_of, permits_kind}
 use Rattle.policy_model.specs.Asks.{request_number, reserves, shown_of}
-use Rattle.policy_model.specs.Cases.{account_named, grant_verdict, grants_of, is_holder, login_verdict, matching_verdict}
+use Rattle.policy_model.specs.Cases.{account_named, grant_verdict, grants_of, is_holder, login_verdict}
+use Rattle.policy_model.specs.Cases.{matching_verdict}
 use Rattle.policy_model.specs.Cases.{readings_verdict, sequence_of, table_verdict, use_verdict}
 use Rattle.policy_model.specs.Handles.{free_handle_of, handle_opening, live_handles_of}
 use Rattle.policy_model.specs.Journal.{ask_count, count_of, has_event, open_session_of, openings_of}
@@ -33,14 +34,15 @@ use Rattle.policy_model.specs.Runs.{AreNumbered}
 use Rattle.policy_model.specs.Settings.{IsInRange, Settings, same_label}
 use Rattle.policy_model.specs.Verdict.{IsVerdict, account_verdict, allows, challenge_verdict, close_verdict}
 use Rattle.policy_model.specs.Verdict.{decoy_challenge, decoy_verdict, handle_verdict, info_verdict, is_held}
-use Rattle.policy_model.specs.Verdict.{is_next_password, kind_verdict, open_verdict, own_verdict, readings, reply_verdict}
+use Rattle.policy_model.specs.Verdict.{is_next_password, kind_verdict, open_verdict, own_verdict, readings}
+use Rattle.policy_model.specs.Verdict.{reply_verdict}
 use Rattle.policy_model.specs.Verdict.{request_verdict, row_verdict, verdict_of}
 use Rattle.policy_model.proofs.LoginLemmas.{last_taking_of-last}
 use Rattle.policy_model.proofs.Runs.{next_decision}
 use Rattle.policy_model.proofs.Verdicts.{verdict_of-is, verdict_of-request}
 use Rattle.session_laws.proofs.Openings.{legal_numbered, openings_few}
 use Rattle.service_model.specs.Requests.{Asks}
-use Rattle.dialogue_laws.proofs.UserRanges.{Ranged}
+use Rattle.dialogue_laws.proofs.Ranges.{Ranged}
 
 -- the detail of a denial fits its four bytes
 abbrev pub IsSmall : Decision → Type 0
@@ -71,7 +73,8 @@ record IsAsked (ask : Ask) : Type 0 where
 
 asked_by : (words : List (List ℕ)) (request : RequestValue) (ask : Ask) → Ranged request → Asks words request ask
     → IsAsked ask
-asked_by words requests.Banner ask range is = subst IsAsked (sym is) (record { request = refl; proper = refl; small = tt })
+asked_by words requests.Banner ask range is =
+    subst IsAsked (sym is) (record { request = refl; proper = refl; small = tt })
 asked_by words (requests.Challenge user) ask range is =
     subst IsAsked (sym is.3) (record { request = refl; proper = refl; small = tt })
 asked_by words (requests.Reply text) ask range is =
@@ -123,7 +126,10 @@ taker_below : (p : Event → Bool) (o : Option Event) (journal : List Event) (la
 taker_below p o [] last t first all is = first t is
 taker_below p o (e ∷ es) last t first all is =
     elim (p e) as (λ b. last_or o (cond b (e ∷ filter p es) (filter p es)) ≡ Some t → t.session ≤ last) [
-      | true ↦ taker_below p (Some e) es last t (λ x same. let here : e ≡ x = cc in subst (λ (y : Event). y.session ≤ last) here all.0) all.1
+      | true ↦
+          let own : (x : Event) → Some e ≡ Some x → x.session ≤ last = λ x same.
+          let here : e ≡ x = cc in subst (λ (y : Event). y.session ≤ last) here all.0 in
+          taker_below p (Some e) es last t own all.1
       | false ↦ taker_below p o es last t first all.1
     ] is
 
@@ -147,7 +153,8 @@ module _ (setup : Settings) (range : IsInRange setup) (journal : List Event) (le
       let held : IsSmall (Deny 12 (session_taking (last_taking_of journal user))) = taking_small user in
       let permit : IsSmall (Permit (current_sequence journal account - 1)) = tt in
       let decoy : IsSmall (decoy_challenge setup user) = tt in
-      small_if (not (is_live journal account)) _ _ decoy (small_if (is_held setup journal session user now) _ _ held permit)
+      small_if (not (is_live journal account)) _ _ decoy
+      (small_if (is_held setup journal session user now) _ _ held permit)
 
   challenge_small : (user : Name) (now : ℕ) → IsSmall (challenge_verdict setup journal session user now)
   unfolding challenge_verdict
@@ -234,7 +241,8 @@ module _ (setup : Settings) (range : IsInRange setup) (journal : List Event) (le
       → IsSmall (row_verdict setup journal session ask kind row)
   row_small ask kind row small =
       small_if (not row.permitted) _ _ (number_small ask)
-      (small_if (row.once && has_event journal session (permits_kind kind)) _ _ (number_small ask) (kind_small ask small))
+      (small_if (row.once && has_event journal session (permits_kind kind)) _ _ (number_small ask)
+      (kind_small ask small))
 
   table_small : (ask : Ask) (kind : Option Kind) → IsSmallAsk ask
       → IsSmall (table_verdict setup journal session ask kind)

@@ -1,5 +1,5 @@
 -- What a shipped child asks first by its bytes, and the answer that it took where it asked once more.
-use Rattle.std.proofs.Common.{◌≡◌, ℕ, ◌+◌, ◌<◌, ◌≤◌, ◌^◌, Bool, true, false, ◌&&◌, List, [], ◌∷◌, ◌++◌, length, Option}
+use Rattle.std.proofs.Common.{◌≡◌, ℕ, ◌+◌, ◌<◌, ◌≤◌, ◌^◌, Bool, true, false, ◌&&◌, cond, List, [], ◌∷◌, ◌++◌, length}
 use Rattle.std.proofs.Common.{Some, None, refl, sym, ap, subst, ◌∙◌, append_assoc, arith, inl, inr, lit<}
 use Rattle.std.specs.Prelude.{nat_le, ◌==◌}
 use Rattle.std.proofs.lemmas.Bool.{and_parts, leb-true}
@@ -55,7 +55,7 @@ says_first role session history replies said went some =
 reply_small : (kind flags : ℕ) → reply_kind_of kind flags < 2 ^ 32
 reply_small kind flags = by (flags == 0 && nat_le 1 kind && nat_le kind 13) refl where
   by : (b : Bool) → (flags == 0 && nat_le 1 kind && nat_le kind 13) ≡ b
-      → Rattle.std.proofs.Common.cond b (kind + 256) 256 < 2 ^ 32
+      → cond b (kind + 256) 256 < 2 ^ 32
   by true is = omega (arith, leb-true kind 13 (and_parts (flags == 0 && nat_le 1 kind) (nat_le kind 13) is).1)
   by false is = lit< tt
 
@@ -113,9 +113,10 @@ took width role session history request value replies said next right some went 
       by_rounds (r ∷ rounds) runs came given ended =
           let same = same_request (next_request role history) r.exchange.request request runs.0 next in
           let a = alike width r.message runs.1 runs.2.header.1 in
-          let first = one_message width (frame_max width) 16384 reply r.message replies (heard rounds ++ went.left) right
-          a.is (came ∙ append_assoc (spelling_of frame_width r.message) (heard rounds) went.left
-          ∙ ap (λ b. b ++ (heard rounds ++ went.left)) a.spelled) in
+          let more = heard rounds ++ went.left in
+          let first = one_message width (frame_max width) 16384 reply r.message replies more right a.is
+          (came ∙ append_assoc (spelling_of frame_width r.message) (heard rounds) went.left
+          ∙ ap (λ b. b ++ more) a.spelled) in
           let exchange_is : r.exchange ≡ had request r.exchange.answer = ap (λ q. had q r.exchange.answer) same in
           let rest : request_bytes request ++ said ≡ request_bytes request ++ (asked rounds ++ went.out) = given
           ∙ append_assoc (request_bytes r.exchange.request) (asked rounds) went.out
@@ -132,6 +133,7 @@ took width role session history request value replies said next right some went 
               out = went.out;
               replies_are = first.1;
               said_is = append_cancel_left (request_bytes request) said (asked rounds ++ went.out) rest;
-              ended = subst (λ e. Ended role session (behind (e ∷ history) rounds) went.left went.out) exchange_is ended;
+              ended = subst (λ e. Ended role session (behind (e ∷ history) rounds) went.left went.out) exchange_is
+                  ended;
             };
           }

@@ -1,10 +1,9 @@
 -- The shipped children of a run's sessions keep the rules.
-use Rattle.std.proofs.Common.{◌≡◌, ◌≢◌, ℕ, ◌+◌, ◌<◌, ◌≤◌, ◌^◌, Bool, true, false, ◌&&◌, List, [], ◌∷◌, ◌++◌, length}
+use Rattle.std.proofs.Common.{◌≡◌, ◌≢◌, ℕ, ◌<◌, ◌≤◌, ◌^◌, true, ◌&&◌, List, [], ◌∷◌, ◌++◌, length}
 use Rattle.std.proofs.Common.{Option, Some, None, option_to_list, refl, sym, ap, subst, ◌∙◌, append_assoc, arith}
 use Rattle.std.specs.Prelude.{IsSomeAnd, option_and_then}
 use Rattle.std.specs.List.{AllByRecursion, flat_map}
 use Rattle.std.proofs.lemmas.List.{append-nil, length-append}
-use Rattle.request_catalogue.specs.Catalogue.{RequestValue}
 use Rattle.request_catalogue.specs.Replies.{Done}
 use Rattle.outside.specs.declared.act.Role.{Role as LaunchedRole}
 use Rattle.outside.specs.declared.act.Role.TheVariants as launched
@@ -15,26 +14,27 @@ use Rattle.policy_model.specs.declared.event.Event.{Event}
 use Rattle.policy_model.specs.declared.event.Why.{Why}
 use Rattle.policy_model.specs.declared.event.Why.TheVariants as whys
 use Rattle.policy_model.specs.declared.ranges.TheConstants.{EVENTS_LIMIT}
-use Rattle.policy_model.specs.Asks.{exports, is_begin, is_lost, is_permit, opens, shown_of}
-use Rattle.policy_model.specs.Cases.{account_named}
+use Rattle.policy_model.specs.Asks.{exports, is_begin, is_permit, opens, shown_of}
 use Rattle.policy_model.specs.Journal.{Place, openings_of}
 use Rattle.policy_model.specs.Legal.{IsLegal}
-use Rattle.policy_model.specs.Settings.{IsInRange, Settings}
+use Rattle.policy_model.specs.Logins.{account_of}
+use Rattle.policy_model.specs.Settings.{IsInRange}
 use Rattle.policy_model.proofs.Legal.{IsLegal-none, IsLegal-push}
 use Rattle.policy_model.proofs.Runs.{next_session}
+use Rattle.session_laws.specs.LoggedIn.{IsLoggedIn}
 use Rattle.session_laws.proofs.LoggedIn.{legal_verified}
 use Rattle.session_laws.proofs.Openings.{legal_numbered, openings_few, session_new}
 use Rattle.session_laws.proofs.Permitted.{exported_in_verified}
 use Rattle.session_laws.proofs.SessionEvents.{events_of-new, events_of-own}
-use Rattle.child_protocol.specs.Says.{Pre, User}
+use Rattle.child_protocol.specs.Says.{Pre}
 use Rattle.service_model.specs.Answers.{answers}
 use Rattle.service_model.specs.Cases.{role_of}
 use Rattle.service_model.specs.Parts.{EndsSession, EndsSo, GoesOn, HandsOver, IsPart, IsRequestStep, Part, PartEnd}
 use Rattle.service_model.specs.Parts.{exported_by, requests_of, step_bytes}
 use Rattle.service_model.specs.Places.{Step, step_places}
 use Rattle.service_model.specs.Service.{Service}
-use Rattle.service_model.specs.Sittings.{AreParts, AreSittingsOf, EndsFirst, Follows as FollowsOpening, IsSitting, Sitting}
-use Rattle.service_model.specs.Sittings.{all_steps}
+use Rattle.service_model.specs.Sittings.{AreParts, AreSittingsOf, ChangesUser, EndsFirst, Follows as FollowsOpening}
+use Rattle.service_model.specs.Sittings.{IsSitting, Sitting, all_steps}
 use Rattle.service_model.specs.Users.{user_role}
 use Rattle.service_model.proofs.Steps.{places-append}
 use Rattle.login_laws.proofs.Walk.{At, Comes, Stands, after, begun, goes_on, own_session, places_behind, start}
@@ -43,10 +43,10 @@ use Rattle.welcome_laws.specs.Shipped.{IsSaidWhole, IsShipped, role_session, shi
 use Rattle.welcome_laws.proofs.Meeting.{had}
 use Rattle.welcome_laws.proofs.Rounds.{Went, said_so}
 use Rattle.welcome_laws.proofs.Welcomed.{flat-append, one_passes}
-use Rattle.dialogue_laws.specs.Children.{AreDialogue, AreFrames, ChildrenKeepRules, FitFrames, KeepsRules}
+use Rattle.dialogue_laws.specs.Children.{AnswersFit, AreDialogue, AreFrames, ChildrenKeepRules, KeepRules, KeepsRules}
 use Rattle.dialogue_laws.proofs.Along.{Along, Leaves, Talked, along, permit_kept}
 use Rattle.dialogue_laws.proofs.Answering.{export_asked, export_permitted, kind_asked}
-use Rattle.dialogue_laws.proofs.Following.{UnlessLost, reach}
+use Rattle.dialogue_laws.proofs.Following.{UnlessLost, none_before, reach}
 
 -- ---- a part
 
@@ -77,8 +77,8 @@ went_by service exported part role is shipped s =
     let bytes : part.taken ++ part.unread ≡ step_bytes service.setup.frames (requests_of part)
     ++ (part.rest ++ part.unread) = ap (λ t. t ++ part.unread) s.taken
     ∙ append_assoc (step_bytes service.setup.frames (requests_of part)) part.rest part.unread in
-    subst (λ b. Went (shipped_role role) (role_session role) [] (answers service exported part.served ++ s.last) b) bytes
-    (subst (λ r. Went (shipped_role role) (role_session role) [] r (part.taken ++ part.unread)) s.sent
+    subst (λ b. Went (shipped_role role) (role_session role) [] (answers service exported part.served ++ s.last) b)
+    bytes (subst (λ r. Went (shipped_role role) (role_session role) [] r (part.taken ++ part.unread)) s.sent
     (said_so (shipped_role role) (role_session role) part.sent (part.taken ++ part.unread) said))
 
 told_export : (d : Decision) → is_permit d ≡ true → IsTold (shown_of d) (Done [])
@@ -89,9 +89,11 @@ told_export Lost permit = absurd cc
 all_split : {X : Type 0} (P : X → Type 0) (before xs : List X)
     → ((earlier : List X) (x : X) (later : List X) → before ++ xs ≡ earlier ++ (x ∷ later) → P x) → AllByRecursion P xs
 all_split P before [] each = tt
-all_split P before (x ∷ xs) each =
-    (each before x xs refl, all_split P (before ++ x ∷ []) xs (λ earlier y later is. each earlier y later
-    (sym (append_assoc before (x ∷ []) xs) ∙ is)))
+all_split P before (x ∷ xs) each = (
+  each before x xs refl,
+  all_split P (before ++ x ∷ []) xs (λ earlier y later is. each earlier y later
+      (sym (append_assoc before (x ∷ []) xs) ∙ is)),
+)
 
 handing : HandsOver ≢ EndsSession whys.LinkFault
 handing same = absurd cc
@@ -100,15 +102,15 @@ module _ (service : Service) (journal : List Event) (legal : IsLegal service.set
     (few : length journal ≤ EVENTS_LIMIT) (range : IsInRange service.setup) (worker : ℕ) where
   -- ---- the parts of a session
 
-  keeps_by : (session : ℕ) (small : session < 2 ^ 32) (exported : List ℕ) (part : Part) (role : LaunchedRole)
+  along_part : (session : ℕ) (small : session < 2 ^ 32) (exported : List ℕ) (part : Part) (role : LaunchedRole)
       (behind : List Place) (before : List Event) → role_session role ≡ session → part.role ≡ role → IsShipped part
-      → (s : IsServed service exported part) → AreFrames service exported (requests_of part)
+      → (s : IsServed service exported part) → AreFrames service exported part.served
       → IsLegal service.setup before
       → UnlessLost (Talked service.setup worker session (shipped_role role) []) before
       → Stands journal worker before (step_places (requests_of part) ++ behind)
       → Along service journal legal few range worker session small (shipped_role role) exported part.final s.last
       (part.rest ++ part.unread) behind [] part.served
-  keeps_by session small exported part role behind before own is shipped s framed front talked stands =
+  along_part session small exported part role behind before own is shipped s framed front talked stands =
       along service journal legal few range worker session small (shipped_role role) exported part.final s.last
       (part.rest ++ part.unread) behind part.served [] (record {
         before = before;
@@ -138,13 +140,14 @@ module _ (service : Service) (journal : List Event) (legal : IsLegal service.set
       → exports step.place.event ≡ true → Begins session step
   user_begins session small exported final last rest behind step l exported' = record {
     account = found.known.account;
-    role = ap (λ o. role_of e.session (option_and_then (Rattle.policy_model.specs.Logins.account_of service.setup) o))
+    role = ap (λ o. role_of e.session (option_and_then (account_of service.setup) o))
         found.verified
         ∙ ap (λ o. role_of e.session o) found.known.found
         ∙ ap (λ (n : ℕ). launched.User n found.known.account.uid found.known.account.name) own;
     talked = λ none. record {
       state = after t.state e;
-      at = goes_on service.setup journal worker session t.state p.before e t.at comes l.follows.own l.request_is.request;
+      at = goes_on service.setup journal worker session t.state p.before e t.at comes l.follows.own
+          l.request_is.request;
       dialogue = record {
         opening = t.dialogue.opening;
         exchange = had l.request (Done []);
@@ -185,7 +188,7 @@ module _ (service : Service) (journal : List Event) (legal : IsLegal service.set
 
     t : Talked service.setup worker session Pre l.history p.before
     t =
-        l.follows.holds (Rattle.dialogue_laws.proofs.Following.none_before service.setup p.before e l.follows.next
+        l.follows.holds (none_before service.setup p.before e l.follows.next
         comes.kept)
 
     own : e.session ≡ session
@@ -193,17 +196,27 @@ module _ (service : Service) (journal : List Event) (legal : IsLegal service.set
         own_session service.setup journal worker session t.state p.before e t.at comes l.follows.own
         l.request_is.request
 
-    found : Rattle.session_laws.specs.LoggedIn.IsLoggedIn service.setup p.before e.session
+    found : IsLoggedIn service.setup p.before e.session
     found =
         legal_verified service.setup p.before l.follows.legal e.session
         (exported_in_verified service.setup p.before e l.follows.next exported')
 
+  keeps_part : (session : ℕ) (small : session < 2 ^ 32) (exported : List ℕ) (part : Part) (role : LaunchedRole)
+      (last : List ℕ) (behind : List Place) → part.role ≡ role
+      → Along service journal legal few range worker session small (shipped_role role) exported part.final last
+      (part.rest ++ part.unread) behind [] part.served → KeepsRules service exported part
+  keeps_part session small exported part role last behind is a = record {
+    mild = a.mild;
+    dialogue = subst (λ (r : LaunchedRole). AreDialogue service exported (shipped_role r) [] (requests_of part))
+        (sym is) a.dialogue;
+  }
+
   by_parts : (opening ending : Step) (why : Why) (before : List Event) (more : List Place)
       → opening.place.event.session < 2 ^ 32 → IsLegal service.setup before
       → UnlessLost (Talked service.setup worker opening.place.event.session Pre []) before → (parts : List Part)
-      → AreParts service why opening parts → FitFrames service [] parts → AllByRecursion IsShipped parts
+      → AreParts service why opening parts → AnswersFit service [] parts → AllByRecursion IsShipped parts
       → Stands journal worker before (step_places (flat_map requests_of parts ++ ending ∷ []) ++ more)
-      → AllByRecursion (KeepsRules service) parts
+      → KeepRules service [] parts
   by_parts opening ending why before more small front talked [] parts framed shipped stands = tt
   by_parts opening ending why before more small front talked (pre ∷ []) parts framed shipped stands =
       let session = opening.place.event.session in
@@ -212,20 +225,16 @@ module _ (service : Service) (journal : List Event) (legal : IsLegal service.set
       ++ behind = ap (λ steps. step_places (steps ++ ending ∷ []) ++ more) (append-nil (requests_of pre))
       ∙ ap (λ ps. ps ++ more) (places-append (requests_of pre) (ending ∷ []))
       ∙ append_assoc (step_places (requests_of pre)) (step_places (ending ∷ [])) more in
-      let a = keeps_by session small [] pre (launched.Pre session) behind before refl parts.1 shipped.0
-      (served_first service why pre parts.2) framed.0 front talked
-      (subst (λ ps. Stands journal worker before ps) there stands) in
-      (record {
-        mild = a.mild;
-        dialogue = subst (λ (r : LaunchedRole). AreDialogue service (shipped_role r) [] (requests_of pre)) (sym parts.1)
-            a.dialogue;
-      }, tt)
+      let s = served_first service why pre parts.2 in
+      let a = along_part session small [] pre (launched.Pre session) behind before refl parts.1 shipped.0 s framed.0
+      front talked (subst (λ ps. Stands journal worker before ps) there stands) in
+      (keeps_part session small [] pre (launched.Pre session) s.last behind parts.1 a, tt)
   by_parts opening ending why before more small front talked (pre ∷ child ∷ []) parts framed shipped stands =
       by_final pre.final refl (change.first.ended handing) change.verified where
         session : ℕ
         session = opening.place.event.session
 
-        change : Rattle.service_model.specs.Sittings.ChangesUser service why pre child
+        change : ChangesUser service why pre child
         change = parts.2
 
         last : List Place
@@ -242,8 +251,8 @@ module _ (service : Service) (journal : List Event) (legal : IsLegal service.set
             ∙ ap (λ steps. step_places steps ++ more) (append_assoc (requests_of pre) (requests_of child) (ending ∷ []))
             ∙ ap (λ ps. ps ++ more) (places-append (requests_of pre) (requests_of child ++ ending ∷ [])
             ∙ ap (λ ps. step_places (requests_of pre) ++ ps) (places-append (requests_of child) (ending ∷ [])))
-            ∙ append_assoc (step_places (requests_of pre)) (step_places (requests_of child) ++ step_places (ending ∷ []))
-            more
+            ∙ append_assoc (step_places (requests_of pre))
+            (step_places (requests_of child) ++ step_places (ending ∷ [])) more
             ∙ ap (λ ps. step_places (requests_of pre) ++ ps)
             (append_assoc (step_places (requests_of child)) (step_places (ending ∷ [])) more)
 
@@ -256,31 +265,29 @@ module _ (service : Service) (journal : List Event) (legal : IsLegal service.set
         a : Along service journal legal few range worker session small Pre [] pre.final s.last (pre.rest ++ pre.unread)
             behind [] pre.served
         a =
-            keeps_by session small [] pre (launched.Pre session) behind before refl parts.1 shipped.0 s framed.0 front
+            along_part session small [] pre (launched.Pre session) behind before refl parts.1 shipped.0 s framed.0 front
             talked (subst (λ ps. Stands journal worker before ps) there stands)
 
         by_final : (o : Option Step) → pre.final ≡ o → EndsSo service.setup.frames HandsOver o pre.rest pre.unread
             → IsSomeAnd o (λ step. child.role ≡ user_role service.setup step.place)
-            → AllByRecursion (KeepsRules service) (pre ∷ child ∷ [])
+            → KeepRules service [] (pre ∷ child ∷ [])
         by_final None is ends verified = absurd ends
         by_final (Some step) is ends verified =
             let l = a.leaves step is in
             let u = user_begins session small [] pre.final s.last (pre.rest ++ pre.unread) behind step l ends in
-            let role = verified ∙ u.role in
-            let b = keeps_by session small (exported_by pre.final) child
-            (launched.User session u.account.uid u.account.name) last (step.place.before ++ step.place.event ∷ []) refl
-            role shipped.1.0 c framed.1.0 (IsLegal-push service.setup step.place.before step.place.event l.follows.legal
-            l.follows.next) u.talked l.follows.behind in
-            (record {
-              mild = a.mild;
-              dialogue = subst (λ (r : LaunchedRole). AreDialogue service (shipped_role r) [] (requests_of pre))
-                  (sym parts.1) a.dialogue;
-            }, (record {
-              mild = b.mild;
-              dialogue = subst (λ (r : LaunchedRole). AreDialogue service (shipped_role r) [] (requests_of child))
-                  (sym role) b.dialogue;
-            }, tt))
-  by_parts opening ending why before more small front talked (pre ∷ child ∷ other ∷ others) parts framed shipped stands =
+            let p = step.place in
+            let role = launched.User session u.account.uid u.account.name in
+            let is_role = verified ∙ u.role in
+            let exported = exported_by pre.final in
+            let b = along_part session small exported child role last (p.before ++ p.event ∷ []) refl is_role
+            shipped.1.0 c framed.1.0
+            (IsLegal-push service.setup p.before p.event l.follows.legal l.follows.next) u.talked
+            l.follows.behind in (
+              keeps_part session small [] pre (launched.Pre session) s.last behind parts.1 a,
+              (keeps_part session small exported child role c.last last is_role b, tt),
+            )
+  by_parts opening ending why before more small front talked (pre ∷ child ∷ other ∷ others) parts framed shipped
+      stands =
       absurd parts
 
   -- ---- the sessions
@@ -308,8 +315,8 @@ module _ (service : Service) (journal : List Event) (legal : IsLegal service.set
 
   keeps : (sittings earlier later : List Sitting) (sitting : Sitting)
       → AreSittingsOf service journal worker sittings → sittings ≡ earlier ++ (sitting ∷ later)
-      → AllByRecursion IsShipped sitting.parts → FitFrames service [] sitting.parts
-      → AllByRecursion (KeepsRules service) sitting.parts
+      → AllByRecursion IsShipped sitting.parts → AnswersFit service [] sitting.parts
+      → KeepRules service [] sitting.parts
   keeps sittings earlier later sitting served parts shipped framed = by_ending sitting.ending refl is.round where
     before : List Step
     before = flat_map all_steps earlier
@@ -336,8 +343,8 @@ module _ (service : Service) (journal : List Event) (legal : IsLegal service.set
         (flat_map all_steps later))) e
 
     by_ending : (ending : Option Step) → sitting.ending ≡ ending
-        → FollowsOpening service sitting.opening sitting.parts ending → AllByRecursion (KeepsRules service) sitting.parts
-    by_ending None e follows = subst (AllByRecursion (KeepsRules service)) (sym follows.1) tt
+        → FollowsOpening service sitting.opening sitting.parts ending → KeepRules service [] sitting.parts
+    by_ending None e follows = subst (KeepRules service []) (sym follows.1) tt
     by_ending (Some ending) e follows =
         let p = sitting.opening.place in
         let f = reach service.setup journal worker legal (step_places before) [] p (rest (Some ending))
@@ -366,6 +373,6 @@ pub children_keep_rules : (service : Service) (journal : List Event) → IsLegal
     → length journal ≤ EVENTS_LIMIT → IsInRange service.setup → (worker : ℕ) (sittings : List Sitting)
     → AreSittingsOf service journal worker sittings → ChildrenKeepRules service sittings
 children_keep_rules service journal legal few range worker sittings served =
-    all_split (λ (s : Sitting). AllByRecursion IsShipped s.parts → FitFrames service [] s.parts
-    → AllByRecursion (KeepsRules service) s.parts) [] sittings (λ earlier sitting later is shipped framed.
+    all_split (λ (s : Sitting). AllByRecursion IsShipped s.parts → AnswersFit service [] s.parts
+    → KeepRules service [] s.parts) [] sittings (λ earlier sitting later is shipped framed.
     keeps service journal legal few range worker sittings earlier later sitting served is shipped framed)

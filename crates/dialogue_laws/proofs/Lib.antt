@@ -1,3 +1,4 @@
+pub mod Ranges
 pub mod UserRanges
 pub mod PreRanges
 pub mod Hearing

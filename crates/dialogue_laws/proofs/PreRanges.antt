@@ -1,6 +1,6 @@
 -- Each request of the child before the login is in its range.
-use Rattle.std.proofs.Common.{◌≡◌, ℕ, zero, suc, ◌+◌, ◌<◌, ◌≤◌, ◌^◌, Bool, true, false, ◌||◌, cond, List, [], ◌∷◌, ◌++◌}
-use Rattle.std.proofs.Common.{length, Option, Some, None, refl, sym, ap, subst, ◌∙◌, arith, lit<, lit≤}
+use Rattle.std.proofs.Common.{◌≡◌, ℕ, zero, suc, ◌≤◌, Bool, true, false, cond, List, [], ◌∷◌, ◌++◌}
+use Rattle.std.proofs.Common.{length, Some, refl, sym, ap, subst, ◌∙◌, arith, lit≤}
 use Rattle.std.specs.Prelude.{codes}
 use Rattle.std.specs.Int.{to_le_bytes, w16}
 use Rattle.std.proofs.lemmas.List.{length-append}
@@ -12,10 +12,11 @@ use Rattle.otp_hash.specs.declared.chain.Algo.{Algo}
 use Rattle.otp_words.specs.Challenges.{challenge_word}
 use Rattle.child_protocol.specs.Commands.{Cancel, Other, PreCommand, Quit, Respond, Terminal, User as UserCommand}
 use Rattle.child_protocol.specs.Commands.{pre_command}
-use Rattle.child_protocol.specs.Exchanges.{Exchange, client_bytes, ends_child, front_at, is_challenged, texts_of, underway}
-use Rattle.child_protocol.specs.Lines.{Front, HasLines, Line, More, TooLong, behind_line, behind_lines, front_of}
+use Rattle.child_protocol.specs.Exchanges.{Exchange, client_bytes, ends_child, front_at, is_challenged, texts_of}
+use Rattle.child_protocol.specs.Exchanges.{underway}
+use Rattle.child_protocol.specs.Lines.{Front, HasLines, Line, More, TooLong, behind_lines, front_of}
 use Rattle.child_protocol.specs.Phases.{is_export}
-use Rattle.child_protocol.specs.Pre.{denied_text, is_quit, pre_first, pre_follows, pre_is_last, pre_next, pre_request}
+use Rattle.child_protocol.specs.Pre.{is_quit, pre_first, pre_follows, pre_is_last, pre_next, pre_request}
 use Rattle.child_protocol.specs.Pre.{pre_state, read_more, say, state_at}
 use Rattle.child_protocol.specs.Replies.{FitsForm, IsChallengeText, form_of}
 use Rattle.child_protocol.specs.Says.{Pre}
@@ -23,7 +24,7 @@ use Rattle.child_protocol.proofs.Fronts.{line_whole, more_short}
 use Rattle.child_protocol.proofs.MoreBytes.{HasLines-more, behind_lines-more}
 use Rattle.welcome_laws.proofs.Lines.{behind_shorter, named_user, terminal_short, typed_response}
 use Rattle.welcome_laws.proofs.Meeting.{had}
-use Rattle.dialogue_laws.proofs.UserRanges.{IsHeard, Ranged, denied_ranged, followed, line_ranged, read_ranged, say_ranged}
+use Rattle.dialogue_laws.proofs.Ranges.{IsHeard, Ranged, denied_ranged, followed, line_ranged, read_ranged, say_ranged}
 
 -- ---- what it asks next, and where it stands then
 
@@ -118,8 +119,11 @@ turned history lines texts whole few asks = by_front (front_of held) refl where
   by_quit : (text : List ℕ) → front_of held ≡ Line text → (b : Bool) → is_quit (pre_command text) ≡ b → Stage history
   by_quit text is true quits = Parting (record {
     last = ap pre_is_last (line ∙ is) ∙ quits;
-    asks = λ request asked. (codes "bye\n", asks request asked ∙ ap (λ f. pre_first f challenged) (line ∙ is)
-        ∙ quit_says (pre_command text) challenged quits);
+    asks = λ request asked. (
+      codes "bye\n",
+      asks request asked ∙ ap (λ f. pre_first f challenged) (line ∙ is)
+          ∙ quit_says (pre_command text) challenged quits,
+    );
   })
   by_quit text is false stays = OnLine (record {
     whole = subst (λ n. HasLines n (client_bytes history)) (sym texts) (whole, line_whole held text is);
@@ -177,12 +181,11 @@ after_line (requests.Reply text) (Done body) history line is =
     Leaving (asks_by (λ r. is_export r ≡ true) (requests.Reply text) (Done body) history refl)
 after_line requests.Abandon (Done body) history line is = kept requests.Abandon (Done body) history line refl refl refl
 after_line (requests.WriteAt zero offset bytes) (Done body) history line is =
-    turned (had (requests.WriteAt zero offset bytes) (Done body) ∷ history) (texts_of history) refl line.whole line.few
-    (asks_by (λ r. r ≡ pre_first (underway (had (requests.WriteAt zero offset bytes) (Done body) ∷ history))
-    (is_challenged (had (requests.WriteAt zero offset bytes) (Done body) ∷ history)))
-    (requests.WriteAt zero offset bytes) (Done body) history
-    (ap (λ b. cond b requests.Finish (pre_first (underway (had (requests.WriteAt zero offset bytes) (Done body) ∷ history))
-    (is_challenged (had (requests.WriteAt zero offset bytes) (Done body) ∷ history)))) line.goes_on))
+    let text = requests.WriteAt zero offset bytes in
+    let now = had text (Done body) ∷ history in
+    let next = pre_first (underway now) (is_challenged now) in
+    turned now (texts_of history) refl line.whole line.few
+    (asks_by (λ r. r ≡ next) text (Done body) history (ap (λ b. cond b requests.Finish next) line.goes_on))
 after_line (requests.Challenge user) (Denied rule detail) history line is =
     kept (requests.Challenge user) (Denied rule detail) history line refl refl refl
 after_line (requests.Reply text) (Denied rule detail) history line is =
@@ -218,9 +221,9 @@ after_reading (Device device) history reading fits = over read_more (Device devi
 after_parting : (text : List ℕ) (answer : AnswerValue) (history : List Exchange)
     → pre_is_last (underway history) ≡ true → Stage (had (say text) answer ∷ history)
 after_parting text (Done body) history last =
-    over (say text) (Done body) history (ap (λ b. cond b requests.Finish
-    (pre_first (underway (had (say text) (Done body) ∷ history)) (is_challenged (had (say text) (Done body) ∷ history))))
-    last)
+    let now = had (say text) (Done body) ∷ history in
+    let next = pre_first (underway now) (is_challenged now) in
+    over (say text) (Done body) history (ap (λ b. cond b requests.Finish next) last)
 after_parting text (Denied rule detail) history last = over (say text) (Denied rule detail) history refl
 after_parting text (Device device) history last = over (say text) (Device device) history refl
 
@@ -258,7 +261,9 @@ stands [] heard = OnLine (record {
   whole = tt;
   few = lit≤ tt;
   goes_on = refl;
-  asks = λ request asked. let same : requests.Banner ≡ request = (let e : Some requests.Banner ≡ Some request = asked in cc) in
+  asks = λ request asked.
+      let first : Some requests.Banner ≡ Some request = asked in
+      let same : requests.Banner ≡ request = cc in
       ap is_of_line (sym same);
 })
 stands (x ∷ history) (asked, answer, fits, rest) = one_more history x (stands history rest) asked fits
@@ -301,7 +306,7 @@ challenge_some text (algo, n, seed, begins) =
       arith,
       ap length begins.spelled,
       length-append (challenge_word algo) (begins.gap ++ (begins.digits ++ (begins.second_gap ++ (begins.name
-      ++ begins.close ∷ begins.unread)))),
+          ++ begins.close ∷ begins.unread)))),
       word_some algo,
     ) where
       word_some : (a : Algo) → 4 ≤ length (challenge_word a)

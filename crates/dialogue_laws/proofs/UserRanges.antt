@@ -1,6 +1,6 @@
 -- Each request of the user's child is in its range.
 use Rattle.std.proofs.Common.{◌≡◌, ℕ, zero, suc, ◌+◌, ◌<◌, ◌≤◌, ◌^◌, Bool, true, false, ◌&&◌, cond, List, [], ◌∷◌, ◌++◌}
-use Rattle.std.proofs.Common.{length, take, drop, Option, Some, None, Result, Ok, Err, refl, sym, ap, subst, ◌∙◌, arith}
+use Rattle.std.proofs.Common.{length, take, drop, Option, Some, None, Result, Ok, Err, refl, subst, arith}
 use Rattle.std.proofs.Common.{lit<, lit≤}
 use Rattle.std.specs.Prelude.{codes, nat_le, nat_lt, option_and_then, slice_index, ◌==◌}
 use Rattle.std.specs.Bool.{then_some}
@@ -25,54 +25,19 @@ use Rattle.state_export.proofs.Fields.{after}
 use Rattle.text_line.specs.Reading.{decimal_of}
 use Rattle.child_protocol.specs.Commands.{text_behind}
 use Rattle.child_protocol.specs.Exchanges.{Exchange, ends_child, underway}
-use Rattle.child_protocol.specs.Frames.{frame_width}
 use Rattle.child_protocol.specs.Lines.{Front, Line, More, TooLong}
 use Rattle.child_protocol.specs.Pre.{denied_text, say}
 use Rattle.child_protocol.specs.Replies.{FitsForm, form_of}
-use Rattle.child_protocol.specs.Says.{Role, User, next_request}
+use Rattle.child_protocol.specs.Says.{User}
 use Rattle.child_protocol.specs.User.{Get, IsLegalUser, Leave, Put, Remark, Tell, Unknown, UserCommand, Who, command_at}
 use Rattle.child_protocol.specs.User.{file_text, get_command, greeting_of, handle_failed, if_legal, info_command}
 use Rattle.child_protocol.specs.User.{is_content, note_command, number_of, opened_request, put_command, put_or_command}
-use Rattle.child_protocol.specs.User.{read_done, space_in, tell_command, told_by, user_command, user_denied, user_done}
-use Rattle.child_protocol.specs.User.{user_failed, user_first, user_follows, user_is_last, user_next, user_request}
+use Rattle.child_protocol.specs.User.{read_done, space_in, tell_command, told_by, user_command}
+use Rattle.child_protocol.specs.User.{user_first, user_follows, user_is_last, user_next, user_request}
 use Rattle.child_protocol.specs.User.{write_done}
-use Rattle.welcome_laws.proofs.Lines.{decimal_short, denied_size}
+use Rattle.welcome_laws.proofs.Lines.{decimal_short}
 use Rattle.welcome_laws.proofs.Meeting.{name_short}
-
--- ---- what a child heard
-
--- these exchanges, the latest first, are a dialogue, in which each answer is in its range and of the form of its request
-abbrev pub IsHeard : Role → List Exchange → Type 0
-IsHeard role [] = Unit {0}
-IsHeard role (x ∷ history) =
-    (next_request role history ≡ Some x.request) × IsAnswer x.answer × FitsForm (form_of x.request) x.answer
-    × IsHeard role history
-
--- what follows an answer, where the child goes on
-pub followed : (ends : Bool) (next request : RequestValue) → cond ends None (Some next) ≡ Some request → next ≡ request
-followed true next request is = absurd cc
-followed false next request is = cc
-
--- ---- texts
-
-abbrev pub Ranged : RequestValue → Type 0
-Ranged request = IsInRange frame_width request
-
-pub say_ranged : (text : List ℕ) → 1 ≤ length text → length text ≤ 16000 → Ranged (say text)
-say_ranged text some few = (lit< tt, lit< tt, some, few)
-
-pub read_ranged : (max : ℕ) → 1 ≤ max → max ≤ 16000 → Ranged (requests.ReadAt 0 0 max)
-read_ranged max some few = (lit< tt, lit< tt, some, few)
-
--- a text with a newline after it
-pub line_ranged : (text : List ℕ) → length text ≤ 256 → Ranged (say (text ++ codes "\n"))
-line_ranged text few =
-    let size : length (text ++ codes "\n") ≡ length text + 1 = length-append text (codes "\n") in
-    say_ranged (text ++ codes "\n") (omega (arith, size)) (omega (arith, size, few))
-
-pub denied_ranged : (rule detail : ℕ) → IsAnswer (Denied rule detail) → Ranged (say (denied_text rule))
-denied_ranged rule detail is =
-    let size = denied_size rule (omega (arith, is.1)) in say_ranged (denied_text rule) size.0 size.1
+use Rattle.dialogue_laws.proofs.Ranges.{IsHeard, Ranged, denied_ranged, followed, line_ranged, read_ranged, say_ranged}
 
 -- ---- the user's lines
 
@@ -261,7 +226,8 @@ named_in body found is =
     let cut = after Head (nat_le len (length rest)) (take len rest) (λ user. demand Head
     (then_some (is_name user) user) >>= named_rest body) found head.1 in
     let name = after Head (is_name (take len rest)) (take len rest) (named_rest body) found cut.1 in
-    subst (λ t. is_name t ≡ true) (named_by (number_at w32 0 body) (take len rest) (state_of (drop len rest)) found name.1)
+    let same = named_by (number_at w32 0 body) (take len rest) (state_of (drop len rest)) found name.1 in
+    subst (λ t. is_name t ≡ true) same
     name.0
 
 -- the welcome of a user whose name the record has
@@ -275,7 +241,8 @@ welcome_fine who (Ok found) named = by (found.uid == who.uid) (bytes_eq found.us
   greets : bytes_eq found.user who.name ≡ true → IsFine (say text)
   greets same =
       let user : found.user ≡ who.name = (bytes_eq-Decides found.user who.name).0 same in
-      let few : length who.name ≤ 32 = subst (λ (t : List ℕ). length t ≤ 32) user (name_short found.user (named found refl)) in
+      let short = name_short found.user (named found refl) in
+      let few : length who.name ≤ 32 = subst (λ (t : List ℕ). length t ≤ 32) user short in
       let size : length text ≡ 8 + length who.name + 1 = omega (
         arith,
         length-append (codes "welcome " ++ who.name) (codes "\n"),
@@ -374,9 +341,10 @@ next_fine who [] request fine heard asked =
     subst IsFine same (record { ranged = tt; few = tt })
 next_fine who (x ∷ history) request fine heard asked =
     let next = user_first (underway (x ∷ history)) in
+    let follows = follows_fine who (underway history) (underway (x ∷ history)) history fine.2 x.request x.answer fine.0
+    heard.1 heard.2 in
     subst IsFine (followed (ends_child x.request x.answer)
-    (user_follows who x.request x.answer (underway history) history next) request asked)
-    (follows_fine who (underway history) (underway (x ∷ history)) history fine.2 x.request x.answer fine.0 heard.1 heard.2)
+    (user_follows who x.request x.answer (underway history) history next) request asked) follows
 
 are_fine : (who : Who) (history : List Exchange) → IsHeard (User who) history → AreFine history
 are_fine who [] heard = tt
