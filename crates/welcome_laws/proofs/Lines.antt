@@ -360,7 +360,7 @@ unfolding commands.is_terminal
 named_short text is =
     leb-true (length text) 64 (and_parts (nat_le (length text) 64) (list_all is_printable text) is).0
 
-terminal_short : (count : ℕ) (bytes : List ℕ) → length (terminal_in count bytes) ≤ 64
+pub terminal_short : (count : ℕ) (bytes : List ℕ) → length (terminal_in count bytes) ≤ 64
 terminal_short zero bytes = omega arith
 terminal_short (suc count) bytes = by_front (front_of (behind_lines count bytes)) (terminal_short count bytes) where
   by_command : (line : List ℕ) (c : PreCommand) → pre_command line ≡ c → (before : List ℕ) → length before ≤ 64

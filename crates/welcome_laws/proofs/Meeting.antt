@@ -141,10 +141,10 @@ alike widths.Wide m is none = let both = narrow_is_wide 16384 m is none in recor
 
 -- ---- what is asked next
 
-same_request : (o : Option RequestValue) (one two : RequestValue) → o ≡ Some one → o ≡ Some two → one ≡ two
+pub same_request : (o : Option RequestValue) (one two : RequestValue) → o ≡ Some one → o ≡ Some two → one ≡ two
 same_request o one two p q = let both : Some one ≡ Some two = sym p ∙ q in cc
 
-same_answer : (one two : AnswerValue) → IsAnswer one → IsAnswer two → reply_of one ≡ reply_of two → one ≡ two
+pub same_answer : (one two : AnswerValue) → IsAnswer one → IsAnswer two → reply_of one ≡ reply_of two → one ≡ two
 same_answer one two p q same =
     let both : Some one ≡ Some two = sym (answered_by-reply_of one p) ∙ ap answered_by same
     ∙ answered_by-reply_of two q in cc

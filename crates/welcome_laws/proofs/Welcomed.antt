@@ -84,7 +84,7 @@ all_pass test worker before (e ∷ events) h =
       by_worker true here more = (here, more)
       by_worker false here more = more
 
-one_passes : {X : Type 0} (P : X → Type 0) (xs : List X) (y : X) (ys : List X) → AllByRecursion P (xs ++ (y ∷ ys)) → P y
+pub one_passes : {X : Type 0} (P : X → Type 0) (xs : List X) (y : X) (ys : List X) → AllByRecursion P (xs ++ (y ∷ ys)) → P y
 one_passes P [] y ys all = all.0
 one_passes P (x ∷ xs) y ys all = one_passes P xs y ys all.1
 
@@ -117,7 +117,7 @@ went_by service exported end part role is shipped part_is answered =
     subst (λ b. Went (shipped_role role) (role_session role) [] (answers service exported (requests_of part)) b) bytes
     (subst (λ r. Went (shipped_role role) (role_session role) [] r (part.taken ++ part.unread)) answered went)
 
-flat-append : (xs ys : List Sitting) → flat_map all_steps (xs ++ ys) ≡ flat_map all_steps xs ++ flat_map all_steps ys
+pub flat-append : (xs ys : List Sitting) → flat_map all_steps (xs ++ ys) ≡ flat_map all_steps xs ++ flat_map all_steps ys
 flat-append [] ys = refl
 flat-append (x ∷ xs) ys =
     ap (λ s. all_steps x ++ s) (flat-append xs ys)

@@ -1,0 +1,9 @@
+pub mod Ranges
+pub mod UserRanges
+pub mod PreRanges
+pub mod Hearing
+pub mod Details
+pub mod Answering
+pub mod Following
+pub mod Along
+pub mod Law
