@@ -34,7 +34,7 @@ use Rattle.phase_laws.specs.Dialogue.{Answers, HasDialogue, StandsAlike}
 use Rattle.phase_laws.proofs.Law.{no_violation}
 use Rattle.welcome_laws.proofs.Meeting.{had, meets}
 use Rattle.welcome_laws.proofs.Rounds.{Went}
-use Rattle.dialogue_laws.specs.Children.{AreDialogue, AreFrames, AreMild, IsExchanged, IsAskedNext}
+use Rattle.dialogue_laws.specs.Children.{AreDialogue, AreMild, IsExchanged, IsAskedNext}
 use Rattle.dialogue_laws.proofs.Answering.{Answered, answered_on, kept_on, kind_asked, told_as}
 use Rattle.dialogue_laws.proofs.Details.{denial_fits}
 use Rattle.dialogue_laws.proofs.Following.{Follows, UnlessLost, follows, none_before, none_behind}
@@ -157,8 +157,7 @@ module _ (service : Service) (journal : List Event) (legal : IsLegal service.set
     pub talked : UnlessLost (Talked service.setup worker session role history) before
     pub stands : Stands journal worker before (step_places (left_of served) ++ behind)
     pub each : AllByRecursion (IsRequestStep service) (left_of served)
-    pub on : AllByRecursion GoesOn served
-    pub framed : AreFrames service exported served
+    pub on : AllByRecursion (GoesOn service exported) served
     pub heard : IsHeard role history
     pub went : Went role session history (answers service exported served ++ last) (said_by (left_of served))
 
@@ -245,7 +244,6 @@ module _ (service : Service) (journal : List Event) (legal : IsLegal service.set
       stands = f.follows.behind;
       each = now.each.1;
       on = now.on.1;
-      framed = now.framed.1;
       heard = (f.asked.next, t.in_range, t.fits, now.heard);
       went = t.went;
     };
@@ -279,7 +277,7 @@ module _ (service : Service) (journal : List Event) (legal : IsLegal service.set
         (said_by (left_of more)) f.asked.next
         (reply_framed service.setup.frames session f.request a.value small
         (subst (λ (b : List ℕ). length b ≤ frame_max service.setup.frames) a.sent
-        now.framed.0)) some
+        now.on.0.fits)) some
         (subst (λ b. Went role session history (b ++ (answers service exported more ++ last))
         (request_bytes f.request ++ said_by (left_of more))) a.sent
         (subst (λ b. Went role session history b (request_bytes f.request ++ said_by (left_of more)))

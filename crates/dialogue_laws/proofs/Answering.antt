@@ -97,7 +97,8 @@ permitted_told None body = refl
 permitted_told (Some device) body = refl
 
 pub answered_on : (service : Service) (exported : List ℕ) (session : ℕ) (request : RequestValue) (step : Step)
-    → step.message ≡ Some (request_message request) → step.place.event.session ≡ session → GoesOn step
+    → step.message ≡ Some (request_message request) → step.place.event.session ≡ session 
+    → GoesOn service exported step
     → Answered service exported session request step
 unfolding reply_to
 answered_on service exported session request step message own goes = by_decision e.decision refl where

@@ -43,7 +43,7 @@ use Rattle.welcome_laws.specs.Shipped.{IsSaidWhole, IsShipped, role_session, shi
 use Rattle.welcome_laws.proofs.Meeting.{had}
 use Rattle.welcome_laws.proofs.Rounds.{Went, said_so}
 use Rattle.welcome_laws.proofs.Welcomed.{flat-append, one_passes}
-use Rattle.dialogue_laws.specs.Children.{AnswersFit, AreDialogue, AreFrames, ChildrenKeepRules, KeepRules, KeepsRules}
+use Rattle.dialogue_laws.specs.Children.{AreDialogue, ChildrenKeepRules, KeepRules, KeepsRules}
 use Rattle.dialogue_laws.proofs.Along.{Along, Leaves, Talked, along, permit_kept}
 use Rattle.dialogue_laws.proofs.Answering.{export_asked, export_permitted, kind_asked}
 use Rattle.dialogue_laws.proofs.Following.{UnlessLost, none_before, reach}
@@ -53,7 +53,7 @@ use Rattle.dialogue_laws.proofs.Following.{UnlessLost, none_before, reach}
 -- what is known of a part, whichever way it ended
 record IsServed (service : Service) (exported : List ℕ) (part : Part) : Type 0 where
   pub each : AllByRecursion (IsRequestStep service) (requests_of part)
-  pub on : AllByRecursion GoesOn part.served
+  pub on : AllByRecursion (GoesOn service exported) part.served
   pub taken : part.taken ≡ step_bytes service.setup.frames (requests_of part) ++ part.rest
   pub last : List ℕ
   pub sent : part.sent ≡ answers service exported part.served ++ last
@@ -104,13 +104,12 @@ module _ (service : Service) (journal : List Event) (legal : IsLegal service.set
 
   along_part : (session : ℕ) (small : session < 2 ^ 32) (exported : List ℕ) (part : Part) (role : LaunchedRole)
       (behind : List Place) (before : List Event) → role_session role ≡ session → part.role ≡ role → IsShipped part
-      → (s : IsServed service exported part) → AreFrames service exported part.served
-      → IsLegal service.setup before
+      → (s : IsServed service exported part) → IsLegal service.setup before
       → UnlessLost (Talked service.setup worker session (shipped_role role) []) before
       → Stands journal worker before (step_places (requests_of part) ++ behind)
       → Along service journal legal few range worker session small (shipped_role role) exported part.final s.last
       (part.rest ++ part.unread) behind [] part.served
-  along_part session small exported part role behind before own is shipped s framed front talked stands =
+  along_part session small exported part role behind before own is shipped s front talked stands =
       along service journal legal few range worker session small (shipped_role role) exported part.final s.last
       (part.rest ++ part.unread) behind part.served [] (record {
         before = before;
@@ -119,7 +118,6 @@ module _ (service : Service) (journal : List Event) (legal : IsLegal service.set
         stands = stands;
         each = s.each;
         on = s.on;
-        framed = framed;
         heard = tt;
         went = subst (λ n. Went (shipped_role role) n [] (answers service exported part.served ++ s.last)
             (step_bytes service.setup.frames (requests_of part) ++ (part.rest ++ part.unread))) own
@@ -214,11 +212,11 @@ module _ (service : Service) (journal : List Event) (legal : IsLegal service.set
   by_parts : (opening ending : Step) (why : Why) (before : List Event) (more : List Place)
       → opening.place.event.session < 2 ^ 32 → IsLegal service.setup before
       → UnlessLost (Talked service.setup worker opening.place.event.session Pre []) before → (parts : List Part)
-      → AreParts service why opening parts → AnswersFit service [] parts → AllByRecursion IsShipped parts
+      → AreParts service why opening parts → AllByRecursion IsShipped parts
       → Stands journal worker before (step_places (flat_map requests_of parts ++ ending ∷ []) ++ more)
       → KeepRules service [] parts
-  by_parts opening ending why before more small front talked [] parts framed shipped stands = tt
-  by_parts opening ending why before more small front talked (pre ∷ []) parts framed shipped stands =
+  by_parts opening ending why before more small front talked [] parts shipped stands = tt
+  by_parts opening ending why before more small front talked (pre ∷ []) parts shipped stands =
       let session = opening.place.event.session in
       let behind = step_places (ending ∷ []) ++ more in
       let there : step_places (flat_map requests_of (pre ∷ []) ++ ending ∷ []) ++ more ≡ step_places (requests_of pre)
@@ -226,10 +224,10 @@ module _ (service : Service) (journal : List Event) (legal : IsLegal service.set
       ∙ ap (λ ps. ps ++ more) (places-append (requests_of pre) (ending ∷ []))
       ∙ append_assoc (step_places (requests_of pre)) (step_places (ending ∷ [])) more in
       let s = served_first service why pre parts.2 in
-      let a = along_part session small [] pre (launched.Pre session) behind before refl parts.1 shipped.0 s framed.0
+      let a = along_part session small [] pre (launched.Pre session) behind before refl parts.1 shipped.0 s
       front talked (subst (λ ps. Stands journal worker before ps) there stands) in
       (keeps_part session small [] pre (launched.Pre session) s.last behind parts.1 a, tt)
-  by_parts opening ending why before more small front talked (pre ∷ child ∷ []) parts framed shipped stands =
+  by_parts opening ending why before more small front talked (pre ∷ child ∷ []) parts shipped stands =
       by_final pre.final refl (change.first.ended handing) change.verified where
         session : ℕ
         session = opening.place.event.session
@@ -265,7 +263,7 @@ module _ (service : Service) (journal : List Event) (legal : IsLegal service.set
         a : Along service journal legal few range worker session small Pre [] pre.final s.last (pre.rest ++ pre.unread)
             behind [] pre.served
         a =
-            along_part session small [] pre (launched.Pre session) behind before refl parts.1 shipped.0 s framed.0 front
+            along_part session small [] pre (launched.Pre session) behind before refl parts.1 shipped.0 s front
             talked (subst (λ ps. Stands journal worker before ps) there stands)
 
         by_final : (o : Option Step) → pre.final ≡ o → EndsSo service.setup.frames HandsOver o pre.rest pre.unread
@@ -280,13 +278,13 @@ module _ (service : Service) (journal : List Event) (legal : IsLegal service.set
             let is_role = verified ∙ u.role in
             let exported = exported_by pre.final in
             let b = along_part session small exported child role last (p.before ++ p.event ∷ []) refl is_role
-            shipped.1.0 c framed.1.0
+            shipped.1.0 c
             (IsLegal-push service.setup p.before p.event l.follows.legal l.follows.next) u.talked
             l.follows.behind in (
               keeps_part session small [] pre (launched.Pre session) s.last behind parts.1 a,
               (keeps_part session small exported child role c.last last is_role b, tt),
             )
-  by_parts opening ending why before more small front talked (pre ∷ child ∷ other ∷ others) parts framed shipped
+  by_parts opening ending why before more small front talked (pre ∷ child ∷ other ∷ others) parts shipped
       stands =
       absurd parts
 
@@ -315,9 +313,8 @@ module _ (service : Service) (journal : List Event) (legal : IsLegal service.set
 
   keeps : (sittings earlier later : List Sitting) (sitting : Sitting)
       → AreSittingsOf service journal worker sittings → sittings ≡ earlier ++ (sitting ∷ later)
-      → AllByRecursion IsShipped sitting.parts → AnswersFit service [] sitting.parts
-      → KeepRules service [] sitting.parts
-  keeps sittings earlier later sitting served parts shipped framed = by_ending sitting.ending refl is.round where
+      → AllByRecursion IsShipped sitting.parts → KeepRules service [] sitting.parts
+  keeps sittings earlier later sitting served parts shipped = by_ending sitting.ending refl is.round where
     before : List Step
     before = flat_map all_steps earlier
 
@@ -367,12 +364,12 @@ module _ (service : Service) (journal : List Event) (legal : IsLegal service.set
         } in
         by_parts sitting.opening ending follows.1.0 (p.before ++ p.event ∷ []) (step_places (flat_map all_steps later))
         small (IsLegal-push service.setup p.before p.event f.legal f.next)
-        (λ none. opened p comes f.legal f.own opens') sitting.parts follows.1.2 framed shipped f.behind
+        (λ none. opened p comes f.legal f.own opens') sitting.parts follows.1.2 shipped f.behind
 
 pub children_keep_rules : (service : Service) (journal : List Event) → IsLegal service.setup journal
     → length journal ≤ EVENTS_LIMIT → IsInRange service.setup → (worker : ℕ) (sittings : List Sitting)
     → AreSittingsOf service journal worker sittings → ChildrenKeepRules service sittings
 children_keep_rules service journal legal few range worker sittings served =
-    all_split (λ (s : Sitting). AllByRecursion IsShipped s.parts → AnswersFit service [] s.parts
-    → KeepRules service [] s.parts) [] sittings (λ earlier sitting later is shipped framed.
-    keeps service journal legal few range worker sittings earlier later sitting served is shipped framed)
+    all_split (λ (s : Sitting). AllByRecursion IsShipped s.parts → KeepRules service [] s.parts) [] sittings
+    (λ earlier sitting later is shipped.
+    keeps service journal legal few range worker sittings earlier later sitting served is shipped)

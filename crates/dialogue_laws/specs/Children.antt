@@ -1,10 +1,9 @@
 -- Inner: that a session's shipped children break no rule, and where their session stands at each of their requests.
-use Rattle.std.specs.Prelude.{◌≡◌, ◌≤◌, ℕ, true, false, List, [], ◌∷◌, length, Some}
+use Rattle.std.specs.Prelude.{◌≡◌, ℕ, true, false, List, [], ◌∷◌, Some}
 use Rattle.std.specs.List.{AllByRecursion}
 use Rattle.imsg_frame.specs.Message.{spelling_of}
 use Rattle.imsg_frame.specs.Requests.{request_message}
 use Rattle.request_catalogue.specs.Catalogue.{RequestValue}
-use Rattle.request_catalogue.specs.Widths.{frame_max}
 use Rattle.policy_model.specs.declared.event.Decision.TheVariants.{Deny}
 use Rattle.policy_model.specs.Asks.{is_lost, is_violation}
 use Rattle.policy_model.specs.Settings.{Settings}
@@ -17,17 +16,6 @@ use Rattle.service_model.specs.Service.{Service}
 use Rattle.service_model.specs.Sittings.{Sitting}
 use Rattle.phase_laws.specs.Dialogue.{Answers, StandsAlike}
 use Rattle.welcome_laws.specs.Shipped.{IsShipped, shipped_role}
-
--- the answer to each of these steps is at most one frame long
-abbrev pub AreFrames : Service → List ℕ → List Step → Type 0
-AreFrames service exported steps =
-    AllByRecursion (λ step. length (answer_to service exported step) ≤ frame_max service.setup.frames) steps
-
--- each answer after which a child of a session was served on is at most one frame long
-abbrev pub AnswersFit : Service → List ℕ → List Part → Type 0
-AnswersFit service exported [] = Unit {0}
-AnswersFit service exported (part ∷ parts) =
-    AreFrames service exported part.served × AnswersFit service (exported_by part.final) parts
 
 -- no request of these steps is denied by one of the rules 2 to 7: a denial that ends the session says that all its asks
 -- are made
@@ -72,9 +60,7 @@ KeepRules service exported [] = Unit {0}
 KeepRules service exported (part ∷ parts) =
     KeepsRules service exported part × KeepRules service (exported_by part.final) parts
 
--- in every session whose children are the shipped ones, and whose answers are at most one frame each, each child keeps
--- the rules
+-- in every session whose children are the shipped ones, each of them keeps the rules
 abbrev pub ChildrenKeepRules : Service → List Sitting → Type 0
 ChildrenKeepRules service sittings =
-    AllByRecursion (λ sitting. AllByRecursion IsShipped sitting.parts → AnswersFit service [] sitting.parts
-    → KeepRules service [] sitting.parts) sittings
+    AllByRecursion (λ sitting. AllByRecursion IsShipped sitting.parts → KeepRules service [] sitting.parts) sittings

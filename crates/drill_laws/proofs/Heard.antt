@@ -38,30 +38,30 @@ last_of : (all : List RequestValue) (step : Step) → exports step.place.event �
 last_of [] step h = h
 last_of (request ∷ all) step h = tt
 
-heard_all : (all : List RequestValue) (alone why : Why) (steps : List Step) → AsksFirst all steps [] → AllByRecursion GoesOn steps → why ≡ alone → Heard all alone why steps
-heard_all [] alone why [] asked on so = so
-heard_all (request ∷ all) alone why [] asked on so = absurd cc
-heard_all [] alone why (step ∷ steps) asked on so = absurd asked
-heard_all (request ∷ all) alone why (step ∷ steps) asked on so = (asked.0, inr (on.0.unended, last_of all step on.0.unexported, heard_all all alone why steps asked.1 on.1 so))
+heard_all : (service : Service) (exported : List ℕ) (all : List RequestValue) (alone why : Why) (steps : List Step) → AsksFirst all steps [] → AllByRecursion (GoesOn service exported) steps → why ≡ alone → Heard all alone why steps
+heard_all service exported [] alone why [] asked on so = so
+heard_all service exported (request ∷ all) alone why [] asked on so = absurd cc
+heard_all service exported [] alone why (step ∷ steps) asked on so = absurd asked
+heard_all service exported (request ∷ all) alone why (step ∷ steps) asked on so = (asked.0, inr (on.0.unended, last_of all step on.0.unexported, heard_all service exported all alone why steps asked.1 on.1 so))
 
-heard_end : (all : List RequestValue) (alone why : Why) (front : List Step) (step : Step) (left : List RequestValue) → AsksFirst all (front ++ step ∷ []) left → AllByRecursion GoesOn front → ends_session step.place.event ≡ true → why ≡ why_of step.place.event.decision → Heard all alone why (front ++ step ∷ [])
-heard_end [] alone why [] step left asked on ends so = absurd asked
-heard_end [] alone why (first ∷ front) step left asked on ends so = absurd asked
-heard_end (request ∷ all) alone why [] step left asked on ends so = (asked.0, inl (ends, refl, so))
-heard_end (request ∷ all) alone why (first ∷ front) step left asked on ends so = (asked.0, inr (on.0.unended, last_of all first on.0.unexported, heard_end all alone why front step left asked.1 on.1 ends so))
+heard_end : (service : Service) (exported : List ℕ) (all : List RequestValue) (alone why : Why) (front : List Step) (step : Step) (left : List RequestValue) → AsksFirst all (front ++ step ∷ []) left → AllByRecursion (GoesOn service exported) front → ends_session step.place.event ≡ true → why ≡ why_of step.place.event.decision → Heard all alone why (front ++ step ∷ [])
+heard_end service exported [] alone why [] step left asked on ends so = absurd asked
+heard_end service exported [] alone why (first ∷ front) step left asked on ends so = absurd asked
+heard_end service exported (request ∷ all) alone why [] step left asked on ends so = (asked.0, inl (ends, refl, so))
+heard_end service exported (request ∷ all) alone why (first ∷ front) step left asked on ends so = (asked.0, inr (on.0.unended, last_of all first on.0.unexported, heard_end service exported all alone why front step left asked.1 on.1 ends so))
 
 never_last : (all : List RequestValue) (request : RequestValue) (others : List RequestValue) (step : Step) → IsLast (all ++ request ∷ others) step
 never_last [] request others step = tt
 never_last (first ∷ all) request others step = tt
 
 -- two children, one after the other
-pub heard_join : (all : List RequestValue) (request : RequestValue) (others : List RequestValue) (alone why : Why) (front : List Step) (step : Step) (behind : List Step) → AsksFirst all (front ++ step ∷ []) [] → AllByRecursion GoesOn front → ends_session step.place.event ≡ false
+pub heard_join : (service : Service) (exported : List ℕ) (all : List RequestValue) (request : RequestValue) (others : List RequestValue) (alone why : Why) (front : List Step) (step : Step) (behind : List Step) → AsksFirst all (front ++ step ∷ []) [] → AllByRecursion (GoesOn service exported) front → ends_session step.place.event ≡ false
     → Heard (request ∷ others) alone why behind → Heard (all ++ request ∷ others) alone why ((front ++ step ∷ []) ++ behind)
-heard_join [] request others alone why [] step behind asked on unended heard = absurd asked
-heard_join [] request others alone why (first ∷ front) step behind asked on unended heard = absurd asked
-heard_join (only ∷ []) request others alone why [] step behind asked on unended heard = (asked.0, inr (unended, tt, heard))
-heard_join (only ∷ other ∷ all) request others alone why [] step behind asked on unended heard = let none = asked.1 in absurd cc
-heard_join (one ∷ all) request others alone why (first ∷ front) step behind asked on unended heard = (asked.0, inr (on.0.unended, never_last all request others first, heard_join all request others alone why front step behind asked.1 on.1 unended heard))
+heard_join service exported [] request others alone why [] step behind asked on unended heard = absurd asked
+heard_join service exported [] request others alone why (first ∷ front) step behind asked on unended heard = absurd asked
+heard_join service exported (only ∷ []) request others alone why [] step behind asked on unended heard = (asked.0, inr (unended, tt, heard))
+heard_join service exported (only ∷ other ∷ all) request others alone why [] step behind asked on unended heard = let none = asked.1 in absurd cc
+heard_join service exported (one ∷ all) request others alone why (first ∷ front) step behind asked on unended heard = (asked.0, inr (on.0.unended, never_last all request others first, heard_join service exported all request others alone why front step behind asked.1 on.1 unended heard))
 
 -- bytes that are no whole frame have none of the requests' bytes in front
 ends_alone : (why : Why) (tail rest unread : List ℕ) (left : List RequestValue) → length tail < 16 → AllByRecursion IsSent left → EndsAlone Narrow why rest unread → rest ++ unread ≡ requests_bytes left ++ tail → (left ≡ []) × (why ≡ alone_of tail)
@@ -88,13 +88,13 @@ ends_alone whys.LinkFault tail rest unread left short sent ends same = absurd en
 ends_alone whys.KeeperFault tail rest unread left short sent ends same = absurd ends
 ends_alone whys.LogLost tail rest unread left short sent ends same = absurd ends
 
-by_final : (all : List RequestValue) (tail : List ℕ) (why : Why) (served : List Step) (final : Option Step) (rest unread : List ℕ) → length tail < 16 → Said all tail (served ++ option_to_list final) (rest ++ unread) → AllByRecursion GoesOn served
+by_final : (service : Service) (exported : List ℕ) (all : List RequestValue) (tail : List ℕ) (why : Why) (served : List Step) (final : Option Step) (rest unread : List ℕ) → length tail < 16 → Said all tail (served ++ option_to_list final) (rest ++ unread) → AllByRecursion (GoesOn service exported) served
     → EndsSo Narrow (EndsSession why) final rest unread → Heard all (alone_of tail) why (served ++ option_to_list final)
-by_final all tail why served None rest unread short h on ends =
+by_final service exported all tail why served None rest unread short h on ends =
     let e = ends_alone why tail rest unread h.left short h.sent ends h.behind_is in
     let asked = subst (λ steps. AsksFirst all steps h.left) (append-nil served) h.asked in
-    subst (λ steps. Heard all (alone_of tail) why steps) (sym (append-nil served)) (heard_all all (alone_of tail) why served (subst (λ left. AsksFirst all served left) e.0 asked) on e.1)
-by_final all tail why served (Some step) rest unread short h on ends = heard_end all (alone_of tail) why served step h.left h.asked on ends.0 ends.1
+    subst (λ steps. Heard all (alone_of tail) why steps) (sym (append-nil served)) (heard_all service exported all (alone_of tail) why served (subst (λ left. AsksFirst all served left) e.0 asked) on e.1)
+by_final service exported all tail why served (Some step) rest unread short h on ends = heard_end service exported all (alone_of tail) why served step h.left h.asked on ends.0 ends.1
 
 -- what a part was said to be, by its bytes
 pub said_part : (service : Service) (part : Part) (all : List RequestValue) (tail : List ℕ) → service.setup.frames ≡ Narrow → AllByRecursion IsSent all → length tail < 16 → AllByRecursion (IsRequestStep service) (requests_of part)
@@ -114,7 +114,7 @@ no_link why ne e = ne (same e) where
 pub heard_part : (service : Service) (exported : List ℕ) (why : Why) (part : Part) (all : List RequestValue) (tail : List ℕ) → service.setup.frames ≡ Narrow → AllByRecursion IsSent all → length tail < 16 → why ≢ whys.LinkFault → IsPart service exported (EndsSession why) part
     → part.taken ++ part.unread ≡ requests_bytes all ++ tail → Heard all (alone_of tail) why (requests_of part)
 heard_part service exported why part all tail narrow sent short ne is same =
-    by_final all tail why part.served part.final part.rest part.unread short (said_part service part all tail narrow sent short is.each is.taken same) is.on
+    by_final service exported all tail why part.served part.final part.rest part.unread short (said_part service part all tail narrow sent short is.each is.taken same) is.on
     (subst (λ (w : Width). EndsSo w (EndsSession why) part.final part.rest part.unread) narrow (is.ended (no_link why ne)))
 
 -- ---- the events of a session ask its table

@@ -162,11 +162,11 @@ module _ (service : Service) (n worker session k : ℕ) (journal : List Event) (
   exports_once before rest (first ∷ second ∷ served) step left behind at stands asked permit = asked.1
 
   both_follow : (class : Class) (why : Why) (before : List Event) (rest : List Place) (served : List Step) (step : Step) (left : List RequestValue) (behind : List Step) → At service.setup worker session before start → Stands journal worker before (step_places ((served ++ step ∷ []) ++ behind) ++ rest)
-      → AsksFirst (early class) (served ++ step ∷ []) left → AllByRecursion GoesOn served → exports step.place.event ≡ true → is_lost step.place.event.decision ≡ false → Heard (user_requests_by class) whys.ChildEnded why behind → Follows (table class) class why ((served ++ step ∷ []) ++ behind)
+      → AsksFirst (early class) (served ++ step ∷ []) left → AllByRecursion (GoesOn service []) served → exports step.place.event ≡ true → is_lost step.place.event.decision ≡ false → Heard (user_requests_by class) whys.ChildEnded why behind → Follows (table class) class why ((served ++ step ∷ []) ++ behind)
   both_follow LogsIn why before rest served step left behind at stands asked on exported kept heard =
       let is = and_parts (is_export step.place.event.ask) (is_permit step.place.event.decision) exported in
       let all : AsksFirst (early LogsIn) (served ++ step ∷ []) [] = subst (λ l. AsksFirst (early LogsIn) (served ++ step ∷ []) l) (logs_exports_last (own_name worker) current right served step left asked is.0) asked in
-      let full = heard_join (early LogsIn) requests.Import (requests.OpenFile 3 (codes "notes") ∷ requests.WriteAt 1 0 (codes "drill") ∷ requests.ReadAt 1 0 16 ∷ requests.CloseFile 1 ∷ requests.Finish ∷ []) whys.ChildEnded why served step behind all on (export_goes_on step.place.event kept exported) heard in
+      let full = heard_join service [] (early LogsIn) requests.Import (requests.OpenFile 3 (codes "notes") ∷ requests.WriteAt 1 0 (codes "drill") ∷ requests.ReadAt 1 0 16 ∷ requests.CloseFile 1 ∷ requests.Finish ∷ []) whys.ChildEnded why served step behind all on (export_goes_on step.place.event kept exported) heard in
       record {
         asked = asked_heard (table LogsIn) whys.ChildEnded why ((served ++ step ∷ []) ++ behind) full;
         ended = logs_in_end service.setup journal worker session legal none sixteen three before rest whys.ChildEnded why _ _ _ (user_requests_by LogsIn) ((served ++ step ∷ []) ++ behind) (file_is_used service.setup journal worker session legal none sixteen three rest whys.ChildEnded why (codes "notes") (codes "drill")) at stands full;

@@ -1,5 +1,5 @@
 -- Believed: what one child had of a session.
-use Rattle.std.specs.Prelude.{◌≡◌, ◌≢◌, ℕ, true, false, List, [], ◌++◌, take, Option, Some, None, IsSomeAnd}
+use Rattle.std.specs.Prelude.{◌≡◌, ◌≢◌, ◌≤◌, ℕ, true, false, List, [], ◌++◌, length, take, Option, Some, None, IsSomeAnd}
 use Rattle.std.specs.Prelude.{option_and_then, option_to_list}
 use Rattle.std.specs.List.{AllByRecursion, flat_map}
 use Rattle.std.specs.Option.{option_map_or}
@@ -18,7 +18,7 @@ use Rattle.service_model.specs.Service.{Service}
 use Rattle.service_model.specs.Places.{Step}
 use Rattle.service_model.specs.Requests.{CameBy}
 use Rattle.service_model.specs.Acts.{AreActsOf}
-use Rattle.service_model.specs.Answers.{answers}
+use Rattle.service_model.specs.Answers.{answer_to, answers}
 
 -- what one child had of a session: the steps of its requests, and the bytes taken, sent, left over and never received
 pub record Part : Type 0 where
@@ -52,10 +52,11 @@ pub record IsRequestStep (service : Service) (step : Step) : Type 0 where
   pub came : IsSomeAnd step.message (λ message. CameBy service message step.place.event.ask)
   pub acts : AreActsOf service.setup step.place step.message step.acts
 
--- a child is served on after this step: it neither ends the session nor exports
-pub record GoesOn (step : Step) : Type 0 where
+-- a child is served on after this step: it neither ends the session nor exports, and its answer is at most one frame
+pub record GoesOn (service : Service) (exported : List ℕ) (step : Step) : Type 0 where
   pub unended : ends_session step.place.event ≡ false
   pub unexported : exports step.place.event ≡ false
+  pub fits : length (answer_to service exported step) ≤ frame_max service.setup.frames
 
 -- why a session ends after a request that ends it: finished, a violation, or a lost decision
 abbrev pub why_of : Decision → Why
@@ -86,7 +87,7 @@ pub record LastSent (end : PartEnd) (whole sent : List ℕ) : Type 0 where
 -- what one child had of a session: its requests, their whole answers, the bytes that passed, and how it ended
 pub record IsPart (service : Service) (exported : List ℕ) (end : PartEnd) (part : Part) : Type 0 where
   pub each : AllByRecursion (IsRequestStep service) (requests_of part)
-  pub on : AllByRecursion GoesOn part.served
+  pub on : AllByRecursion (GoesOn service exported) part.served
   pub taken : part.taken ≡ step_bytes service.setup.frames (requests_of part) ++ part.rest
   pub sent : (last : List ℕ) × (part.sent ≡ answers service exported part.served ++ last)
       × LastSent end (answers service exported (option_to_list part.final)) last

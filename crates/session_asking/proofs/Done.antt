@@ -1,6 +1,6 @@
 -- What an operation comes to.
 use Rattle.std.proofs.Common.{◌≡◌, ◌≤◌, ◌<◌, ℕ, true, false, cond, nat_lt, arith, List, [], ◌∷◌, ◌++◌, length, take, map, Option, Some, None, refl, sym, ap, ◌∙◌}
-use Rattle.std.proofs.lemmas.List.{take-append-le, length-take-le}
+use Rattle.std.proofs.lemmas.List.{length-take, length-take-le, take-append-le}
 use Rattle.std.proofs.Math.Seq.{take-append_seam}
 use Rattle.std.proofs.lemmas.Bool.Decides.{nat_tests}
 use Rattle.std.specs.Prelude.{slice_get}
@@ -73,3 +73,7 @@ from_decoys setup user value le =
 pub has_room : (width : Width) (n : ℕ) → n ≡ transfer_max width → n < body_max width
 has_room widths.Narrow n is = omega (arith, is)
 has_room widths.Wide n is = omega (arith, is)
+
+-- a frame that was made within some room is no longer than that
+pub made_short : (frame : List ℕ) (len room : ℕ) (reply : List ℕ) → reply ≡ take len frame → len ≤ room → length reply ≤ room
+made_short frame len room reply is le = omega (arith, ap length is, length-take len frame, le)

@@ -1,5 +1,5 @@
 -- What one message leaves: the step that was served, and the session that goes on, ends or changes its child.
-use Rattle.std.proofs.Common.{◌≡◌, ℕ, ◌+◌, ◌<◌, Bool, true, false, ◌&&◌, ◌||◌, cond, eqb, ◌++◌, length, List, [], ◌∷◌, take, Option, Some, None, Result, refl, sym, ap, subst, ◌∙◌, arith}
+use Rattle.std.proofs.Common.{◌≡◌, ℕ, ◌+◌, ◌<◌, ◌≤◌, Bool, true, false, ◌&&◌, ◌||◌, cond, eqb, ◌++◌, length, List, [], ◌∷◌, take, Option, Some, None, Result, refl, sym, ap, subst, ◌∙◌, arith}
 use Rattle.std.specs.Prelude.{IfOk, MatchResult, Ok, Err, is_some, slice_get}
 use Rattle.std.specs.List.{AllByRecursion, find}
 use Rattle.std.proofs.lemmas.Bool.{and_parts}
@@ -66,8 +66,8 @@ whole_cut : (xs ys : List ℕ) → xs ≡ ys → (n : ℕ) × (xs ≡ take n ys)
 whole_cut xs ys is = (length ys, is ∙ sym (take_all (length ys) ys (omega arith)))
 
 -- the answer was sent whole
-pub served_whole : (w : Whose) (message : Message) (read : Result Request Bad) (ask : Ask) (user : Option LoggedIn) (old new : List Event) (e : Event) (s t : Option Scene) → (is : IsAsked w message read ask user old new e s t) → (outcome : Outcome) (piece : List ℕ) (last answer : AnswerValue) (reply : List ℕ) (u : Option Scene) (k l : Option Link) (turn : Turn) → IsDone w message read user e outcome piece last answer reply t u → Goes (Exchanged [] reply) k l → IsTurnOf e turn → Serves w message turn (moment old s k) (moment new u l)
-served_whole w message read ask user old new e s t is outcome piece last answer reply u k l turn done sent follows = go turn follows where
+pub served_whole : (w : Whose) (message : Message) (read : Result Request Bad) (ask : Ask) (user : Option LoggedIn) (old new : List Event) (e : Event) (s t : Option Scene) → (is : IsAsked w message read ask user old new e s t) → (outcome : Outcome) (piece : List ℕ) (last answer : AnswerValue) (reply : List ℕ) (u : Option Scene) (k l : Option Link) (turn : Turn) → IsDone w message read user e outcome piece last answer reply t u → Goes (Exchanged [] reply) k l → length reply ≤ frame_max w.service.setup.frames → IsTurnOf e turn → Serves w message turn (moment old s k) (moment new u l)
+served_whole w message read ask user old new e s t is outcome piece last answer reply u k l turn done sent short follows = go turn follows where
   whole : reply ≡ reply_to w.service w.exported message (place_of is.joins.before e) (clock_acts e.ask ++ done.does.acts)
   whole = is_reply w message read ask user old new e s t is outcome piece last answer reply u done
 
@@ -81,7 +81,7 @@ served_whole w message read ask user old new e s t is outcome piece last answer 
     acts = all_played w message read ask user old new e s t is done.does.acts u done.does.played;
     sent = reply;
     bytes = sent;
-    answers = (record { unended = follows; unexported = done.unhanded }, whole);
+    answers = (record { unended = follows; unexported = done.unhanded; fits = subst (λ (b : List ℕ). length b ≤ frame_max w.service.setup.frames) whole short }, whole);
   }
   go (turns.Ends why) follows = record {
     step = step_at is.joins.before e message (clock_acts e.ask ++ done.does.acts);

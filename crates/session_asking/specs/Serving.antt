@@ -120,7 +120,8 @@ pub record Steps (worker : ℕ) (steps : List Step) (old new : List Event) : Typ
 
 -- what a child was sent for its request, by why its session ends after it, if it does
 abbrev pub Answers : Service → List ℕ → Turn → Step → List ℕ → Type 0
-Answers service exported turns.GoesOn step sent = GoesOn step × (sent ≡ answer_to service exported step)
+Answers service exported turns.GoesOn step sent =
+    GoesOn service exported step × (sent ≡ answer_to service exported step)
 Answers service exported (turns.Ends why) step sent =
     LastSent (EndsSession why) (answer_to service exported step) sent
     × (EndsSession why ≢ by_link → EndsSo service.setup.frames (EndsSession why) (Some step) [] [])

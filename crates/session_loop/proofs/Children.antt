@@ -32,7 +32,7 @@ use Rattle.child_keeper.specs.Tickets as tickets
 use Rattle.service_model.specs.Acts.{Finishes, Starts, operations_by, operations_of}
 use Rattle.service_model.specs.Answers.{answer_value, answers, reply_to}
 use Rattle.service_model.specs.Cases.{reply_bytes, message_bytes, place_of}
-use Rattle.service_model.specs.Parts.{EndsSession, HandsOver, IsPart, IsRequestStep, Part, exported_by, final_acts, requests_of, step_bytes}
+use Rattle.service_model.specs.Parts.{EndsSession, GoesOn, HandsOver, IsPart, IsRequestStep, Part, exported_by, final_acts, requests_of, step_bytes}
 use Rattle.service_model.specs.Places.{Step, step_acts, step_places, worker_places}
 use Rattle.service_model.specs.Requests.{CameBy}
 use Rattle.service_model.specs.Service.{Service}
@@ -130,7 +130,7 @@ first_handed w e state a b held user outcome v nothing have none changes unused 
       role = refl;
       is = record {
         each = All-push (IsRequestStep service) have.served final have.each step_is;
-        on = have.on;
+        on = subst (λ x. AllByRecursion (GoesOn service x) have.served) nothing have.on;
         taken = taken;
         sent = ([], sym (append-nil given), record { cut = (0, refl); all = λ ne. sym untold });
         ended = λ ne. have.exported;

@@ -40,7 +40,7 @@ pub record Proceeds (w : Whose) (before after : Moment) (held_old held_new : Lis
   pub served : List Step
   pub steps : Steps w.worker served before.seen after.seen
   pub each : AllByRecursion (IsRequestStep w.service) served
-  pub on : AllByRecursion GoesOn served
+  pub on : AllByRecursion (GoesOn w.service w.exported) served
   pub acts : Goes (Played (step_acts served) [] []) before.scene after.scene
   pub received : List ℕ
   pub framed : held_old ++ received ≡ step_bytes w.service.setup.frames served ++ held_new
@@ -57,7 +57,7 @@ pub record Concludes (w : Whose) (why : Why) (before after : Moment) (held : Lis
   pub final : Option Step
   pub steps : Steps w.worker (served ++ option_to_list final) before.seen after.seen
   pub each : AllByRecursion (IsRequestStep w.service) (served ++ option_to_list final)
-  pub on : AllByRecursion GoesOn served
+  pub on : AllByRecursion (GoesOn w.service w.exported) served
   pub acts : Goes (Played (step_acts (served ++ option_to_list final)) [] []) before.scene after.scene
   pub received : List ℕ
   pub rest : List ℕ
@@ -83,7 +83,7 @@ pub record HandsOn (w : Whose) (e : Event) (state : List ℕ) (before after : Mo
   pub session_is : e.session ≡ w.session
   pub steps : Steps w.worker (served ++ export_step front e message ∷ []) before.seen after.seen
   pub each : AllByRecursion (IsRequestStep w.service) served
-  pub on : AllByRecursion GoesOn served
+  pub on : AllByRecursion (GoesOn w.service w.exported) served
   pub acts : Goes (Played (step_acts served) [] []) before.scene after.scene
   pub received : List ℕ
   pub rest : List ℕ

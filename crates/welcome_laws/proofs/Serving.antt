@@ -158,7 +158,7 @@ module _ (service : Service) (journal : List Event) (worker session : ℕ) (lega
     pub stage : Standing s Q history before
     pub stands : Stands journal worker before (step_places (left_of served) ++ behind)
     pub each : AllByRecursion (IsRequestStep service) (left_of served)
-    pub on : AllByRecursion GoesOn served
+    pub on : AllByRecursion (GoesOn service exported) served
     pub went : Went role session history (answers service exported (left_of served))
         (step_bytes service.setup.frames (left_of served) ++ (rest ++ unread))
 
@@ -177,7 +177,7 @@ module _ (service : Service) (journal : List Event) (worker session : ℕ) (lega
     pub each : AllByRecursion (IsRequestStep service) left
     -- where it neither ends the session nor exports, it is one that the child is served on after
     pub inner : ends_session step.place.event ≡ false → exports step.place.event ≡ false
-        → (more : List Step) × (served ≡ step ∷ more) × (left ≡ left_of more) × AllByRecursion GoesOn more
+        → (more : List Step) × (served ≡ step ∷ more) × (left ≡ left_of more) × AllByRecursion (GoesOn service exported) more
     -- where it exports, it is the one that ends the part, which hands over
     pub last : ends_session step.place.event ≡ false → exports step.place.event ≡ true
         → (served ≡ []) × (final ≡ Some step) × (left ≡ []) × (end ≡ HandsOver)

@@ -1,4 +1,4 @@
-use Rattle.std.proofs.Common.{ap, subst, ◌≡◌, sym, ◌∙◌, refl, rules}
+use Rattle.std.proofs.Common.{ap, subst, ◌≡◌, ◌≤◌, ℕ, length, sym, ◌∙◌, refl, rules}
 use Rattle.std.specs.Prelude.{is_some}
 use Rattle.imsg_frame.specs.Message.{composed_of, message_of, spelling_of}
 use Rattle.outside.proofs.Counts.{NoneFell-then}
@@ -10,7 +10,8 @@ use Rattle.session_asking.specs.Work.{Does, done_operations, told, told_of}
 use Rattle.session_asking.proofs.Answering.{IsAsked, IsDone, known_before, own_session}
 use Rattle.session_asking.proofs.Knowing.{small_value}
 use Rattle.session_asking.proofs.Served.{handed_with, handed_state, has_exported, is_asked, leaves_after, served_lost, served_part, served_whole, still_open, turn_proper, turn_stays, turn_unfaulted, unlogged}
-use Rattle.session_asking.proofs.Done.{has_room}
+use Rattle.request_catalogue.specs.Widths.{frame_max}
+use Rattle.session_asking.proofs.Done.{has_room, made_short}
 use Rattle.session_asking.proofs.serving.serve_message.Goals as goal
 
 pub returns-then-is_lost-clause-answered : goal.returns-then-is_lost-clause-answered
@@ -170,8 +171,10 @@ returns-in-Ok-clause-answered g c =
     let own = own_session w message read.result ask.result user old new e s t is in
     let known : Knows service.setup is.joins.before w.session user = subst (λ n. Knows service.setup is.joins.before n user) own (known_before w message read.result ask.result user old new e s t is) in
     let follows = c.turn_of.ensures in
+    let width_is : frame_max c.reply-len.new.self.width ≡ frame_max service.setup.frames = ap frame_max (c.reply-len.ensures.width ∙ c.args.replies.now.fits) in
+    let short : length reply ≤ frame_max service.setup.frames = made_short c.reply-len.new.self.frame.items c.reply-len.result (frame_max service.setup.frames) reply c.made.ensures (subst (λ (n : ℕ). c.reply-len.result ≤ n) (c.reply-len.new.self.frame_len ∙ width_is) c.reply-len.ensures.within) in
     record {
-      serves = served_whole w message read.result ask.result user old new e s t is c.perform-outcome.result piece last answer reply u k l c.turn_of.result done c.in-Ok.ensures.ok follows;
+      serves = served_whole w message read.result ask.result user old new e s t is c.perform-outcome.result piece last answer reply u k l c.turn_of.result done c.in-Ok.ensures.ok short follows;
       leaves = leaves_after service.setup w.session ask.result user c.noted-live.result rights (g.A.Turns.at c.ask-event.new.self).rights old new e c.turn_of.result is.joins may.served known own ask.ensures.request ask.ensures.proper c.ask-event.ensures.rights unhanded c.noted-live.ensures follows;
       rights = c.ask-event.ensures.rights;
       replied = record { handed = λ event same. turn_stays e event c.turn_of.result follows same; kept = λ ne. refl };
