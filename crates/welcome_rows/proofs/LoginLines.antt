@@ -1,6 +1,6 @@
--- The lines of a login.
-use Rattle.std.proofs.Common.{◌≡◌, ◌≢◌, ℕ, zero, suc, ◌+◌, ◌-◌, ◌≤◌, lit≤, true, false, not, ◌&&◌, cond, eqb, List}
-use Rattle.std.proofs.Common.{[], ◌∷◌, ◌++◌}
+-- The lines of a login, and those after it.
+use Rattle.std.proofs.Common.{◌≡◌, ◌≢◌, ℕ, zero, suc, ◌+◌, ◌-◌, ◌≤◌, lit≤, Bool, true, false, not, ◌&&◌, cond, eqb}
+use Rattle.std.proofs.Common.{List, [], ◌∷◌, ◌++◌}
 use Rattle.std.proofs.Common.{length, take, drop, get_or, Some, refl, sym, ap, subst, ◌∙◌, add-one}
 use Rattle.std.proofs.Common.{append_assoc, arith}
 use Rattle.std.specs.Prelude.{codes, nat_le}
@@ -9,14 +9,16 @@ use Rattle.std.specs.List.{list_all, list_any, prefix_len}
 use Rattle.std.specs.Str.Lines.{strip_carriage_return}
 use Rattle.std.proofs.lemmas.Bool.{and_from, and_parts, le-leb, leb-true}
 use Rattle.std.proofs.lemmas.Bool.Decides.{nat_tests}
-use Rattle.std.proofs.lemmas.List.{append-nil, length-append}
+use Rattle.std.proofs.lemmas.List.{length-append}
 use Rattle.std.proofs.lemmas.List.Folds.{prefix_len-append}
-use Rattle.request_catalogue.specs.Texts.{begins_name, continues_name, is_name, is_typed, is_typed_reply}
+use Rattle.request_catalogue.specs.Texts.{begins_name, continues_name, is_label, is_name, is_typed, is_typed_reply}
 use Rattle.child_protocol.specs.Commands.{PreCommand, Respond, Terminal, User, is_terminal, legal, pre_command}
-use Rattle.child_protocol.specs.Lines.{Line, TooLong, behind, behind_line, front_by, front_of, line_end}
+use Rattle.child_protocol.specs.Lines.{Line, TooLong, behind, behind_line, behind_lines, front_by, front_of, line_end}
 use Rattle.child_protocol.specs.Lines.{line_front}
+use Rattle.child_protocol.specs.User.{Get, Put, UserCommand, is_content, space_in, user_command}
 use Rattle.welcome_laws.specs.Client.{AreEarlier, BeginWith, BeginsWith, is_response}
-use Rattle.welcome_rows.specs.Met.{earlier_of, pair_bytes, said_bytes}
+use Rattle.welcome_laws.specs.Files.{BeginWithCommands, BeginsWithCommand}
+use Rattle.welcome_rows.specs.Met.{earlier_of, line_count, login_bytes, pair_bytes, wish_bytes, wishes_of}
 
 -- ---- typed bytes end no line
 
@@ -140,48 +142,85 @@ begins text more command typed short is = record {
 abbrev Pair : List ℕ → List ℕ → List PreCommand → List PreCommand
 Pair name response commands = User name ∷ Respond response ∷ commands
 
+abbrev second_bytes : List ℕ → List ℕ → List ℕ
+second_bytes response more = (codes "resp " ++ response) ++ 10 ∷ more
+
+pair_shape : (name response more : List ℕ)
+    → pair_bytes name response ++ more ≡ (codes "user " ++ name) ++ 10 ∷ second_bytes response more
+pair_shape name response more = simp append_assoc
+
+user_begins : (name response more : List ℕ) → is_name name ≡ true
+    → Begins (User name) (pair_bytes name response ++ more) (second_bytes response more)
+user_begins name response more named =
+    let n = name_typed name named in
+    subst (λ (bytes : List ℕ). Begins (User name) bytes (second_bytes response more))
+    (sym (pair_shape name response more))
+    (begins (codes "user " ++ name) (second_bytes response more) (User name) n.0 (omega (arith, n.1))
+    (user_line name named))
+
+response_begins : (response more : List ℕ) → is_typed_reply response ≡ true
+    → Begins (Respond response) (second_bytes response more) more
+response_begins response more typed =
+    let t = reply_typed response typed in
+    begins (codes "resp " ++ response) more (Respond response) t.0 (omega (arith, t.1)) (response_line response typed)
+
 pair_begins : (name response more : List ℕ) (commands : List PreCommand) → is_name name ≡ true
     → is_typed_reply response ≡ true → BeginWith commands more
     → BeginWith (Pair name response commands) (pair_bytes name response ++ more)
 pair_begins name response more commands named typed others =
-    let one = codes "user " ++ name in
-    let two = codes "resp " ++ response in
-    let n = name_typed name named in
-    let t = reply_typed response typed in
-    let second = begins two more (Respond response) t.0 (omega (arith, t.1)) (response_line response typed) in
-    let first = begins one (two ++ 10 ∷ more) (User name) n.0 (omega (arith, n.1)) (user_line name named) in
-    subst (BeginWith (Pair name response commands)) (sym (shape name response more)) (
+    let first = user_begins name response more named in
+    let second = response_begins response more typed in (
       first.line,
       subst (BeginWith (Respond response ∷ commands)) (sym first.behind_is)
           (second.line, subst (BeginWith commands) (sym second.behind_is) others),
-    ) where
-      shape : (name response more : List ℕ) → pair_bytes name response ++ more ≡ (codes "user " ++ name) ++ 10 ∷ ((codes
-          "resp " ++ response) ++ 10 ∷ more)
-      shape name response more = simp append_assoc
+    )
+
+pair_behind : (name response more : List ℕ) → is_name name ≡ true → is_typed_reply response ≡ true
+    → behind_line (behind_line (pair_bytes name response ++ more)) ≡ more
+pair_behind name response more named typed =
+    ap behind_line (user_begins name response more named).behind_is ∙ (response_begins response more typed).behind_is
 
 terminal_line : pre_command (codes "term vt220") ≡ Terminal (codes "vt220")
 unfolding pre_command is_terminal
 terminal_line = refl
 
-one_pair : (name response : List ℕ) → is_name name ≡ true → is_typed_reply response ≡ true
-    → BeginWith (Pair name response []) (pair_bytes name response)
-one_pair name response named typed =
-    subst (BeginWith (Pair name response [])) (append-nil (pair_bytes name response))
-    (pair_begins name response [] [] named typed tt)
+terminal_begins : (more : List ℕ) → Begins (Terminal (codes "vt220")) (codes "term vt220\n" ++ more) more
+terminal_begins more = begins (codes "term vt220") more (Terminal (codes "vt220")) refl (lit≤ tt) terminal_line
 
--- all lines that are said, as they are made
-pub said_lines : (name mistyped response : List ℕ) → is_name name ≡ true → is_typed_reply response ≡ true
+-- a terminal and two logins, with anything after them
+again_shape : (pair other more : List ℕ)
+    → ((codes "term vt220\n" ++ pair) ++ other) ++ more ≡ codes "term vt220\n" ++ (pair ++ (other ++ more))
+again_shape pair other more =
+    append_assoc (codes "term vt220\n" ++ pair) other more ∙ append_assoc (codes "term vt220\n") pair (other ++ more)
+
+-- all lines of a login, as they are made, with anything after them
+pub said_lines : (name mistyped response more : List ℕ) → is_name name ≡ true → is_typed_reply response ≡ true
     → (mistyped ≢ [] → is_typed_reply mistyped ≡ true)
-    → BeginWith (earlier_of name mistyped ++ (User name ∷ Respond response ∷ [])) (said_bytes name mistyped response)
-said_lines name [] response named typed typed_too = one_pair name response named typed
-said_lines name (c ∷ cs) response named typed typed_too =
-    let pair = pair_begins name (c ∷ cs) (pair_bytes name response) (Pair name response []) named (typed_too (λ e. cc))
-    (one_pair name response named typed) in
-    let more = pair_bytes name (c ∷ cs) ++ pair_bytes name response in
-    let first = begins (codes "term vt220") more (Terminal (codes "vt220")) refl (lit≤ tt) terminal_line in
+    → BeginWith (earlier_of name mistyped ++ (User name ∷ Respond response ∷ []))
+    (login_bytes name mistyped response ++ more)
+said_lines name [] response more named typed typed_too = pair_begins name response more [] named typed tt
+said_lines name (c ∷ cs) response more named typed typed_too =
+    let last = pair_bytes name response ++ more in
+    let pair = pair_begins name (c ∷ cs) last (Pair name response []) named (typed_too (λ e. cc))
+    (pair_begins name response more [] named typed tt) in
+    let first = terminal_begins (pair_bytes name (c ∷ cs) ++ last) in
     subst (BeginWith (Terminal (codes "vt220") ∷ Pair name (c ∷ cs) (Pair name response [])))
-    (sym (append_assoc (codes "term vt220\n") (pair_bytes name (c ∷ cs)) (pair_bytes name response)))
+    (sym (again_shape (pair_bytes name (c ∷ cs)) (pair_bytes name response) more))
     (first.line, subst (BeginWith (Pair name (c ∷ cs) (Pair name response []))) (sym first.behind_is) pair)
+
+-- and what comes after them
+pub said_behind : (name mistyped response more : List ℕ) → is_name name ≡ true → is_typed_reply response ≡ true
+    → (mistyped ≢ [] → is_typed_reply mistyped ≡ true)
+    → behind_lines (line_count mistyped) (login_bytes name mistyped response ++ more) ≡ more
+said_behind name [] response more named typed typed_too = pair_behind name response more named typed
+said_behind name (c ∷ cs) response more named typed typed_too =
+    let last = pair_bytes name response ++ more in
+    let pair = pair_bytes name (c ∷ cs) ++ last in
+    ap (λ bytes. behind_lines 5 bytes) (again_shape (pair_bytes name (c ∷ cs)) (pair_bytes name response) more)
+    ∙ ap (λ bytes. behind_line (behind_line (behind_line (behind_line bytes)))) (terminal_begins pair).behind_is
+    ∙ ap (λ bytes. behind_line (behind_line bytes))
+    (pair_behind name (c ∷ cs) last named (typed_too (λ e. cc)))
+    ∙ pair_behind name response more named typed
 
 -- and so they may come before a login, where the setup allows two tries
 pub earlier_lines : (name mistyped : List ℕ) (tries : ℕ) → 1 ≤ tries → (mistyped ≢ [] → 2 ≤ tries)
@@ -192,3 +231,34 @@ earlier_lines name (c ∷ cs) tries some two = record { stays = refl; closed = r
 pub has_response : (name mistyped : List ℕ) → list_any is_response (earlier_of name mistyped) ≡ true → mistyped ≢ []
 has_response name [] h = absurd cc
 has_response name (c ∷ cs) h = λ e. cc
+
+-- ---- the lines after a login
+
+put_line : user_command (codes "put notes hello") ≡ Put (codes "notes") (codes "hello")
+unfolding user_command is_label is_content space_in
+put_line = refl
+
+get_line : user_command (codes "get notes") ≡ Get (codes "notes")
+unfolding user_command is_label
+get_line = refl
+
+command_begins : (text more : List ℕ) (command : UserCommand) → list_all is_typed text ≡ true → length text ≤ 300
+    → user_command text ≡ command → BeginsWithCommand command (text ++ 10 ∷ more)
+command_begins text more command typed short is = record {
+  end = length text;
+  whole = first_end text more typed;
+  short = short;
+  text = text;
+  front = first_front text more typed short;
+  is = is;
+}
+
+pub wishes_begin : (wants_files : Bool) → BeginWithCommands (wishes_of wants_files) (wish_bytes wants_files)
+wishes_begin false = tt
+wishes_begin true = (
+  command_begins (codes "put notes hello") (codes "get notes\n") (Put (codes "notes") (codes "hello")) refl (lit≤ tt)
+      put_line,
+  subst (BeginWithCommands (Get (codes "notes") ∷ []))
+      (sym (behind_first (codes "put notes hello") (codes "get notes\n") refl))
+      (command_begins (codes "get notes") [] (Get (codes "notes")) refl (lit≤ tt) get_line, tt),
+)

@@ -15,6 +15,7 @@ use Rattle.policy_model.specs.Settings.{Settings}
 use Rattle.policy_model.specs.Verdict.{is_next_password}
 use Rattle.session_laws.proofs.Permits.{found_name}
 use Rattle.login_laws.specs.Login.{CanLogIn, IsRight}
+use Rattle.welcome_rows.specs.declared.serving.Visit.{Visit}
 use Rattle.welcome_rows.specs.Met.{CanBeReady, stands_in_way}
 use Rattle.welcome_rows.proofs.Asked.{holder_own, unreplied_for}
 
@@ -27,15 +28,14 @@ found_in test xs ys i x same so_far within is passes =
     ∙ ap (λ y. find test (y ∷ drop (i + 1) xs)) (sym (is ∙ ap (λ (zs : List Account). get_or zs i x) same))
     ∙ ap (λ b. cond b (Some x) (find test (drop (i + 1) xs))) passes
 
-module _ (setup : Settings) (user : Name) (response : List ℕ) (before : List Event)
-    (ready : CanBeReady setup user response) (session : ℕ)
-    (alone : list_any (stands_in_way user session) before ≡ false) where
+module _ (setup : Settings) (visit : Visit) (before : List Event) (ready : CanBeReady setup visit) (session : ℕ)
+    (alone : list_any (stands_in_way visit.user session) before ≡ false) where
   account : Account
   account = ready.account
 
   unreplied : replies_of before ready.account.name ≡ []
-  unreplied = subst (λ (name : Name). replies_of before name ≡ []) (sym (found_name setup user ready.account
-      ready.found)) (unreplied_for user session before alone)
+  unreplied = subst (λ (name : Name). replies_of before name ≡ []) (sym (found_name setup visit.user
+      ready.account ready.found)) (unreplied_for visit.user session before alone)
 
   none_gone : ready.account.sequence - 0 ≡ ready.account.sequence
   none_gone = omega arith
@@ -46,20 +46,21 @@ module _ (setup : Settings) (user : Name) (response : List ℕ) (before : List E
       (ap (λ (replies : List ℕ). not (eqb (ready.account.sequence - length replies) 0)) unreplied
       ∙ ap (λ n. not (eqb n 0)) none_gone ∙ ap not ready.ready.left)
 
-  not_other : option_map_or (λ holder. not (eqb holder session)) (holder_of before user) false ≡ false
-  not_other = by (holder_of before user) (holder_own user session before alone) where
+  not_other : option_map_or (λ holder. not (eqb holder session)) (holder_of before visit.user) false ≡ false
+  not_other = by (holder_of before visit.user) (holder_own visit.user session before alone) where
     by : (o : Option ℕ) → ((holder : ℕ) → o ≡ Some holder → holder ≡ session)
         → option_map_or (λ holder. not (eqb holder session)) o false ≡ false
     by None own = refl
     by (Some holder) own = ap not (eq-eqb holder session (own holder refl))
 
-  pub can_log_in : (now : ℕ) → CanLogIn setup before session user now ready.account
+  pub can_log_in : (now : ℕ) → CanLogIn setup before session visit.user now ready.account
   can_log_in now = record { found = ready.found; live = live; free = rw not_other refl }
 
   next : is_next_password before ready.account ready.ready.password ≡ true
   next = rw unreplied (and_from _ _ ready.ready.next (ap (λ b. not (b || false)) ready.ready.fresh))
 
-  pub is_right : (dictionary : List (List ℕ)) (words hex : Option ℕ) → AreCandidatesOf dictionary response words hex
+  pub is_right : (dictionary : List (List ℕ)) (words hex : Option ℕ)
+      → AreCandidatesOf dictionary visit.response words hex
       → IsRight before ready.account words hex
   is_right dictionary words hex spelled = record {
     next = list_any-append (is_next_password before ready.account) (option_to_list words) (option_to_list hex)

@@ -1,7 +1,6 @@
--- Inner: a user's session that comes to log in and is welcomed, and the run that it is of.
+-- Inner: a user's session that comes to log in, is welcomed and is served files, and the run that it is of.
 use Rattle.std.specs.Prelude.{◌≡◌, ℕ, List, [], ◌∷◌, length, slice_get, Some, IfSome}
 use Rattle.std.specs.List.{AllByRecursion}
-use Rattle.request_catalogue.specs.declared.texts.Name.{Name}
 use Rattle.outside.specs.declared.memory.post.MemPost.{MemPost}
 use Rattle.outside.specs.declared.memory.script.Script.{Script}
 use Rattle.outside.specs.Scene.{IsFresh}
@@ -12,22 +11,27 @@ use Rattle.policy_model.specs.Settings.{IsInRange, Settings}
 use Rattle.service_model.specs.Service.{Service}
 use Rattle.service_model.specs.Sittings.{AreAnswered, AreSittingsOf, Sitting}
 use Rattle.monitor_run.specs.Headline.{ConversationsMatch, JournalIsLegal}
+use Rattle.welcome_laws.specs.Files.{AreServed, AsksForFiles}
 use Rattle.welcome_laws.specs.Welcome.{ComesToLogIn, IsWelcomed}
 use Rattle.welcome_rows.specs.declared.serving.Visit.{Visit}
+use Rattle.welcome_rows.specs.Met.{wishes_of}
 
 -- the service of a setup and of words, without any information
 abbrev pub service_by : Settings → List (List ℕ) → Service
 service_by setup words = record { setup = setup; words = words; forms = [] }
 
--- the one session of a worker is answered whole and comes to log in as this user by this response; so it is welcomed
-pub record GetsIn (service : Service) (journal : List Event) (worker : ℕ) (user : Name) (response : List ℕ)
-    : Type 0 where
+-- the one session of a worker comes to log in by a visit's response, so it is welcomed; it asks for the files that the
+-- visit wants, so it is served them
+pub record GetsIn (service : Service) (journal : List Event) (worker : ℕ) (visit : Visit) : Type 0 where
   pub account : Account
   pub sitting : Sitting
   pub alone : AreSittingsOf service journal worker (sitting ∷ [])
   pub answered : AllByRecursion (λ s. AreAnswered service [] s.parts) (sitting ∷ [])
-  pub comes : ComesToLogIn service journal user account response sitting
-  pub welcomed : IsWelcomed journal user account sitting
+  pub comes : ComesToLogIn service journal visit.user account visit.response sitting
+  pub welcomed : IsWelcomed journal visit.user account sitting
+  pub asks : AsksForFiles service journal visit.user account visit.response sitting comes
+      (wishes_of visit.wants_files)
+  pub served : AreServed account (wishes_of visit.wants_files) sitting
 
 -- ---- the run
 

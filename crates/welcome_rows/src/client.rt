@@ -1,19 +1,19 @@
-//! What the acts of a post show of the client.
+//! What the acts of a post show of the client and of files.
 
 ghost use Rattle.std.specs.Prelude.{◌≡◌, ◌≤◌, ◌<◌, ◌+◌, ◌*◌, ◌++◌, true, ℕ, List, [], ◌∷◌, IfOk, count_by, length};
+ghost use Rattle.std.specs.List.{list_all};
+ghost use Rattle.request_catalogue.specs.TextBytes.{name_bytes};
 ghost use Rattle.outside.specs.declared.act.Act.{Act};
 ghost use Rattle.outside.specs.Scene.{came_count, is_coming};
 ghost use Rattle.welcome_laws.specs.Client.{AgreesWith, ClientSays, is_receiving};
-ghost use Rattle.welcome_rows.specs.Met.{earlier_of};
+ghost use Rattle.welcome_rows.specs.Met.{earlier_of, goes_well, wishes_of};
 
+use crate::serving::Visit;
 use outside::{Accepted, Act};
 use std::alloc::{AllocError, Global};
 
 /// How many requests a login makes besides those that wait for bytes of the client.
 const BESIDES: usize = 8;
-
-/// How many requests the lines before a login take, where a client says them.
-const EARLIER: usize = 6;
 
 /// How often bytes of the client were waited for.
 fn receivings(acts: &[Act]) -> usize
@@ -29,17 +29,60 @@ fn is_receiving(act: &Act) -> bool
     matches!(act, Act::ConnRecv { .. })
 }
 
-/// Whether a session with so many requests may wait for the client's bytes as often as it did.
-pub fn are_few(requests: u32, mistyped: &[u8], acts: &[Act]) -> bool
-    ensures { result ≡ true → (name : List ℕ)
-        → count_by is_receiving acts.now + 2 * length (earlier_of name mistyped.now) + 8 ≤ requests }
+/// How many requests the lines before a login take.
+fn earlier_requests(mistyped: &[u8]) -> usize
+    ensures value { (name : List ℕ) → result ≡ 2 * length (earlier_of name mistyped.now) }
+    ensures bound { result ≤ 6 }
 {
-    let besides = if mistyped.is_empty() {
-        BESIDES
-    } else {
-        BESIDES + EARLIER
-    };
-    receivings(acts).saturating_add(besides) <= requests as usize
+    if mistyped.is_empty() { 0 } else { 6 }
+}
+
+/// How many requests the files take that a client wants.
+fn file_requests(wants_files: bool) -> usize
+    ensures value { result ≡ 4 * length (wishes_of wants_files) }
+    ensures bound { result ≤ 8 }
+{
+    if wants_files { 8 } else { 0 }
+}
+
+/// Whether a session with so many requests may wait for the bytes of a visit's client as often as it did.
+pub fn are_few(requests: u32, visit: &Visit, acts: &[Act]) -> bool
+    ensures { result ≡ true
+        → count_by is_receiving acts.now + 2 * length (earlier_of (name_bytes visit.now.user) visit.now.mistyped) + 8
+        + 4 * length (wishes_of visit.now.wants_files) ≤ requests }
+{
+    let earlier = earlier_requests(visit.mistyped.as_slice());
+    let files = file_requests(visit.wants_files);
+    receivings(acts).saturating_add(earlier + BESIDES + files) <= requests as usize
+}
+
+/// Whether an operation on a file didn't fail or bring more than was asked for. Any other operation goes well.
+fn goes_well(act: &Act) -> bool
+    ensures { result ≡ goes_well act.now }
+{
+    match act {
+        Act::VaultRead {
+            max,
+            outcome: Ok(bytes),
+            ..
+        } => bytes.as_slice().len() <= *max,
+        Act::VaultRead {
+            outcome: Err(_),
+            ..
+        }
+        | Act::VaultWrite {
+            outcome: Err(_),
+            ..
+        } => false,
+        _ => true,
+    }
+}
+
+/// Whether no operation on a file failed or brought more than was asked for.
+pub fn files_go_well(acts: &[Act]) -> bool
+    ensures { result ≡ list_all goes_well acts.now }
+{
+    acts.iter().all(|act| goes_well(act))
 }
 
 /// How many connections came.

@@ -1,13 +1,17 @@
-//! What a journal shows: that nothing was lost and no session ended by a fault, and that a user is asked
-//! for by one session alone.
+//! What a journal shows: that nothing was lost and no session ended by a fault, that a user is asked for by
+//! one session alone, and how many texts its client was sent before it was logged in.
 
 ghost use Rattle.std.specs.Prelude.{◌≡◌, ◌≢◌, ◌&&◌, true, false, []};
 ghost use Rattle.std.specs.List.{list_any};
+ghost use Rattle.policy_model.specs.Asks.{accepts};
 ghost use Rattle.policy_model.specs.Journal.{has_lost};
 ghost use Rattle.service_model.specs.Ends.{is_fault_end};
 ghost use Rattle.login_laws.specs.Login.{asks_for};
-ghost use Rattle.welcome_rows.specs.Met.{IsAskedAlone, asks_for_other, stands_in_way};
+ghost use Rattle.welcome_laws.specs.Welcome.{tells_client, texts_told};
+ghost use Rattle.welcome_rows.specs.Met.{AcceptsAfter, IsAskedAlone, asks_for_other, line_count, stands_in_way};
 
+use crate::lines::line_count;
+use crate::serving::Visit;
 use policy_model::{Ask, Event, Why, has_lost};
 use request_catalogue::Name;
 
@@ -97,4 +101,49 @@ pub fn asks_alone(user: &Name, journal: &[Event]) -> bool
         }
     }
     true
+}
+
+/// Whether an ask is a WRITE to the client.
+fn tells_client(ask: &Ask) -> bool
+    ensures { result ≡ tells_client ask.now }
+{
+    matches!(ask, Ask::WriteAt { handle: 0, .. })
+}
+
+/// How many times a session asked to write to its client.
+fn texts_told(before: &[Event], session: u32) -> usize
+    ensures { result ≡ texts_told before.now session }
+{
+    before
+        .iter()
+        .filter(|event| event.session == session && tells_client(&event.ask))
+        .count()
+}
+
+/// Whether an event comes after so many texts to its client, if it is an accepted REPLY.
+fn comes_after(texts: usize, before: &[Event], event: &Event) -> bool
+    ensures { result ≡ true → accepts event.now ≡ true → texts_told before.now event.now.session ≡ texts }
+{
+    !event.accepts() || texts_told(before, event.session) == texts
+}
+
+/// Whether each accepted REPLY comes after so many texts to its client.
+fn accepts_after(texts: usize, journal: &[Event]) -> bool
+    ensures { result ≡ true → AcceptsAfter journal.now texts }
+{
+    for place in 0..journal.len() {
+        if !comes_after(texts, &journal[..place], &journal[place]) {
+            return false;
+        }
+    }
+    true
+}
+
+/// Whether each accepted REPLY comes after a text for each line of a visit's login, if its client wants files
+/// then.
+pub fn tells_each_line(visit: &Visit, journal: &[Event]) -> bool
+    ensures { result ≡ true → visit.now.wants_files ≡ true
+        → AcceptsAfter journal.now (line_count visit.now.mistyped) }
+{
+    !visit.wants_files || accepts_after(line_count(visit.mistyped.as_slice()), journal)
 }

@@ -1,10 +1,11 @@
-//! The lines of a login.
+//! The lines of a login, and those after it.
 
 ghost use Rattle.std.specs.Prelude.{◌≡◌, ◌≢◌, ◌≤◌, ◌++◌, true, [], IfOk};
 ghost use Rattle.request_catalogue.specs.TextBytes.{name_bytes};
 ghost use Rattle.request_catalogue.specs.Texts.{is_typed_reply};
-ghost use Rattle.welcome_rows.specs.Met.{pair_bytes, said_bytes};
+ghost use Rattle.welcome_rows.specs.Met.{line_count, login_bytes, pair_bytes, visit_bytes, wish_bytes};
 
+use crate::serving::Visit;
 use request_catalogue::{Name, is_typed_reply};
 use std::alloc::{AllocError, Global};
 
@@ -33,20 +34,23 @@ pub fn are_typed(tries: u32, mistyped: &[u8], response: &[u8]) -> bool
     mistyped.is_empty() || (is_typed_reply(mistyped) && tries >= 2)
 }
 
+/// How many lines a client says up to its response, with that.
+pub(crate) fn line_count(mistyped: &[u8]) -> usize
+    ensures { result ≡ line_count mistyped.now }
+{
+    if mistyped.is_empty() { 2 } else { 5 }
+}
+
 /// What a client says that logs in by a response: where there is a mistyped one, first a terminal and the
 /// lines of a login by that.
-///
-/// # Errors
-///
-/// There isn't the memory.
-pub fn login_lines(
+fn login_lines(
     alloc: Global,
     user: &Name,
     mistyped: &[u8],
     response: &[u8],
 ) -> Result<Vec<u8>, AllocError>
     ensures { IfOk result (λ lines. lines.items
-        ≡ said_bytes (name_bytes user.now) mistyped.now response.now) }
+        ≡ login_bytes (name_bytes user.now) mistyped.now response.now) }
 {
     let mut lines = Vec::new(alloc);
     if !mistyped.is_empty() {
@@ -54,5 +58,30 @@ pub fn login_lines(
         put_pair(&mut lines, user, mistyped)?;
     }
     put_pair(&mut lines, user, response)?;
+    Ok(lines)
+}
+
+/// What a client says that wants files.
+fn wish_lines(wants_files: bool) -> &'static [u8]
+    ensures { result.now ≡ wish_bytes wants_files }
+{
+    if wants_files {
+        b"put notes hello\nget notes\n"
+    } else {
+        b""
+    }
+}
+
+/// What a visit's client says: the lines of its login, and those for the files that it wants.
+///
+/// # Errors
+///
+/// There isn't the memory.
+pub fn visit_lines(alloc: Global, visit: &Visit) -> Result<Vec<u8>, AllocError>
+    ensures { IfOk result (λ lines. lines.items ≡ visit_bytes visit.now) }
+{
+    let mistyped = visit.mistyped.as_slice();
+    let mut lines = login_lines(alloc, &visit.user, mistyped, visit.response.as_slice())?;
+    lines.extend_from_slice(wish_lines(visit.wants_files))?;
     Ok(lines)
 }

@@ -18,7 +18,7 @@ use std::thread::Threads;
 const TURNS: u32 = 500;
 
 /// The visit of a user of this number, whose children were sent nothing yet, and whose client says nothing
-/// before its login.
+/// before its login and wants no files after it.
 ///
 /// # Errors
 ///
@@ -39,6 +39,7 @@ pub fn visit_of(
         user,
         mistyped: Bytes::of(alloc, b"")?,
         response: Bytes::of(alloc, response)?,
+        wants_files: false,
         script: Script {
             client: Bytes::of(alloc, client)?,
             pre: Bytes::from(said_by_shipped(alloc, &Role::Pre { session: 1 }, b"")?),

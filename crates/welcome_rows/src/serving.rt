@@ -25,6 +25,8 @@ pub struct Visit {
     pub mistyped: Bytes,
     /// The next password, in 16 digits.
     pub response: Bytes,
+    /// Whether the client asks for files after its login.
+    pub wants_files: bool,
     /// What the client and the children send.
     pub script: Script,
 }

@@ -76,7 +76,7 @@ quit
 }
 
 /// Whether all of these visits get in.
-fn all_get_in<R: Threads + Wait + Sync>(
+pub(super) fn all_get_in<R: Threads + Wait + Sync>(
     rt: &R,
     alloc: Global,
     house: &House,

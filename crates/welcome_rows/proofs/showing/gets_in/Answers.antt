@@ -29,12 +29,11 @@ returns c =
     (length c.deref.result.now) worker post refl p.3.0 p.1 in
     let post_at : slice_get posts worker ≡ Some post = subst (λ (ps : List MemPost). slice_get ps worker ≡ Some post)
     c.deref.ensures.value found in
-    let journal_met : IsMetInJournal service.setup journal visit.user visit.mistyped visit.response = subst
-    (λ (events : List Event). IsMetInJournal c.args.house.now.setup events visit.user visit.mistyped visit.response)
-    c.deref-else-not-tells.ensures.value (c.is_met_in_journal.ensures met) in
+    let journal_met : IsMetInJournal service.setup journal visit = subst
+    (λ (events : List Event). IsMetInJournal c.args.house.now.setup events visit) c.deref-else-not-tells.ensures.value
+    (c.is_met_in_journal.ensures met) in
     carried c.is_met_in_acts.result
-    (λ acts_met. subst (λ (o : Option Visit). IfSome o (λ visit. GetsIn service journal worker visit.user
-    visit.response))
+    (λ acts_met. subst (λ (o : Option Visit). IfSome o (λ visit. GetsIn service journal worker visit))
     (sym visit_at) (shown service visits journal posts c.requires worker visit post visit_at post_at journal_met
     c.acts.result.now c.talks.result.now acts_met (c.tells.ensures.0 some) c.acts.ensures.acts c.talks.ensures))
     c.is_met_in_acts.ensures

@@ -7,7 +7,7 @@ pub returns-then-is_named : goal.returns-then-is_named
 returns-then-is_named c =
     λ ready. record {
       account = c.account-item.result;
-      found = found_in (λ a. same_name a.name c.args.user.now) c.args.setup.now.accounts
+      found = found_in (λ a. same_name a.name c.args.visit.now.user) c.args.setup.now.accounts
           c.as_slice-account-items.result.now c.loop-account.account-index c.account-item.result
           (c.as_slice-account-items.ensures ∙ ap (λ (s : Settings). s.accounts) c.parts.ensures.value)
           c.loop-account.invariant c.loop-account-test.true c.account-item.is

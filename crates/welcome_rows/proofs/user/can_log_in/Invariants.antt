@@ -5,5 +5,5 @@ use Rattle.welcome_rows.proofs.user.can_log_in.Given as goal
 
 abbrev pub invariant-loop-account : goal.invariant-loop-account
 invariant-loop-account l =
-    find (λ a. same_name a.name l.user) l.setup.accounts ≡ find (λ a. same_name a.name l.user) (drop l.account-index
-    l.setup.accounts)
+    find (λ a. same_name a.name l.visit.user) l.setup.accounts ≡ find (λ a. same_name a.name l.visit.user)
+    (drop l.account-index l.setup.accounts)
