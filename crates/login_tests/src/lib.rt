@@ -5,3 +5,7 @@
 mod failing;
 #[cfg(test)]
 mod logins;
+#[cfg(test)]
+mod unwelcomed;
+#[cfg(test)]
+mod welcomes;

@@ -1,4 +1,0 @@
-//! Logins in memory that meet all premises, and runs that don't.
-
-mod logins;
-mod others;
