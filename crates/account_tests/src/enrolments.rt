@@ -1,7 +1,7 @@
-use account_file::read_setup;
+use account_file::{SetupError, read_setup};
 use enrol_mode::*;
 use outside::{CallKind, Fail, MemStream};
-use policy_model::Account;
+use policy_model::{Account, Setup};
 use std::alloc::{AllocError, Global};
 use std::test::Fail as Fault;
 
@@ -74,16 +74,25 @@ fn command_of(alloc: Global, line: &str) -> Result<Option<EnrolCommand>, AllocEr
     })
 }
 
-/// The status of the words with an input, and what is sent.
-fn told(alloc: Global, line: &str, input: &str, fails: &[Fail]) -> Result<String, Fault> {
-    let command = command_of(alloc, line)?.ok_or("a command")?;
-    let mut ends = MemStream::new(alloc, input.as_bytes(), &[7], fails)?;
-    let status = match run_enrol(alloc, &command, &mut ends) {
+/// The status of a command over these ends, and what is sent.
+fn status_and_sent(
+    alloc: Global,
+    command: &EnrolCommand,
+    ends: &mut MemStream,
+) -> Result<String, AllocError> {
+    let status = match run_enrol(alloc, command, ends) {
         Ok(()) => 0,
         Err(fault) => fault.status(),
     };
     let sent = std::str::from_utf8(ends.sent()).unwrap_or("?");
-    Ok(format!(in alloc; "{status}{sent}")?)
+    format!(in alloc; "{status}{sent}")
+}
+
+/// The status of the words with an input, and what is sent.
+fn told(alloc: Global, line: &str, input: &str, fails: &[Fail]) -> Result<String, Fault> {
+    let command = command_of(alloc, line)?.ok_or("a command")?;
+    let mut ends = MemStream::new(alloc, input.as_bytes(), &[7], fails)?;
+    Ok(status_and_sent(alloc, &command, &mut ends)?)
 }
 
 /// Whether the words with an input have this status, and send this.
@@ -162,55 +171,91 @@ fn lines_of(alloc: Global, accounts: &[Account]) -> Result<String, AllocError> {
     Ok(text)
 }
 
-/// The accounts of a file, a line each; nothing where it is no setup.
-fn accounts_in(alloc: Global, bytes: &[u8]) -> Result<String, AllocError> {
-    let Ok(setup) = read_setup(alloc, bytes) else {
-        return Ok(String::new(alloc));
-    };
-    lines_of(alloc, setup.parts().accounts.as_slice())
+/// Whether a setup that was read has these accounts, a line each, or none where it was refused.
+fn has_read(
+    alloc: Global,
+    read: &Result<Setup, SetupError>,
+    want: &str,
+) -> Result<bool, AllocError> {
+    match read {
+        Ok(setup) => Ok(lines_of(alloc, setup.parts().accounts.as_slice())?.as_str() == want),
+        Err(_) => Ok(want.is_empty()),
+    }
 }
 
-/// Whether a setup of these texts, one after the other, has these accounts.
-fn has_accounts(alloc: Global, texts: &[&str], want: &str) -> Result<bool, AllocError> {
+/// Whether a file has these accounts.
+fn has_accounts(alloc: Global, file: &[u8], want: &str) -> Result<bool, AllocError> {
+    has_read(alloc, &read_setup(alloc, file), want)
+}
+
+/// Texts, one after the other, and the accounts of a setup of them. After a setup that an operator wrote,
+/// with accounts or none, the texts are read as its last accounts.
+const BEHIND: &[(&[&str], &str)] = &[
+    (&[SETUP, ALICE], "alice 1000 1 7965e05436f5029f true 1\n"),
+    (&[SETUP, CAROL_S], "carol 1002 99 87fec7768b73ccf9 true 0\n"),
+    (
+        &[SETUP, ALICE, CAROL_S, DAVE_S],
+        "alice 1000 1 7965e05436f5029f true 1
+carol 1002 99 87fec7768b73ccf9 true 0
+dave 4294967294 1 7965e05436f5029f true 0
+",
+    ),
+    (&[SETUP, CAROL_S, CAROL_S], ""),
+];
+
+/// Texts, one after the other.
+fn joined(alloc: Global, texts: &[&str]) -> Result<String, AllocError> {
     let mut file = String::new(alloc);
     for text in texts {
         file.push_str(text)?;
     }
-    Ok(accounts_in(alloc, file.as_bytes())?.as_str() == want)
+    Ok(file)
 }
 
-/// After a setup that an operator wrote, with accounts or none, the texts are read as its last accounts.
+/// Whether a setup of these texts has these accounts.
+fn have_accounts(alloc: Global, texts: &[&str], want: &str) -> Result<bool, AllocError> {
+    let file = joined(alloc, texts)?;
+    has_accounts(alloc, file.as_bytes(), want)
+}
+
 #[test]
 fn an_account_behind_a_setup(rt: HostRuntime) -> Result<(), Fault> {
-    let alloc = rt.alloc();
-    let alice = "alice 1000 1 7965e05436f5029f true 1\n";
-    let carol = "carol 1002 99 87fec7768b73ccf9 true 0\n";
-    let both = format!(in alloc; "{alice}{carol}dave 4294967294 1 7965e05436f5029f true 0\n")?;
-    assert!(rt; has_accounts(alloc, &[SETUP, ALICE], alice)?);
-    assert!(rt; has_accounts(alloc, &[SETUP, CAROL_S], carol)?);
-    assert!(rt; has_accounts(alloc, &[SETUP, ALICE, CAROL_S, DAVE_S], both.as_str())?);
-    assert!(rt; has_accounts(alloc, &[SETUP, CAROL_S, CAROL_S], "")?);
+    for (texts, want) in BEHIND {
+        assert!(rt; have_accounts(rt.alloc(), texts, want)?, "{want}");
+    }
     Ok(())
 }
 
-/// A call that fails.
-fn fail(call: CallKind, number: u32) -> Fail {
-    Fail {
-        call,
-        number,
-        sent: 5,
-    }
-}
+/// The second receiving fails.
+const UNRECEIVED: Fail = Fail {
+    call: CallKind::Recv,
+    number: 2,
+    sent: 5,
+};
+
+/// The sending fails after five bytes.
+const UNSENT: Fail = Fail {
+    call: CallKind::Send,
+    number: 1,
+    sent: 5,
+};
+
+/// An input of carol's words, calls that fail, and the status with what is sent.
+const INPUTS: &[(&str, &[Fail], &str)] = &[
+    ("too short\nThis is a test.\n", &[], "12"),
+    ("", &[], "12"),
+    (PHRASE, &[UNRECEIVED], "11"),
+    (PHRASE, &[UNSENT], "11\n[[ac"),
+];
 
 #[test]
 fn phrases_and_calls_that_fail(rt: HostRuntime) -> Result<(), Fault> {
-    let alloc = rt.alloc();
-    assert!(rt; tells(alloc, CAROL, "too short\nThis is a test.\n", &[], "12")?);
-    assert!(rt; tells(alloc, CAROL, "", &[], "12")?);
-    let received = fail(CallKind::Recv, 2);
-    assert!(rt; tells(alloc, CAROL, PHRASE, &[received], "11")?);
-    let sent = fail(CallKind::Send, 1);
-    assert!(rt; tells(alloc, CAROL, PHRASE, &[sent], "11\n[[ac")?);
+    for (input, fails, want) in INPUTS {
+        assert!(rt;
+            tells(rt.alloc(), CAROL, input, fails, want)?,
+            "{want} of {input}"
+        );
+    }
     assert!(rt; EnrolFault::OutOfMemory.status() == 9);
     Ok(())
 }

@@ -4,6 +4,8 @@
 #[cfg(test)]
 mod enrolments;
 #[cfg(test)]
+mod files;
+#[cfg(test)]
 mod recoveries;
 #[cfg(test)]
 mod renewed_files;

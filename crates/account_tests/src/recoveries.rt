@@ -1,6 +1,7 @@
-use account_file::read_setup;
-use outside::{Bytes, CallKind, Fail, MemFiles, MemStream, Word};
-use policy_model::Account;
+use crate::files::{NONE, bytes_in, fail, holds};
+use account_file::{SetupError, read_setup};
+use outside::{CallKind, Fail, MemFiles, MemStream};
+use policy_model::{Account, Setup};
 use recover_mode::*;
 use std::alloc::{AllocError, Global};
 use std::test::Fail as Fault;
@@ -71,10 +72,7 @@ const BOB: &str = "bob 0 bb9e6ae1979d8ff4\nalice 1 7965e05436f5029f\n";
 const BOTH: &str = "bob 0 bb9e6ae1979d8ff4\nalice 0 9e876134d90499dd\n";
 
 /// The image of no records.
-const FRESH: [u8; 5] = [0x4f, 0x54, 0x4a, 0x31, 0x00];
-
-/// What a file holds where it isn't there.
-const NONE: &[u8] = b"none";
+const FRESH: &[u8] = b"OTJ1\0";
 
 /// A log, the status with the line or the error, and the accounts afterwards.
 #[derive(Clone, Copy)]
@@ -126,32 +124,19 @@ fn image_of(alloc: Global, text: &str) -> Result<Vec<u8>, AllocError> {
     Ok(image)
 }
 
-/// A file of these bytes, of another name where it isn't there.
-fn file(alloc: Global, name: &[u8], bytes: &[u8]) -> Result<(Word, Bytes), AllocError> {
-    let name = if bytes == NONE { NONE } else { name };
-    let name = std::str::from_utf8(name).unwrap_or("none");
-    Ok((Word::of(alloc, name.as_bytes())?, Bytes::of(alloc, bytes)?))
-}
-
 /// The files `setup`, `log` and `other`.
-fn files_of(
+fn files_of<'x>(
     alloc: Global,
-    setup: &[u8],
-    log: &[u8],
+    setup: &'x [u8],
+    log: &'x [u8],
     fails: &[Fail],
 ) -> Result<MemFiles, AllocError> {
-    let pairs = vec![in alloc;
-        file(alloc, b"setup", setup)?,
-        file(alloc, b"log", log)?,
-        file(alloc, b"other", b"kept")?,
-    ]?;
-    MemFiles::new(alloc, pairs.as_slice(), fails)
-}
-
-/// Whether a file holds these bytes.
-fn holds(alloc: Global, files: &MemFiles, name: &str, want: &[u8]) -> Result<bool, AllocError> {
-    let name = Word::of(alloc, name.as_bytes())?;
-    Ok(files.file(&name).unwrap_or(NONE) == want)
+    let other: &'x [u8] = b"kept";
+    crate::files::files_of(
+        alloc,
+        &[("setup", setup), ("log", log), ("other", other)],
+        fails,
+    )
 }
 
 /// An account with its sequence and password, in a line.
@@ -171,13 +156,22 @@ fn lines_of(alloc: Global, accounts: &[Account]) -> Result<String, AllocError> {
     Ok(text)
 }
 
-/// The accounts of the file `setup` with their sequences and passwords, a line each.
-fn accounts_in(alloc: Global, files: &MemFiles) -> Result<String, Fault> {
-    let name = Word::of(alloc, b"setup")?;
-    let setup = read_setup(alloc, files.file(&name).unwrap_or(b""))
-        .ok()
-        .ok_or("a setup")?;
-    Ok(lines_of(alloc, setup.parts().accounts.as_slice())?)
+/// Whether a setup that was read has these accounts with their sequences and passwords, a line each.
+fn has_read(
+    alloc: Global,
+    read: &Result<Setup, SetupError>,
+    want: &str,
+) -> Result<bool, AllocError> {
+    match read {
+        Ok(setup) => Ok(lines_of(alloc, setup.parts().accounts.as_slice())?.as_str() == want),
+        Err(_) => Ok(false),
+    }
+}
+
+/// The same of the file `setup`.
+fn has_accounts(alloc: Global, files: &MemFiles, want: &str) -> Result<bool, AllocError> {
+    let bytes = bytes_in(alloc, files, "setup")?;
+    has_read(alloc, &read_setup(alloc, bytes), want)
 }
 
 /// The status, and the line that was sent or the error with what was sent.
@@ -202,29 +196,38 @@ fn told(alloc: Global, files: &mut MemFiles, log: &str, fails: &[Fail]) -> Resul
     Ok(told_of(alloc, outcome, ends.sent())?)
 }
 
+/// Whether the mode over these files has this outcome.
+fn is_told(alloc: Global, files: &mut MemFiles, log: &str, want: &str) -> Result<bool, Fault> {
+    Ok(told(alloc, files, log, &[])?.as_str() == want)
+}
+
 /// Whether the log holds no records after a recovery, and both files are as they were after a refusal.
 fn stands(alloc: Global, files: &MemFiles, row: &Row, image: &[u8]) -> Result<bool, AllocError> {
     if row.told.starts_with("0 ") {
-        return holds(alloc, files, "log", &FRESH);
+        return holds(alloc, files, "log", FRESH);
     }
     Ok(holds(alloc, files, "log", image)? && holds(alloc, files, "setup", SETUP.as_bytes())?)
 }
 
 /// Whether the files are what a row's log leaves: its accounts, and any other file as it was.
-fn leaves(alloc: Global, files: &MemFiles, row: &Row, image: &[u8]) -> Result<bool, Fault> {
+fn leaves(alloc: Global, files: &MemFiles, row: &Row, image: &[u8]) -> Result<bool, AllocError> {
     Ok(
         stands(alloc, files, row, image)?
-            && accounts_in(alloc, files)?.as_str() == row.accounts
+            && has_accounts(alloc, files, row.accounts)?
             && holds(alloc, files, "other", b"kept")?,
     )
+}
+
+/// Whether a row's log with this image has its outcome, and leaves what it should.
+fn recovers_from(alloc: Global, row: &Row, image: &[u8]) -> Result<bool, Fault> {
+    let mut files = files_of(alloc, SETUP.as_bytes(), image, &[])?;
+    Ok(is_told(alloc, &mut files, "log", row.told)? && leaves(alloc, &files, row, image)?)
 }
 
 /// Whether a row's log has its outcome, and leaves what it should.
 fn recovers(alloc: Global, row: &Row) -> Result<bool, Fault> {
     let image = image_of(alloc, row.log)?;
-    let mut files = files_of(alloc, SETUP.as_bytes(), image.as_slice(), &[])?;
-    let got = told(alloc, &mut files, "log", &[])?;
-    Ok(got.as_str() == row.told && leaves(alloc, &files, row, image.as_slice())?)
+    recovers_from(alloc, row, image.as_slice())
 }
 
 #[test]
@@ -235,12 +238,9 @@ fn logs_and_what_comes_of_them(rt: HostRuntime) -> Result<(), Fault> {
     Ok(())
 }
 
-/// A stop between the two files leaves the new setup beside the old log: the mode is called again and
-/// tells the same. Called once more it finds the log of no records.
 /// Whether a recovery has this outcome, and leaves bob's account so.
 fn leaves_bob(alloc: Global, files: &mut MemFiles, want: &str) -> Result<bool, Fault> {
-    let outcome = told(alloc, files, "log", &[])?;
-    Ok(outcome.as_str() == want && accounts_in(alloc, files)?.as_str() == BOB)
+    Ok(is_told(alloc, files, "log", want)? && has_accounts(alloc, files, BOB)?)
 }
 
 /// Whether a log is recovered, which a stop between the two files left as it was, and then is fresh.
@@ -250,128 +250,144 @@ fn is_recovered_again(alloc: Global, files: &mut MemFiles, image: &[u8]) -> Resu
             && holds(alloc, files, "log", image)?
             && leaves_bob(alloc, files, "0 recovered lines 7 accepted 1")?
             && leaves_bob(alloc, files, "0 recovered lines 0 accepted 0")?
-            && holds(alloc, files, "log", &FRESH)?,
+            && holds(alloc, files, "log", FRESH)?,
     )
 }
 
+/// A stop between the two files leaves the new setup beside the old log: the mode is called again and
+/// tells the same. Called once more it finds the log of no records.
 #[test]
 fn a_log_is_recovered_again(rt: HostRuntime) -> Result<(), Fault> {
     let image = image_of(rt.alloc(), LOGIN)?;
-    let stop = fail(CallKind::Replace, 2);
-    let mut files = files_of(rt.alloc(), SETUP.as_bytes(), image.as_slice(), &[stop])?;
+    let stop = [fail(CallKind::Replace, 2)];
+    let mut files = files_of(rt.alloc(), SETUP.as_bytes(), image.as_slice(), &stop)?;
     assert!(rt; is_recovered_again(rt.alloc(), &mut files, image.as_slice())?);
     Ok(())
 }
 
+/// Whether a missing log has no records, and holds none then.
+fn is_recovered_from_none(alloc: Global, files: &mut MemFiles) -> Result<bool, Fault> {
+    Ok(
+        is_told(alloc, files, "log", "0 recovered lines 0 accepted 0")?
+            && holds(alloc, files, "log", FRESH)?,
+    )
+}
+
 #[test]
 fn a_missing_log_has_no_records(rt: HostRuntime) -> Result<(), Fault> {
-    let alloc = rt.alloc();
-    let mut files = files_of(alloc, SETUP.as_bytes(), NONE, &[])?;
-    let got = told(alloc, &mut files, "log", &[])?;
-    assert!(rt; got.as_str() == "0 recovered lines 0 accepted 0");
-    assert!(rt; holds(alloc, &files, "log", &FRESH)?);
+    let mut files = files_of(rt.alloc(), SETUP.as_bytes(), NONE.as_bytes(), &[])?;
+    assert!(rt; is_recovered_from_none(rt.alloc(), &mut files)?);
     Ok(())
 }
 
 /// Whether the mode over these files has this outcome, and leaves them as they are.
 fn ends_so(alloc: Global, setup: &[u8], log: &[u8], want: &str) -> Result<bool, Fault> {
     let mut files = files_of(alloc, setup, log, &[])?;
-    let got = told(alloc, &mut files, "log", &[])?;
     Ok(
-        got.as_str() == want
+        is_told(alloc, &mut files, "log", want)?
             && holds(alloc, &files, "setup", setup)?
             && holds(alloc, &files, "log", log)?,
     )
 }
 
+/// A setup, a log, and the error.
+const MISSING: &[(&str, &str, &str)] = &[
+    (NONE, NONE, "4 SetupMissing"),
+    (
+        "launcher = \"l\"\n",
+        NONE,
+        "5 SetupRefused(SetupFault { key: Socket, rule: Missing, account: 0 })",
+    ),
+    (SETUP, "OTJ2\0", "13 LogRefused { number: 0 }"),
+    (SETUP, "OTJ1\x01\x02\0\n", "13 LogRefused { number: 0 }"),
+    (SETUP, "", "13 LogRefused { number: 0 }"),
+];
+
 #[test]
 fn files_that_are_missing_or_refused(rt: HostRuntime) -> Result<(), Fault> {
-    let alloc = rt.alloc();
-    let setup = SETUP.as_bytes();
-    assert!(rt; ends_so(alloc, NONE, NONE, "4 SetupMissing")?);
-    let refused = "5 SetupRefused(SetupFault { key: Socket, rule: Missing, account: 0 })";
-    assert!(rt; ends_so(alloc, b"launcher = \"l\"\n", NONE, refused)?);
-    let no_log = "13 LogRefused { number: 0 }";
-    assert!(rt; ends_so(alloc, setup, &[0x4f, 0x54, 0x4a, 0x32, 0x00], no_log)?);
-    assert!(rt; ends_so(alloc, setup, b"OTJ1\x01\x02\x00\x0a", no_log)?);
-    assert!(rt; ends_so(alloc, setup, b"", no_log)?);
+    for (setup, log, want) in MISSING {
+        assert!(rt;
+            ends_so(rt.alloc(), setup.as_bytes(), log.as_bytes(), want)?,
+            "{want} of {log}"
+        );
+    }
     Ok(())
+}
+
+/// Whether a setup that is named as its own log is refused, and left as it is.
+fn is_no_log(alloc: Global, files: &mut MemFiles) -> Result<bool, Fault> {
+    Ok(
+        is_told(alloc, files, "setup", "13 LogRefused { number: 0 }")?
+            && holds(alloc, files, "setup", SETUP.as_bytes())?,
+    )
 }
 
 /// A setup is no log: the mode refuses a setup that is named as its own log.
 #[test]
 fn one_file_under_both_names(rt: HostRuntime) -> Result<(), Fault> {
-    let alloc = rt.alloc();
-    let mut files = files_of(alloc, SETUP.as_bytes(), &FRESH, &[])?;
-    let got = told(alloc, &mut files, "setup", &[])?;
-    assert!(rt; got.as_str() == "13 LogRefused { number: 0 }");
-    assert!(rt; holds(alloc, &files, "setup", SETUP.as_bytes())?);
+    let mut files = files_of(rt.alloc(), SETUP.as_bytes(), FRESH, &[])?;
+    assert!(rt; is_no_log(rt.alloc(), &mut files)?);
     Ok(())
 }
 
-fn fail(call: CallKind, number: u32) -> Fail {
-    Fail {
-        call,
-        number,
-        sent: 5,
-    }
+/// A call that fails over the login's log, the outcome, the accounts that are left, and whether the log is
+/// fresh then.
+type Failing = (CallKind, u32, &'static str, &'static str, bool);
+
+const FAILING: &[Failing] = &[
+    (CallKind::Read, 1, "3 ReadFailed", BEFORE, false),
+    (CallKind::Read, 2, "3 ReadFailed", BEFORE, false),
+    (CallKind::Read, 3, "3 ReadFailed", BEFORE, false),
+    (CallKind::Read, 4, "3 ReadFailed", BEFORE, false),
+    (CallKind::Replace, 1, "8 ReplaceFailed", BEFORE, false),
+    (CallKind::Replace, 2, "8 ReplaceFailed", BOB, false),
+    (CallKind::Send, 1, "11 SendFailedrecov", BOB, true),
+];
+
+/// Whether a row's call has its outcome over the login's log with this image, and leaves what it says.
+fn fails_over(alloc: Global, row: &Failing, image: &[u8]) -> Result<bool, Fault> {
+    let (call, number, want, accounts, is_fresh) = *row;
+    let fails = [fail(call, number)];
+    let mut files = files_of(alloc, SETUP.as_bytes(), image, &fails)?;
+    let log = if is_fresh { FRESH } else { image };
+    Ok(
+        told(alloc, &mut files, "log", &fails)?.as_str() == want
+            && has_accounts(alloc, &files, accounts)?
+            && holds(alloc, &files, "log", log)?,
+    )
 }
 
-/// Whether the mode over these files has this outcome.
-fn is_told(alloc: Global, files: &mut MemFiles, fails: &[Fail], want: &str) -> Result<bool, Fault> {
-    let got = told(alloc, files, "log", fails)?;
-    Ok(got.as_str() == want)
-}
-
-/// Whether the files have these accounts and this log.
-fn has(alloc: Global, files: &MemFiles, accounts: &str, log: &[u8]) -> Result<bool, Fault> {
-    let found = accounts_in(alloc, files)?;
-    Ok(found.as_str() == accounts && holds(alloc, files, "log", log)?)
-}
-
-/// Whether a failing call has this outcome over the login's log, and leaves these accounts and this log.
-fn fails_so(
-    alloc: Global,
-    failing: Fail,
-    want: &str,
-    accounts: &str,
-    is_fresh: bool,
-) -> Result<bool, Fault> {
+/// The same over the image of the login's log.
+fn fails_so(alloc: Global, row: &Failing) -> Result<bool, Fault> {
     let image = image_of(alloc, LOGIN)?;
-    let mut files = files_of(alloc, SETUP.as_bytes(), image.as_slice(), &[failing])?;
-    let log = if is_fresh { &FRESH } else { image.as_slice() };
-    let is_told = is_told(alloc, &mut files, &[failing], want)?;
-    Ok(is_told && has(alloc, &files, accounts, log)?)
+    fails_over(alloc, row, image.as_slice())
 }
 
 #[test]
 fn calls_that_fail(rt: HostRuntime) -> Result<(), Fault> {
-    let alloc = rt.alloc();
-    for number in 1..5 {
-        let read = fail(CallKind::Read, number);
-        assert!(rt; fails_so(alloc, read, "3 ReadFailed", BEFORE, false)?);
+    for row in FAILING {
+        assert!(rt; fails_so(rt.alloc(), row)?, "{} at {}", row.2, row.1);
     }
-    let first = fail(CallKind::Replace, 1);
-    assert!(rt; fails_so(alloc, first, "8 ReplaceFailed", BEFORE, false)?);
-    let second = fail(CallKind::Replace, 2);
-    assert!(rt; fails_so(alloc, second, "8 ReplaceFailed", BOB, false)?);
-    let sent = fail(CallKind::Send, 1);
-    assert!(rt; fails_so(alloc, sent, "11 SendFailedrecov", BOB, true)?);
     assert!(rt; RecoveryError::OutOfMemory.status() == 9);
     Ok(())
 }
 
-/// Whether these words are a command of the mode.
-fn is_command(mode: &str, further: &[&str]) -> bool {
-    read_recover_command(mode, further).is_some()
-}
+/// A mode's word, what follows it, and whether that is a command of the mode.
+const WORDS: &[(&str, &[&str], bool)] = &[
+    ("recover", &["", ""], true),
+    ("recover", &["a"], false),
+    ("recover", &["a", "b", "c"], false),
+    ("Recover", &["a", "b"], false),
+];
 
 #[test]
 fn words_of_the_mode(rt: HostRuntime) {
     let whole = read_recover_command("recover", &["a.toml", "a.log"]);
     assert!(rt; whole.is_some_and(|c| c.setup == "a.toml" && c.log == "a.log"));
-    assert!(rt; is_command("recover", &["", ""]));
-    assert!(rt; !is_command("recover", &["a"]));
-    assert!(rt; !is_command("recover", &["a", "b", "c"]));
-    assert!(rt; !is_command("Recover", &["a", "b"]));
+    for (mode, further, is_command) in WORDS {
+        assert!(rt;
+            read_recover_command(mode, further).is_some() == *is_command,
+            "{mode}"
+        );
+    }
 }

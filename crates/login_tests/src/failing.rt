@@ -1,10 +1,10 @@
 //! The whole login with one call that fails.
 
-use super::logins::{LOG, holds};
+use super::logins::{LOG, holds, left_in};
 use account_file::read_setup;
 use outside::{Accepted, Act, CallKind, Fail, MemPost};
 use policy_model::{Decision, Event, Setup, judge};
-use service_play::{Came, ONE, Play, Session, chain_in, come, lines_of, sent, setup_in};
+use service_play::{Came, ONE, Play, Session, come, lines_of, sent};
 use service_rows::{CLIENT, Login, log_in};
 use std::alloc::{AllocError, Global};
 use std::sync::Wait;
@@ -117,6 +117,11 @@ fn log_of(alloc: Global, lines: usize, behind: &str) -> Result<Vec<u8>, AllocErr
     Ok(log)
 }
 
+/// Whether a run has this status and this log.
+fn ends_so(came: &Came<MemPost>, status: u8, log: &[u8]) -> bool {
+    came.status == status && came.log.held() == log
+}
+
 /// Whether a case comes out as it says.
 fn holds_of<R: Threads + Wait + Sync>(
     rt: &R,
@@ -125,8 +130,7 @@ fn holds_of<R: Threads + Wait + Sync>(
     case: &Case,
 ) -> Result<bool, Fault> {
     let log = log_of(alloc, case.lines, case.behind)?;
-    let came = fail_once(rt, alloc, login, case.fail)?;
-    Ok(came.status == case.status && came.log.held() == log.as_slice())
+    Ok(ends_so(&fail_once(rt, alloc, login, case.fail)?, case.status, &log))
 }
 
 /// Whether each case comes out as it says.
@@ -139,32 +143,42 @@ fn all_hold<R: Threads + Wait + Sync>(rt: &R, alloc: Global, login: &Login) -> R
     Ok(true)
 }
 
+/// Whether each case of a new login comes out as it says.
+fn all_hold_of_one<R: Threads + Wait + Sync>(rt: &R, alloc: Global) -> Result<bool, Fault> {
+    all_hold(rt, alloc, &log_in(rt, alloc, ONE, 4_096)?)
+}
+
 #[test]
 fn one_call_fails(rt: HostRuntime) -> Result<(), Fault> {
-    let alloc = rt.alloc();
-    let login = log_in(&rt, alloc, ONE, 4_096)?;
-    assert!(&rt; all_hold(&rt, alloc, &login)?);
+    assert!(&rt; all_hold_of_one(&rt, rt.alloc())?);
     Ok(())
 }
 
 /// The front of the reply to BANNER, of session 1.
 const BANNER_FRONT: &[u8] = b"\x01\x01\0\0\x1a\0\0";
 
-/// Whether a child is sent just a front of its first reply.
+/// Whether the first child was sent just a front of its first reply.
+fn is_front(came: &Came<MemPost>) -> bool {
+    sent(&came.posts, 0) == BANNER_FRONT
+}
+
+/// Whether a login's child is sent just that where the reply is cut short.
 fn is_cut_short<R: Threads + Wait + Sync>(
     rt: &R,
     alloc: Global,
     login: &Login,
 ) -> Result<bool, Fault> {
-    let came = fail_once(rt, alloc, login, (CallKind::Send, 1, 7))?;
-    Ok(sent(&came.posts, 0) == BANNER_FRONT)
+    Ok(is_front(&fail_once(rt, alloc, login, (CallKind::Send, 1, 7))?))
+}
+
+/// The same of a new login.
+fn is_one_cut_short<R: Threads + Wait + Sync>(rt: &R, alloc: Global) -> Result<bool, Fault> {
+    is_cut_short(rt, alloc, &log_in(rt, alloc, ONE, 4_096)?)
 }
 
 #[test]
 fn a_reply_is_cut_short(rt: HostRuntime) -> Result<(), Fault> {
-    let alloc = rt.alloc();
-    let login = log_in(&rt, alloc, ONE, 4_096)?;
-    assert!(&rt; is_cut_short(&rt, alloc, &login)?);
+    assert!(&rt; is_one_cut_short(&rt, rt.alloc())?);
     Ok(())
 }
 
@@ -210,6 +224,12 @@ const WRITING: Device = Device {
     file: b"old\n",
 };
 
+/// Whether a device that failed was named to the child, and bob's file is as it says.
+fn is_told(came: &Came<MemPost>, device: &Device) -> Result<bool, Fault> {
+    let is_said = stands_in(device.reply, sent(&came.posts, device.child));
+    Ok(is_said && holds(&came.posts, device.file)?)
+}
+
 /// Whether a device that fails is named to the child, and bob's file is as it says.
 fn is_named<R: Threads + Wait + Sync>(
     rt: &R,
@@ -217,9 +237,7 @@ fn is_named<R: Threads + Wait + Sync>(
     login: &Login,
     device: &Device,
 ) -> Result<bool, Fault> {
-    let came = fail_once(rt, alloc, login, (device.call, 1, 0))?;
-    let is_said = stands_in(device.reply, sent(&came.posts, device.child));
-    Ok(is_said && holds(&came.posts, device.file)?)
+    is_told(&fail_once(rt, alloc, login, (device.call, 1, 0))?, device)
 }
 
 /// Whether both devices that fail are named.
@@ -232,19 +250,24 @@ fn are_named<R: Threads + Wait + Sync>(
     Ok(is_named(rt, alloc, login, devices[0])? && is_named(rt, alloc, login, devices[1])?)
 }
 
+/// Whether both devices that fail are named in a new login.
+fn are_named_in_one<R: Threads + Wait + Sync>(
+    rt: &R,
+    alloc: Global,
+    devices: [&Device; 2],
+) -> Result<bool, Fault> {
+    are_named(rt, alloc, &log_in(rt, alloc, ONE, 4_096)?, devices)
+}
+
 #[test]
 fn a_connection_that_fails_is_named_to_the_child(rt: HostRuntime) -> Result<(), Fault> {
-    let alloc = rt.alloc();
-    let login = log_in(&rt, alloc, ONE, 4_096)?;
-    assert!(&rt; are_named(&rt, alloc, &login, [&SENDING, &RECEIVING])?);
+    assert!(&rt; are_named_in_one(&rt, rt.alloc(), [&SENDING, &RECEIVING])?);
     Ok(())
 }
 
 #[test]
 fn a_vault_that_fails_is_named_to_the_child(rt: HostRuntime) -> Result<(), Fault> {
-    let alloc = rt.alloc();
-    let login = log_in(&rt, alloc, ONE, 4_096)?;
-    assert!(&rt; are_named(&rt, alloc, &login, [&READING, &WRITING])?);
+    assert!(&rt; are_named_in_one(&rt, rt.alloc(), [&READING, &WRITING])?);
     Ok(())
 }
 
@@ -294,12 +317,7 @@ fn status_of(call: CallKind, number: u32) -> u8 {
 
 /// Whether a run with one call that failed has its status, a legal journal, a log of just that, and
 /// nothing left open.
-fn is_sound(
-    alloc: Global,
-    setup: &Setup,
-    came: &Came<MemPost>,
-    status: u8,
-) -> Result<bool, AllocError> {
+fn is_sound(alloc: Global, setup: &Setup, came: &Came<MemPost>, status: u8) -> Result<bool, Fault> {
     let lines = lines_of(alloc, &came.journal)?;
     let log = came.log.held();
     let is_logged = log.starts_with(&lines) && (log.len() == lines.len() || status == 7);
@@ -316,8 +334,13 @@ fn withstands<R: Threads + Wait + Sync>(
     setup: &Setup,
     (call, number): (CallKind, u32),
 ) -> Result<bool, Fault> {
-    let came = fail_once(rt, alloc, login, (call, number, 5))?;
-    Ok(is_sound(alloc, setup, &came, status_of(call, number))?)
+    let status = status_of(call, number);
+    is_sound(
+        alloc,
+        setup,
+        &fail_once(rt, alloc, login, (call, number, 5))?,
+        status,
+    )
 }
 
 /// Whether the run is sound whichever of the first so many calls of a kind fails.
@@ -352,15 +375,28 @@ fn withstands_all<R: Threads + Wait + Sync>(
     Ok(true)
 }
 
+/// The setup of these bytes.
+fn setup_of(alloc: Global, bytes: &[u8]) -> Result<Setup, Fault> {
+    Ok(read_setup(alloc, bytes).ok().ok_or("a setup")?)
+}
+
 /// Whether a login's run is sound whichever of the first calls of these kinds fails.
+fn is_withstood_by<R: Threads + Wait + Sync>(
+    rt: &R,
+    alloc: Global,
+    login: &Login,
+    kinds: &[(CallKind, u32)],
+) -> Result<bool, Fault> {
+    withstands_all(rt, alloc, login, &setup_of(alloc, &login.setup)?, kinds)
+}
+
+/// The same of a new login.
 fn is_withstood<R: Threads + Wait + Sync>(
     rt: &R,
     alloc: Global,
     kinds: &[(CallKind, u32)],
 ) -> Result<bool, Fault> {
-    let login = log_in(rt, alloc, ONE, 4_096)?;
-    let setup = read_setup(alloc, &login.setup).ok().ok_or("a setup")?;
-    withstands_all(rt, alloc, &login, &setup, kinds)
+    is_withstood_by(rt, alloc, &log_in(rt, alloc, ONE, 4_096)?, kinds)
 }
 
 #[test]
@@ -407,8 +443,7 @@ fn is_cut(alloc: Global, came: &mut Came<MemPost>, log: &[u8], number: u8) -> Re
         _ => usize::from(number).saturating_add(1),
     };
     let sequence = if number < 8 { 1 } else { 0 };
-    let setup = setup_in(alloc, &mut came.files)?;
-    let (left, _) = chain_in(alloc, &setup)?;
+    let (left, _) = left_in(alloc, &mut came.files)?;
     Ok(came.log.held().starts_with(log) && came.journal.len() == events && left == sequence)
 }
 
@@ -420,8 +455,8 @@ fn is_cut_at<R: Threads + Wait + Sync>(
     number: u8,
 ) -> Result<bool, Fault> {
     let log = log_of(alloc, usize::from(number).saturating_sub(1), "")?;
-    let mut came = fail_once(rt, alloc, login, (CallKind::Append, u32::from(number), 5))?;
-    is_cut(alloc, &mut came, &log, number)
+    let fail = (CallKind::Append, u32::from(number), 5);
+    is_cut(alloc, &mut fail_once(rt, alloc, login, fail)?, &log, number)
 }
 
 /// Whether each line of a login's log can be cut short.
@@ -438,10 +473,13 @@ fn is_cut_anywhere<R: Threads + Wait + Sync>(
     Ok(true)
 }
 
+/// Whether each line of a new login's log can be cut short.
+fn is_one_cut_anywhere<R: Threads + Wait + Sync>(rt: &R, alloc: Global) -> Result<bool, Fault> {
+    is_cut_anywhere(rt, alloc, &log_in(rt, alloc, ONE, 4_096)?)
+}
+
 #[test]
 fn each_line_of_the_log_is_lost_once(rt: HostRuntime) -> Result<(), Fault> {
-    let alloc = rt.alloc();
-    let login = log_in(&rt, alloc, ONE, 4_096)?;
-    assert!(&rt; is_cut_anywhere(&rt, alloc, &login)?);
+    assert!(&rt; is_one_cut_anywhere(&rt, rt.alloc())?);
     Ok(())
 }

@@ -4,4 +4,10 @@
 #[cfg(test)]
 mod failing;
 #[cfg(test)]
+mod files;
+#[cfg(test)]
 mod logins;
+#[cfg(test)]
+mod unwelcomed;
+#[cfg(test)]
+mod welcomes;

@@ -2,7 +2,7 @@
 
 ghost use Rattle.std.specs.Prelude.{◌≤◌};
 
-use outside::MemPost;
+use outside::{MemFiles, MemPost};
 use service_play::{Came, ONE, chain_in, notes, setup_in, told};
 use service_rows::log_in;
 use std::alloc::Global;
@@ -69,21 +69,29 @@ fn is_served<R: Threads + Wait + Sync>(
 ) -> Result<bool, Fault>
     requires { 1 ≤ piece }
 {
-    let login = log_in(rt, alloc, lines, piece)?;
-    is_welcomed(alloc, &login.came)
+    is_welcomed(alloc, &log_in(rt, alloc, lines, piece)?.came)
+}
+
+/// The sequence and the password of bob's chain in the setup's file.
+pub(super) fn left_in(alloc: Global, files: &mut MemFiles) -> Result<(u16, u64), Fault> {
+    let setup = setup_in(alloc, files)?;
+    chain_in(alloc, &setup)
 }
 
 /// Whether the whole login is logged, and bob's password is spent.
 fn is_whole(alloc: Global, came: &mut Came<MemPost>) -> Result<bool, Fault> {
-    let setup = setup_in(alloc, &mut came.files)?;
-    let is_spent = chain_in(alloc, &setup)? == (0, 0xBB9E_6AE1_979D_8FF4);
+    let is_spent = left_in(alloc, &mut came.files)? == (0, 0xBB9E_6AE1_979D_8FF4);
     Ok(came.status == 0 && came.log.held() == LOG.as_bytes() && is_spent)
+}
+
+/// The same of a new login.
+fn is_one_whole<R: Threads + Wait + Sync>(rt: &R, alloc: Global) -> Result<bool, Fault> {
+    is_whole(alloc, &mut log_in(rt, alloc, ONE, 4_096)?.came)
 }
 
 #[test]
 fn a_whole_login(rt: HostRuntime) -> Result<(), Fault> {
-    let mut login = log_in(&rt, rt.alloc(), ONE, 4_096)?;
-    assert!(&rt; is_whole(rt.alloc(), &mut login.came)?);
+    assert!(&rt; is_one_whole(&rt, rt.alloc())?);
     Ok(())
 }
 

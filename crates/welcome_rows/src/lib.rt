@@ -1,7 +1,6 @@
 //! That a user can get in and is served files, by example: a login in memory, and for each premise of the laws
 //! `users_are_welcomed` and `users_are_served` a function that decides it by the journal and by what the posts tell.
-//! They are read by `specs/Shown.antt`. The logins themselves are tests, which stand apart so that no crate waits for
-//! them.
+//! They are read by `specs/Shown.antt`. The logins themselves are tests of `login_tests`.
 #![tactic(auto)]
 
 mod client;
@@ -23,6 +22,3 @@ pub use serving::{Served, Visit, serve};
 pub use shipped::are_shipped;
 pub use showing::{gets_in, is_met_in_acts, is_met_in_journal};
 pub use user::can_log_in;
-
-#[cfg(test)]
-mod tests;

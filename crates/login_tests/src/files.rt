@@ -2,14 +2,13 @@
 
 ghost use Rattle.std.specs.Prelude.{◌≤◌};
 
-use super::logins::{all_get_in, bob, house_of};
-use crate::house::House;
-use crate::serving::Visit;
+use super::welcomes::{all_get_in, bob, house_of};
 use service_play::ONE;
 use std::alloc::Global;
 use std::sync::Wait;
 use std::test::Fail as Fault;
 use std::thread::Threads;
+use welcome_rows::{House, Visit};
 
 /// What bob's client says that writes a file and reads it.
 const BOB: &[u8] = b"user bob

@@ -1,20 +1,28 @@
-//! Runs that miss a premise.
+//! Runs that miss a premise of the law that a user gets in.
 
-use super::logins::{bob, bob_gets_in, house_of};
-use crate::login::log_in;
-use crate::showing::gets_in;
+use super::welcomes::{bob, bob_gets_in, house_of};
 use service_play::ONE;
 use std::alloc::Global;
 use std::sync::Wait;
 use std::test::Fail as Fault;
 use std::thread::Threads;
+use welcome_rows::{House, gets_in, log_in};
+
+/// Whether bob is found to get in at a house, whose client says these lines.
+fn is_shown_at<R: Threads + Wait + Sync>(
+    rt: &R,
+    alloc: Global,
+    house: &House,
+    client: &[u8],
+) -> Result<bool, Fault> {
+    let mut visits = vec![in alloc; bob(alloc, client)?]?;
+    let served = log_in(rt, alloc, house, &mut visits, 4_096)?;
+    Ok(gets_in(alloc, house, &visits, &served, 0)?)
+}
 
 /// Whether bob is found to get in, whose client says these lines.
 fn is_shown<R: Threads + Wait + Sync>(rt: &R, alloc: Global, client: &[u8]) -> Result<bool, Fault> {
-    let house = house_of(alloc, ONE)?;
-    let mut visits = vec![in alloc; bob(alloc, client)?]?;
-    let served = log_in(rt, alloc, &house, &mut visits, 4_096)?;
-    Ok(gets_in(alloc, &house, &visits, &served, 0)?)
+    is_shown_at(rt, alloc, &house_of(alloc, ONE)?, client)
 }
 
 #[test]

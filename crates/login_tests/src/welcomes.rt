@@ -1,20 +1,18 @@
-//! Logins that meet all premises.
+//! Logins that meet all premises of the law that a user gets in.
 
 ghost use Rattle.std.specs.Prelude.{◌≤◌};
 
-use crate::house::House;
-use crate::login::{log_in, visit_of};
-use crate::serving::Visit;
-use crate::showing::gets_in;
 use account_file::read_setup;
 use otp_words::Dictionary;
 use outside::Bytes;
+use policy_model::Setup;
 use request_catalogue::Name;
 use service_play::{ONE, setup_with};
 use std::alloc::Global;
 use std::sync::Wait;
 use std::test::Fail as Fault;
 use std::thread::Threads;
+use welcome_rows::{House, Visit, gets_in, log_in, visit_of};
 
 /// The account of a second user, whose chain is at 1 (RFC 2289, `AbCdEfGhIjK`, MD5).
 const ALICE: &str = "
@@ -27,14 +25,23 @@ const ALICE: &str = "
     password = \"7cd34c1040add14b\"
 ";
 
+/// The setup of these bytes.
+fn setup_of(alloc: Global, bytes: &[u8]) -> Result<Setup, Fault> {
+    Ok(read_setup(alloc, bytes).ok().ok_or("a setup")?)
+}
+
+/// What a run serves by, of a setup of these bytes.
+fn house_from(alloc: Global, bytes: &[u8]) -> Result<House, Fault> {
+    let dictionary = Dictionary::plain(alloc)?;
+    let setup = setup_of(alloc, bytes)?;
+    Ok(House { setup, dictionary })
+}
+
 /// What a run serves by, of a setup that begins with these lines and has bob and alice.
 pub(super) fn house_of(alloc: Global, lines: &str) -> Result<House, Fault> {
     let mut bytes = setup_with(alloc, lines)?;
     bytes.extend_from_slice(ALICE.as_bytes())?;
-    Ok(House {
-        setup: read_setup(alloc, &bytes).ok().ok_or("a setup")?,
-        dictionary: Dictionary::plain(alloc)?,
-    })
+    house_from(alloc, &bytes)
 }
 
 /// Bob, whose client says these lines.
@@ -94,6 +101,19 @@ pub(super) fn all_get_in<R: Threads + Wait + Sync>(
     Ok(true)
 }
 
+/// Whether bob gets in at a house.
+fn bob_gets_in_at<R: Threads + Wait + Sync>(
+    rt: &R,
+    alloc: Global,
+    house: &House,
+    piece: usize,
+) -> Result<bool, Fault>
+    requires { 1 ≤ piece }
+{
+    let mut visits = vec![in alloc; bob(alloc, BOB)?]?;
+    all_get_in(rt, alloc, house, &mut visits, piece)
+}
+
 /// Whether bob gets in by a setup that begins with these lines.
 pub(super) fn bob_gets_in<R: Threads + Wait + Sync>(
     rt: &R,
@@ -103,9 +123,20 @@ pub(super) fn bob_gets_in<R: Threads + Wait + Sync>(
 ) -> Result<bool, Fault>
     requires { 1 ≤ piece }
 {
-    let house = house_of(alloc, lines)?;
-    let mut visits = vec![in alloc; bob(alloc, BOB)?]?;
-    all_get_in(rt, alloc, &house, &mut visits, piece)
+    bob_gets_in_at(rt, alloc, &house_of(alloc, lines)?, piece)
+}
+
+/// Whether bob gets in at a house after a mistyped response.
+fn bob_gets_in_again_at<R: Threads + Wait + Sync>(
+    rt: &R,
+    alloc: Global,
+    house: &House,
+    piece: usize,
+) -> Result<bool, Fault>
+    requires { 1 ≤ piece }
+{
+    let mut visits = vec![in alloc; bob_again(alloc)?]?;
+    all_get_in(rt, alloc, house, &mut visits, piece)
 }
 
 /// Whether bob gets in after a mistyped response, by a setup that begins with these lines.
@@ -117,16 +148,23 @@ fn bob_gets_in_again<R: Threads + Wait + Sync>(
 ) -> Result<bool, Fault>
     requires { 1 ≤ piece }
 {
-    let house = house_of(alloc, lines)?;
-    let mut visits = vec![in alloc; bob_again(alloc)?]?;
-    all_get_in(rt, alloc, &house, &mut visits, piece)
+    bob_gets_in_again_at(rt, alloc, &house_of(alloc, lines)?, piece)
+}
+
+/// Whether bob and alice get in beside one another at a house.
+fn both_get_in_at<R: Threads + Wait + Sync>(
+    rt: &R,
+    alloc: Global,
+    house: &House,
+) -> Result<bool, Fault> {
+    let mut visits = vec![in alloc; bob(alloc, BOB)?, alice(alloc)?]?;
+    all_get_in(rt, alloc, house, &mut visits, 4_096)
 }
 
 /// Whether bob and alice get in beside one another.
 fn both_get_in<R: Threads + Wait + Sync>(rt: &R, alloc: Global) -> Result<bool, Fault> {
     let house = house_of(alloc, "workers = 2\nrequests = 64")?;
-    let mut visits = vec![in alloc; bob(alloc, BOB)?, alice(alloc)?]?;
-    all_get_in(rt, alloc, &house, &mut visits, 4_096)
+    both_get_in_at(rt, alloc, &house)
 }
 
 const WIDE: &str = "workers = 1

@@ -1,5 +1,0 @@
-//! Logins in memory that meet all premises, and runs that don't.
-
-mod files;
-mod logins;
-mod others;
