@@ -1,28 +1,35 @@
+ghost use Rattle.std.specs.Prelude.{◌≤◌};
+ghost use Rattle.request_catalogue.specs.Catalogue.{IsInRange, value_of};
+
 use request_catalogue::*;
 use std::alloc::Global;
 use std::test::*;
 
-/// A message without flags is this request, which is written as the same body, in this width.
-fn check_request_in(
-    rt: &impl std::process::Abort,
-    width: Width,
-    kind: u32,
-    body: &[u8],
-    request: Request,
-) {
-    assert!(rt; read_request(width, kind, 0, body) == Ok(request));
-    assert!(rt; request.kind().number() == kind);
-    if let Ok(read) = read_request(width, kind, 0, body) {
-        let mut out = [9; 65_520];
-        let len = write_request(width, &read, &mut out);
-        assert!(rt; &out[..len] == body);
+/// Whether a request is written as this body in this width.
+fn is_written(width: Width, request: &Request, body: &[u8]) -> bool
+    requires { IsInRange width (value_of request.now) }
+{
+    let mut out = [9; 65_520];
+    let len = write_request(width, request, &mut out);
+    &out[..len] == body
+}
+
+/// Whether a message without flags is this request, which is written as the same body, in this width.
+fn is_request_in(width: Width, kind: u32, body: &[u8], request: Request) -> bool {
+    match read_request(width, kind, 0, body) {
+        Ok(read) => {
+            read == request && request.kind().number() == kind && is_written(width, &read, body)
+        }
+        Err(_) => false,
     }
 }
 
 /// The same in both widths.
 fn check_request(rt: &impl std::process::Abort, kind: u32, body: &[u8], request: Request) {
-    check_request_in(rt, Width::Narrow, kind, body, request);
-    check_request_in(rt, Width::Wide, kind, body, request);
+    assert!(rt;
+        is_request_in(Width::Narrow, kind, body, request)
+            && is_request_in(Width::Wide, kind, body, request)
+    );
 }
 
 #[test]
@@ -119,14 +126,22 @@ fn payload_of(alloc: Global, text: &str) -> Result<Vec<u8>, Fail> {
     Ok(hex::decode(alloc, text)?)
 }
 
+/// The kind, the flags, the rule, the detail and the payload's digits of a line of the table.
+fn message_of(line: &str) -> Option<(u32, u16, u8, u32, &str)> {
+    let mut words = line.split(' ');
+    Some((
+        words.next()?.parse().ok()?,
+        words.next()?.parse().ok()?,
+        words.next()?.parse().ok()?,
+        words.next()?.parse().ok()?,
+        words.next().unwrap_or(""),
+    ))
+}
+
 /// Whether a message of a line of the table is refused as it says.
 fn is_refused(alloc: Global, line: &str) -> Result<bool, Fail> {
-    let mut words = line.split(' ');
-    let kind: u32 = words.next().ok_or("a kind")?.parse()?;
-    let flags: u16 = words.next().ok_or("flags")?.parse()?;
-    let rule: u8 = words.next().ok_or("a rule")?.parse()?;
-    let detail: u32 = words.next().ok_or("a detail")?.parse()?;
-    let body = payload_of(alloc, words.next().unwrap_or(""))?;
+    let (kind, flags, rule, detail, digits) = message_of(line).ok_or("a message")?;
+    let body = payload_of(alloc, digits)?;
     let read = read_request(Width::Narrow, kind, flags, body.as_slice());
     Ok(read == Err(Bad { rule, detail }))
 }
@@ -139,36 +154,62 @@ fn messages_that_are_no_requests(rt: HostRuntime) -> Result<(), Fail> {
     Ok(())
 }
 
+/// Whether a message is refused by rule 5 in this width.
+fn is_bad(width: Width, kind: u32, body: &[u8]) -> bool {
+    let refused = Bad {
+        rule: 5,
+        detail: kind,
+    };
+    read_request(width, kind, 0, body) == Err(refused)
+}
+
+/// Whether READ has at most so many bytes in this width.
+fn reads_at_most(width: Width, most: u16) -> bool {
+    let [low, high] = u16::to_le_bytes(most);
+    let request = Request::ReadAt {
+        handle: 7,
+        offset: 0,
+        max: most,
+    };
+    let read = [7, 0, 0, 0, 0, 0, 0, 0, 0, 0, 0, 0, low, high];
+    let more = [
+        7,
+        0,
+        0,
+        0,
+        0,
+        0,
+        0,
+        0,
+        0,
+        0,
+        0,
+        0,
+        low.wrapping_add(1),
+        high,
+    ];
+    is_request_in(width, 7, &read, request) && is_bad(width, 7, &more)
+}
+
+/// Whether WRITE has at most so many bytes in this width.
+fn writes_at_most(width: Width, most: usize) -> bool
+    requires { most ≤ 60000 }
+{
+    let mut write = [b'a'; 60_013];
+    write[..12].copy_from_slice(&[0; 12]);
+    let len = 12 + most;
+    let request = Request::WriteAt {
+        handle: 0,
+        offset: 0,
+        bytes: &write[12..len],
+    };
+    is_request_in(width, 8, &write[..len], request) && is_bad(width, 8, &write[..len + 1])
+}
+
 #[test]
 fn payloads_by_width(rt: HostRuntime) {
-    // A READ's greatest number of bytes, and how many bytes a WRITE has.
-    let widths = [(Width::Narrow, 16_000), (Width::Wide, 60_000)];
-    for (width, most) in widths {
-        let [low, high] = u16::to_le_bytes(most);
-        let read = [7, 0, 0, 0, 0, 0, 0, 0, 0, 0, 0, 0, low, high];
-        let request = Request::ReadAt {
-            handle: 7,
-            offset: 0,
-            max: most,
-        };
-        check_request_in(&rt, width, 7, &read, request);
-        let read = [7, 0, 0, 0, 0, 0, 0, 0, 0, 0, 0, 0, low + 1, high];
-        let refused = Err(Bad { rule: 5, detail: 7 });
-        assert!(rt; read_request(width, 7, 0, &read) == refused);
-
-        let mut write = [b'a'; 60_013];
-        write[..12].copy_from_slice(&[0; 12]);
-        let len = 12 + usize::from(most);
-        let bytes = &write[12..len];
-        let request = Request::WriteAt {
-            handle: 0,
-            offset: 0,
-            bytes,
-        };
-        check_request_in(&rt, width, 8, &write[..len], request);
-        let refused = Err(Bad { rule: 5, detail: 8 });
-        assert!(rt; read_request(width, 8, 0, &write[..len + 1]) == refused);
-    }
+    assert!(rt; reads_at_most(Width::Narrow, 16_000) && writes_at_most(Width::Narrow, 16_000));
+    assert!(rt; reads_at_most(Width::Wide, 60_000) && writes_at_most(Width::Wide, 60_000));
 }
 
 /// Whether these bytes are a name, and then its own.

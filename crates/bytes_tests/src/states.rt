@@ -1,5 +1,8 @@
+ghost use Rattle.state_export.specs.Spelling.{IsState, value_of};
+
 use request_catalogue::Name;
 use state_export::*;
+use std::alloc::{AllocError, Global};
 use std::test::*;
 
 /// The least state, as `docs/FORMATS.md` spells it.
@@ -21,30 +24,48 @@ const SPELLED: [u8; 26] = [
     63, 0, 0, 0,
 ];
 
-#[test]
-fn states_written_and_read(rt: HostRuntime) -> Result<(), Fail> {
-    let least = State {
-        terminal: b"",
-        unread: b"",
-        lines: 0,
-        bytes: 0,
-    };
+/// The state that `LEAST` spells.
+const PLAIN: State = State {
+    terminal: b"",
+    unread: b"",
+    lines: 0,
+    bytes: 0,
+};
+
+/// The state with the longest texts and the greatest numbers.
+const GREATEST: State = State {
+    terminal: &[b't'; 64],
+    unread: &[b'u'; 4_096],
+    lines: u32::MAX,
+    bytes: u32::MAX,
+};
+
+/// Whether a state is written as these bytes, and read back from them.
+fn is_spelled(state: State, spelled: &[u8]) -> bool
+    requires { IsState (value_of state) }
+{
     let mut out = [0xff; STATE_MAX];
-    assert!(rt; write_state(&least, &mut out) == 21);
-    assert!(rt; &out[..22] == [LEAST.as_slice(), &[0xff]].concat(rt.alloc())?.as_slice());
-    assert!(rt; read_state(&LEAST) == Ok(least));
-    let len = write_state(&SHOWN, &mut out);
-    assert!(rt; &out[..len] == SPELLED.as_slice());
-    assert!(rt; read_state(&SPELLED) == Ok(SHOWN));
-    let greatest = State {
-        terminal: &[b't'; 64],
-        unread: &[b'u'; 4_096],
-        lines: u32::MAX,
-        bytes: u32::MAX,
-    };
-    assert!(rt; write_state(&greatest, &mut out) == STATE_MAX);
-    assert!(rt; read_state(&out) == Ok(greatest));
-    Ok(())
+    let len = write_state(&state, &mut out);
+    &out[..len] == spelled && read_state(spelled) == Ok(state)
+}
+
+/// Whether the least state leaves what stands after it.
+fn leaves_rest() -> bool {
+    let mut out = [0xff; STATE_MAX];
+    write_state(&PLAIN, &mut out) == 21 && out[21] == 0xff
+}
+
+/// Whether the greatest state fills the room that there is, and is read back.
+fn fills_room() -> bool {
+    let mut out = [0xff; STATE_MAX];
+    write_state(&GREATEST, &mut out) == STATE_MAX && read_state(&out) == Ok(GREATEST)
+}
+
+#[test]
+fn states_written_and_read(rt: HostRuntime) {
+    assert!(rt; is_spelled(PLAIN, &LEAST) && leaves_rest());
+    assert!(rt; is_spelled(SHOWN, &SPELLED));
+    assert!(rt; fills_room());
 }
 
 /// What the least state is read as, cut after so many bytes.
@@ -57,11 +78,25 @@ fn cut(len: usize) -> Option<StateFault> {
     }
 }
 
+/// Whether the bytes of these parts are refused with this fault.
+fn are_refused(alloc: Global, parts: &[&[u8]], fault: StateFault) -> Result<bool, AllocError> {
+    let bytes = parts.concat(alloc)?;
+    Ok(read_state(&bytes).err() == Some(fault))
+}
+
 #[test]
-fn faults_of_states(rt: HostRuntime) -> Result<(), Fail> {
+fn states_that_are_cut_or_too_long(rt: HostRuntime) -> Result<(), Fail> {
     for len in 0..22 {
         assert!(rt; read_state(&LEAST[..len]).err() == cut(len));
     }
+    let wide: [&[u8]; 4] = [&LEAST[..4], &[1, 65, 0], &[b't'; 65], &LEAST[7..]];
+    assert!(rt; are_refused(rt.alloc(), &[&LEAST, &[0]], StateFault::Trailing)?);
+    assert!(rt; are_refused(rt.alloc(), &wide, StateFault::Length)?);
+    Ok(())
+}
+
+#[test]
+fn faults_of_states(rt: HostRuntime) {
     // A place, the byte that stands there instead, and the fault.
     let rows = [
         (3, 0x32, StateFault::Magic),
@@ -79,11 +114,6 @@ fn faults_of_states(rt: HostRuntime) -> Result<(), Fail> {
         bytes[place] = byte;
         assert!(rt; read_state(&bytes).err() == Some(fault));
     }
-    let longer = [LEAST.as_slice(), &[0]].concat(rt.alloc())?;
-    assert!(rt; read_state(&longer).err() == Some(StateFault::Trailing));
-    let wide = [&LEAST[..4], &[1, 65, 0], &[b't'; 65], &LEAST[7..]].concat(rt.alloc())?;
-    assert!(rt; read_state(&wide).err() == Some(StateFault::Length));
-    Ok(())
 }
 
 /// The import record of bob's least state.
@@ -92,15 +122,27 @@ const RECORD: [u8; 29] = [
     0, 0, 0, 0, 0,
 ];
 
+/// Whether bob's least state is written as the record.
+fn is_written(bob: &Name) -> bool {
+    let mut out = [0; IMPORT_MAX];
+    let len = write_import(1_001, bob, &LEAST, &mut out);
+    &out[..len] == RECORD.as_slice()
+}
+
+/// Whether the record is read as bob's least state.
+fn is_read(bob: &Name) -> bool {
+    match read_import(&RECORD) {
+        Ok(import) => {
+            (import.uid, import.user) == (1_001, *bob) && Ok(import.state) == read_state(&LEAST)
+        }
+        Err(_) => false,
+    }
+}
+
 #[test]
 fn import_records(rt: HostRuntime) -> Result<(), Fail> {
     let bob = Name::of(b"bob").ok_or("a name")?;
-    let mut out = [0; IMPORT_MAX];
-    let len = write_import(1_001, &bob, &LEAST, &mut out);
-    assert!(rt; &out[..len] == RECORD.as_slice());
-    let import = read_import(&RECORD).ok().ok_or("a record")?;
-    assert!(rt; import.uid == 1_001 && import.user == bob);
-    assert!(rt; Ok(import.state) == read_state(&LEAST));
+    assert!(rt; is_written(&bob) && is_read(&bob));
     Ok(())
 }
 

@@ -1,6 +1,6 @@
 use account_file::*;
 use otp_hash::{Algo, Seed};
-use policy_model::{Account, Grant, SetupParts};
+use policy_model::{Account, Grant, Setup, SetupParts};
 use request_catalogue::Width;
 use std::alloc::AllocError;
 use std::test::*;
@@ -81,19 +81,25 @@ fn is_so(refusal: Option<SetupError>, key: &str, rule: &str, account: u32) -> bo
     }
 }
 
-/// Whether the file is refused by the key and the rule, of the account, that a line has before its
-/// changes.
-fn is_refused_so(rt: &HostRuntime, line: &str) -> Result<bool, Fail> {
-    let (key, rest) = line.split_once(' ').ok_or("a key")?;
-    let (rule, rest) = rest.split_once(' ').ok_or("a rule")?;
-    let (account, changes) = number_at(rest)?;
+/// The key, the rule and the account that a line has before its changes.
+fn refused_by(line: &str) -> Option<(&str, &str, u32, &str)> {
+    let (key, rest) = line.split_once(' ')?;
+    let (rule, rest) = rest.split_once(' ')?;
+    let (account, changes) = rest.split_once(' ')?;
+    Some((key, rule, account.parse::<u32>().ok()?, changes))
+}
+
+/// Whether the file is refused as a line says.
+fn is_refused_so(rt: &HostRuntime, line: &str) -> Result<bool, AllocError> {
+    let Some((key, rule, account, changes)) = refused_by(line) else {
+        return Ok(false);
+    };
     let text = text_with(rt, changes)?;
-    let account = u32::try_from(account).unwrap_or(0);
     Ok(is_so(refusal(rt, text.as_str()), key, rule, account))
 }
 
 /// Whether the file is refused as each line says.
-fn are_refused_so(rt: &HostRuntime, lines: &str) -> Result<bool, Fail> {
+fn are_refused_so(rt: &HostRuntime, lines: &str) -> Result<bool, AllocError> {
     let mut all = true;
     for line in lines.lines().skip(1) {
         all &= is_refused_so(rt, line.trim_start())?;
@@ -163,18 +169,27 @@ fn are_both(accounts: &[Account]) -> bool {
     }
 }
 
+/// Whether a setup that was read is the whole one.
+fn is_whole(read: &Result<Setup, SetupError>) -> bool {
+    match read {
+        Ok(setup) => {
+            let parts = setup.parts();
+            has_texts(parts) && has_numbers(parts) && are_both(parts.accounts.as_slice())
+        }
+        Err(_) => false,
+    }
+}
+
+/// Whether a text is read as the whole setup.
+fn is_read_whole(rt: &HostRuntime, text: &str) -> bool {
+    is_whole(&read_setup(rt.alloc(), text.as_bytes()))
+}
+
 #[test]
 fn a_whole_setup(rt: HostRuntime) -> Result<(), Fail> {
     let text = text_with(&rt, "8 hold = 3600000|info = [1000, 1]|banner = \"Hi ~\"")?;
-    match read_setup(rt.alloc(), text.as_bytes()) {
-        Ok(setup) => {
-            let parts = setup.parts();
-            assert!(rt; has_texts(parts) && has_numbers(parts));
-            assert!(rt; are_both(parts.accounts.as_slice()));
-            Ok(())
-        }
-        Err(_) => Err(Fail::from("a setup")),
-    }
+    assert!(rt; is_read_whole(&rt, text.as_str()));
+    Ok(())
 }
 
 /// Each line is the key, the rule and the account of the first fault, and then what is changed.
@@ -296,16 +311,31 @@ fn the_first_of_several_faults(rt: HostRuntime) -> Result<(), Fail> {
     Ok(())
 }
 
-/// Whether the file is read with these with changes.
-fn is_read_with(rt: &HostRuntime, changes: &str, salt: &[u8], frames: Width) -> Result<bool, Fail> {
-    let text = text_with(rt, changes)?;
-    Ok(match read_setup(rt.alloc(), text.as_bytes()) {
+/// Whether a setup that was read has this salt and these frames.
+fn has(read: &Result<Setup, SetupError>, salt: &[u8], frames: Width) -> bool {
+    match read {
         Ok(setup) => {
             let parts = setup.parts();
             Some(parts.salt) == Seed::of(salt) && parts.frames == frames
         }
         Err(_) => false,
-    })
+    }
+}
+
+/// Whether a text is read as a setup with these.
+fn is_read_as(rt: &HostRuntime, text: &str, salt: &[u8], frames: Width) -> bool {
+    has(&read_setup(rt.alloc(), text.as_bytes()), salt, frames)
+}
+
+/// Whether the file is read with these with changes.
+fn is_read_with(
+    rt: &HostRuntime,
+    changes: &str,
+    salt: &[u8],
+    frames: Width,
+) -> Result<bool, AllocError> {
+    let text = text_with(rt, changes)?;
+    Ok(is_read_as(rt, text.as_str(), salt, frames))
 }
 
 #[test]
@@ -334,77 +364,197 @@ const TAKEN: &str = "
     14 sequence = 0
     14 sequence = 9999";
 
+/// Whether a text is taken.
+fn is_taken(rt: &HostRuntime, text: &str) -> bool {
+    refusal(rt, text).is_none()
+}
+
+/// Whether the file is taken with changes.
+fn is_taken_with(rt: &HostRuntime, changes: &str) -> Result<bool, AllocError> {
+    let text = text_with(rt, changes)?;
+    Ok(is_taken(rt, text.as_str()))
+}
+
 #[test]
 fn what_is_taken(rt: HostRuntime) -> Result<(), Fail> {
     for line in TAKEN.lines().skip(1) {
-        let text = text_with(&rt, line.trim_start())?;
-        assert!(rt; refusal(&rt, text.as_str()).is_none(), "of {line}");
+        assert!(rt; is_taken_with(&rt, line.trim_start())?, "of {line}");
     }
     Ok(())
 }
 
-/// Files of which a part is there often: the key, the rule and the account of the first fault, so many
-/// lines of the file, how often the part is there, and then what stands before it, the part, and what
-/// stands after it, each with a `/` at its end.
-const LONG: &str = "
-    account range 0 9 1025 /[[account]]|//
-    name missing 1 9 1024 /[[account]]|//
-    account kind 0 9 0 account = 1|///
-    account kind 1 9 0 account = [1]|///
-    info range 0 9 33 info = [/7, /]|/
-    grants range 1 16 65 grants = [/1, /]|/
-    grants kind 1 16 64 grants = [/1, /]|/
-    workers missing 0 3 255 words = \"/w/\"|/
-    words text 0 3 256 words = \"/w/\"|/
-    socket missing 0 0 0 ///";
-
-/// The front of the file with a text after it: parts that are parted by `/`, the second of them there
-/// so often.
-fn long_text(
-    rt: &HostRuntime,
+/// A file of which a part is there often: so many lines of the file, and what stands before the part, the
+/// part, and what stands after it.
+struct Long {
     front: usize,
-    count: usize,
-    parts: &str,
-) -> Result<String, AllocError> {
+    often: usize,
+    parts: [&'static str; 3],
+}
+
+/// Such a file, and the key, the rule and the account of its first fault.
+struct Refused {
+    long: Long,
+    key: &'static str,
+    rule: &'static str,
+    account: u32,
+}
+
+const LONG: &[Refused] = &[
+    Refused {
+        long: Long {
+            front: 9,
+            often: 1_025,
+            parts: ["", "[[account]]|", ""],
+        },
+        key: "account",
+        rule: "range",
+        account: 0,
+    },
+    Refused {
+        long: Long {
+            front: 9,
+            often: 1_024,
+            parts: ["", "[[account]]|", ""],
+        },
+        key: "name",
+        rule: "missing",
+        account: 1,
+    },
+    Refused {
+        long: Long {
+            front: 9,
+            often: 0,
+            parts: ["account = 1|", "", ""],
+        },
+        key: "account",
+        rule: "kind",
+        account: 0,
+    },
+    Refused {
+        long: Long {
+            front: 9,
+            often: 0,
+            parts: ["account = [1]|", "", ""],
+        },
+        key: "account",
+        rule: "kind",
+        account: 1,
+    },
+    Refused {
+        long: Long {
+            front: 9,
+            often: 33,
+            parts: ["info = [", "7, ", "]|"],
+        },
+        key: "info",
+        rule: "range",
+        account: 0,
+    },
+    Refused {
+        long: Long {
+            front: 16,
+            often: 65,
+            parts: ["grants = [", "1, ", "]|"],
+        },
+        key: "grants",
+        rule: "range",
+        account: 1,
+    },
+    Refused {
+        long: Long {
+            front: 16,
+            often: 64,
+            parts: ["grants = [", "1, ", "]|"],
+        },
+        key: "grants",
+        rule: "kind",
+        account: 1,
+    },
+    Refused {
+        long: Long {
+            front: 3,
+            often: 255,
+            parts: ["words = \"", "w", "\"|"],
+        },
+        key: "workers",
+        rule: "missing",
+        account: 0,
+    },
+    Refused {
+        long: Long {
+            front: 3,
+            often: 256,
+            parts: ["words = \"", "w", "\"|"],
+        },
+        key: "words",
+        rule: "text",
+        account: 0,
+    },
+    Refused {
+        long: Long {
+            front: 0,
+            often: 0,
+            parts: ["", "", ""],
+        },
+        key: "socket",
+        rule: "missing",
+        account: 0,
+    },
+];
+
+/// The front of the file.
+fn front_of(rt: &HostRuntime, front: usize) -> Result<String, AllocError> {
     let mut text = String::new(rt.alloc());
     for line in LINES.iter().take(front) {
         text.push_str(line)?;
         text.push_str("\n")?;
     }
-    for (i, part) in parts.split('/').enumerate() {
-        let often = if i == 1 { count } else { 1 };
-        for _ in 0..often {
-            push_text(&mut text, part)?;
-        }
-    }
     Ok(text)
 }
 
-/// The number in front of a text, and what stands after it.
-fn number_at(text: &str) -> Result<(usize, &str), Fail> {
-    let (number, rest) = text.split_once(' ').ok_or("a number")?;
-    Ok((number.parse::<usize>().map_err(|_| "a number")?, rest))
+/// Appends a text so often.
+fn push_often(text: &mut String, more: &str, often: usize) -> Result<(), AllocError> {
+    for _ in 0..often {
+        push_text(text, more)?;
+    }
+    Ok(())
 }
 
-/// Whether a long file is refused as a line says.
-fn is_long_so(rt: &HostRuntime, line: &str) -> Result<bool, Fail> {
-    let (key, rest) = line.split_once(' ').ok_or("a key")?;
-    let (rule, rest) = rest.split_once(' ').ok_or("a rule")?;
-    let (account, rest) = number_at(rest)?;
-    let (front, rest) = number_at(rest)?;
-    let (count, parts) = number_at(rest)?;
-    let text = long_text(rt, front, count, parts)?;
-    let account = u32::try_from(account).unwrap_or(0);
-    Ok(is_so(refusal(rt, text.as_str()), key, rule, account))
+/// The text of a long file.
+fn long_text(rt: &HostRuntime, long: &Long) -> Result<String, AllocError> {
+    let [before, part, after] = long.parts;
+    let mut text = front_of(rt, long.front)?;
+    push_text(&mut text, before)?;
+    push_often(&mut text, part, long.often)?;
+    push_text(&mut text, after)?;
+    Ok(text)
+}
+
+/// Whether a long file is refused as a row says.
+fn is_long_so(rt: &HostRuntime, row: &Refused) -> Result<bool, AllocError> {
+    let text = long_text(rt, &row.long)?;
+    Ok(is_so(refusal(rt, text.as_str()), row.key, row.rule, row.account))
 }
 
 #[test]
-fn long_and_strange_files(rt: HostRuntime) -> Result<(), Fail> {
-    for line in LONG.lines().skip(1) {
-        assert!(rt; is_long_so(&rt, line.trim_start())?, "of {line}");
+fn long_files(rt: HostRuntime) -> Result<(), Fail> {
+    for row in LONG {
+        assert!(rt; is_long_so(&rt, row)?, "of {} {}", row.key, row.rule);
     }
-    let none = long_text(&rt, 9, 0, "account = []|")?;
-    assert!(rt; refusal(&rt, none.as_str()).is_none());
+    Ok(())
+}
+
+/// A file with no accounts in a list.
+const NO_ACCOUNTS: Long = Long {
+    front: 9,
+    often: 0,
+    parts: ["account = []|", "", ""],
+};
+
+#[test]
+fn strange_files(rt: HostRuntime) -> Result<(), Fail> {
+    let text = long_text(&rt, &NO_ACCOUNTS)?;
+    assert!(rt; is_taken(&rt, text.as_str()));
     let bytes = read_setup(rt.alloc(), b"socket = \"\xFF\"\n").err();
     assert!(rt; is_so(bytes, "file", "not-toml", 0));
     Ok(())

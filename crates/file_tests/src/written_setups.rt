@@ -83,8 +83,7 @@ fn written_after(alloc: Global, setup: &Setup) -> Result<Vec<u8>, Fail> {
 
 /// The file of a text after the takeover.
 fn written(alloc: Global, text: &str) -> Result<Vec<u8>, Fail> {
-    let setup = setup_of(alloc, text.as_bytes())?;
-    written_after(alloc, &setup)
+    written_after(alloc, &setup_of(alloc, text.as_bytes())?)
 }
 
 /// A line for each account: its user number, sequence, password, whether it is enabled, and how many
@@ -104,10 +103,14 @@ fn line_of(alloc: Global, account: &Account) -> Result<String, AllocError> {
     format!(in alloc; "{uid} {sequence} {password:016x} {enabled} {grants}\n")
 }
 
+/// The accounts of a setup.
+fn lines_in(alloc: Global, setup: &Setup) -> Result<String, Fail> {
+    Ok(lines_of(alloc, setup.parts().accounts.as_slice())?)
+}
+
 /// The accounts of a file.
 fn accounts_in(alloc: Global, bytes: &[u8]) -> Result<String, Fail> {
-    let setup = setup_of(alloc, bytes)?;
-    Ok(lines_of(alloc, setup.parts().accounts.as_slice())?)
+    lines_in(alloc, &setup_of(alloc, bytes)?)
 }
 
 /// Whether two texts are the same.
@@ -225,15 +228,14 @@ enabled = false
 grants = [";
 
 /// The file of a setup in which nothing has happened.
-fn rewritten_from(alloc: Global, setup: &Setup) -> Result<Vec<u8>, AllocError> {
+fn rewritten_from(alloc: Global, setup: &Setup) -> Result<Vec<u8>, Fail> {
     let ledger = Ledger::new(alloc, setup, 0)?;
-    write_accounts(alloc, setup, &ledger)
+    Ok(write_accounts(alloc, setup, &ledger)?)
 }
 
 /// The file of a text, in which nothing has happened.
 fn rewritten(alloc: Global, text: &str) -> Result<Vec<u8>, Fail> {
-    let setup = setup_of(alloc, text.as_bytes())?;
-    Ok(rewritten_from(alloc, &setup)?)
+    rewritten_from(alloc, &setup_of(alloc, text.as_bytes())?)
 }
 
 /// Whether there are 1,024 accounts, of which the last has 64 grants.
@@ -246,8 +248,7 @@ fn are_greatest(accounts: &[Account]) -> bool {
 
 /// Whether a file is the greatest one.
 fn is_greatest(alloc: Global, bytes: &[u8]) -> Result<bool, Fail> {
-    let setup = setup_of(alloc, bytes)?;
-    Ok(are_greatest(setup.parts().accounts.as_slice()))
+    Ok(are_greatest(setup_of(alloc, bytes)?.parts().accounts.as_slice()))
 }
 
 /// The greatest file as it is written.
