@@ -462,8 +462,7 @@ fn play_all<R: Abort>(rt: &R, alloc: Global, setup: &Setup, texts: &[&str]) -> R
 /// Plays rows over the setup with one account, which is alive in no other function: that keeps the
 /// proofs short.
 fn play_alice<R: Abort>(rt: &R, alloc: Global, texts: &[&str]) -> Result<(), Fail> {
-    let setup = one_account(alloc)?;
-    play_all(rt, alloc, &setup, texts)
+    play_all(rt, alloc, &one_account(alloc)?, texts)
 }
 
 #[test]
@@ -511,10 +510,14 @@ fn three_accounts(alloc: Global) -> Result<Setup, Fail> {
     setup_of(parts(alloc, PLAIN_TEXTS, PLAIN_COUNTS, none, accounts)?)
 }
 
+/// Plays rows over the setup with three accounts.
+fn play_three<R: Abort>(rt: &R, alloc: Global, texts: &[&str]) -> Result<(), Fail> {
+    play_all(rt, alloc, &three_accounts(alloc)?, texts)
+}
+
 #[test]
 fn decoys(rt: HostRuntime) -> Result<(), Fail> {
-    let setup = three_accounts(rt.alloc())?;
-    play_all(&rt, rt.alloc(), &setup, &[DECOYS, DECOYS_TAKE_NOBODY, HELD])
+    play_three(&rt, rt.alloc(), &[DECOYS, DECOYS_TAKE_NOBODY, HELD])
 }
 
 /// The setup with a salt and no accounts.
@@ -534,8 +537,7 @@ fn is_decoy(decoy: &Decoy, algo: Algo, n: u16, seed: &[u8]) -> bool {
 /// The decoy of a name by a salt.
 fn decoy_of(alloc: Global, salt: &str, user: &str) -> Result<Decoy, Fail> {
     let user = name(user)?;
-    let setup = salted(alloc, salt)?;
-    Ok(setup.decoy(&user))
+    Ok(salted(alloc, salt)?.decoy(&user))
 }
 
 /// Each algorithm, number and seed was computed by another program.
@@ -564,13 +566,20 @@ fn what_is_shown(rt: HostRuntime) -> Result<(), Fail> {
     Ok(())
 }
 
+/// The setup with a budget of two connections with eight requests.
+fn eight_requests(alloc: Global) -> Result<Setup, Fail> {
+    let none = Vec::new(alloc);
+    setup_of(parts(alloc, PLAIN_TEXTS, [1, 2, 8, 3, 1], none, Vec::new(alloc))?)
+}
+
+/// Plays rows over it.
+fn play_eight<R: Abort>(rt: &R, alloc: Global, texts: &[&str]) -> Result<(), Fail> {
+    play_all(rt, alloc, &eight_requests(alloc)?, texts)
+}
+
 #[test]
 fn the_budget_of_a_session(rt: HostRuntime) -> Result<(), Fail> {
-    let alloc = rt.alloc();
-    let counts = [1, 2, 8, 3, 1];
-    let none = Vec::new(alloc);
-    let setup = setup_of(parts(alloc, PLAIN_TEXTS, counts, none, Vec::new(alloc))?)?;
-    play(&rt, alloc, &setup, BUDGET)
+    play_eight(&rt, rt.alloc(), &[BUDGET])
 }
 
 /// What the table says of a cell: `-` nothing, `y` permitted, `o` once, `d` deciding.
@@ -587,28 +596,51 @@ fn cell(phase: Phase, kind: Kind) -> &'static str {
     }
 }
 
-/// The cells of the requests 1 to 13: before the login, challenged, verified, of the user, over.
+/// The phases: before the login, challenged, verified, of the user, over.
+const PHASES: [Phase; 5] = [
+    Phase::Pre,
+    Phase::Challenged,
+    Phase::Verified,
+    Phase::User,
+    Phase::Over,
+];
+
+/// The cells of the requests 1 to 13, a column for each phase.
+const CELLS: &[(u32, &str)] = &[
+    (1, "oo---"),
+    (2, "y----"),
+    (3, "-d---"),
+    (4, "-y---"),
+    (5, "--o--"),
+    (6, "---o-"),
+    (7, "yyyy-"),
+    (8, "yyyy-"),
+    (9, "---y-"),
+    (10, "---y-"),
+    (11, "---y-"),
+    (12, "yyyy-"),
+    (13, "yyyy-"),
+];
+
+/// The cells of a kind.
+fn cells_of(alloc: Global, kind: Kind) -> Result<String, AllocError> {
+    let mut cells = String::new(alloc);
+    for phase in PHASES {
+        cells.push_str(cell(phase, kind))?;
+    }
+    Ok(cells)
+}
+
+/// Whether the request of a number has these cells.
+fn has_cells(alloc: Global, number: u32, want: &str) -> Result<bool, Fail> {
+    let kind = Kind::of(number).ok_or("a kind")?;
+    Ok(cells_of(alloc, kind)?.as_str() == want)
+}
+
 #[test]
 fn the_phase_table(rt: HostRuntime) -> Result<(), Fail> {
-    let alloc = rt.alloc();
-    let mut number: u32 = 0;
-    for want in [
-        "oo---", "y----", "-d---", "-y---", "--o--", "---o-", "yyyy-", "yyyy-", "---y-", "---y-",
-        "---y-", "yyyy-", "yyyy-",
-    ] {
-        number = number.saturating_add(1);
-        let kind = Kind::of(number).ok_or("a kind")?;
-        let mut cells = String::new(alloc);
-        for phase in [
-            Phase::Pre,
-            Phase::Challenged,
-            Phase::Verified,
-            Phase::User,
-            Phase::Over,
-        ] {
-            cells.push_str(cell(phase, kind))?;
-        }
-        assert!(rt; cells.as_str() == want);
+    for (number, want) in CELLS {
+        assert!(rt; has_cells(rt.alloc(), *number, want)?, "{number}");
     }
     Ok(())
 }

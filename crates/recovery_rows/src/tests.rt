@@ -11,6 +11,7 @@ use fresh_log::fresh_image;
 use info_hooks::Hooks;
 use line_log::LineLog;
 use outside::{Bytes, CallKind, Fail, MemFiles, MemPost, MemSite, Word};
+use policy_model::Event;
 use recover_mode::Recovery;
 use serve_mode::{ServeCommand, ServeError, Served, run_serve};
 use service_play::{ONE, Play, Session, chain_in, come, posts_of, setup_in};
@@ -213,6 +214,12 @@ fn are_recovered(alloc: Global, login: &Login, disk: &MemDisk) -> Result<bool, F
     Ok(true)
 }
 
+/// Whether a login was served by so many calls of its disk, and is recovered after each of them.
+fn is_recovered_by(alloc: Global, login: &Login, logged: &Logged) -> Result<bool, Fault> {
+    let is_served = logged.end == Ok(()) && logged.disk.calls() == 4 * LINES;
+    Ok(is_served && are_recovered(alloc, login, &logged.disk)?)
+}
+
 /// Whether a login is served by so many calls of its disk, and recovered after each of them.
 fn is_recovered_anywhere<R: Threads + Wait + Sync>(
     rt: &R,
@@ -220,15 +227,17 @@ fn is_recovered_anywhere<R: Threads + Wait + Sync>(
     login: &Login,
 ) -> Result<bool, Fault> {
     let mut files = fresh_files(alloc, login)?;
-    let logged = serve_logged(rt, alloc, login, &mut files)?;
-    let is_served = logged.end == Ok(()) && logged.disk.calls() == 4 * LINES;
-    Ok(is_served && are_recovered(alloc, login, &logged.disk)?)
+    is_recovered_by(alloc, login, &serve_logged(rt, alloc, login, &mut files)?)
+}
+
+/// The same of a new login.
+fn is_one_recovered<R: Threads + Wait + Sync>(rt: &R, alloc: Global) -> Result<bool, Fault> {
+    is_recovered_anywhere(rt, alloc, &log_in(rt, alloc, ONE, 4_096)?)
 }
 
 #[test]
 fn a_login_that_stops_after_each_call(rt: HostRuntime) -> Result<(), Fault> {
-    let login = log_in(&rt, rt.alloc(), ONE, 4_096)?;
-    assert!(&rt; is_recovered_anywhere(&rt, rt.alloc(), &login)?);
+    assert!(&rt; is_one_recovered(&rt, rt.alloc())?);
     Ok(())
 }
 
@@ -247,8 +256,7 @@ fn stopped_log<R: Threads + Wait + Sync>(
     login: &Login,
 ) -> Result<Vec<u8>, Fault> {
     let mut files = fresh_files(alloc, login)?;
-    let logged = serve_logged(rt, alloc, login, &mut files)?;
-    image_behind_reply(alloc, &logged.disk)
+    image_behind_reply(alloc, &serve_logged(rt, alloc, login, &mut files)?.disk)
 }
 
 /// Whether this is what recovery told, and the setup's accounts are those after the reply.
@@ -280,11 +288,24 @@ fn is_recovered_and_fresh(alloc: Global, login: &Login, log: &[u8]) -> Result<bo
     Ok(is_fresh_then(alloc, first)? && is_told)
 }
 
+/// The same of a login that is stopped after its accepted reply.
+fn is_one_fresh_after<R: Threads + Wait + Sync>(
+    rt: &R,
+    alloc: Global,
+    login: &Login,
+) -> Result<bool, Fault> {
+    let log = stopped_log(rt, alloc, login)?;
+    is_recovered_and_fresh(alloc, login, &log)
+}
+
+/// The same of a new login.
+fn is_one_fresh<R: Threads + Wait + Sync>(rt: &R, alloc: Global) -> Result<bool, Fault> {
+    is_one_fresh_after(rt, alloc, &log_in(rt, alloc, ONE, 4_096)?)
+}
+
 #[test]
 fn a_stopped_login_is_recovered_and_the_log_is_fresh(rt: HostRuntime) -> Result<(), Fault> {
-    let login = log_in(&rt, rt.alloc(), ONE, 4_096)?;
-    let log = stopped_log(&rt, rt.alloc(), &login)?;
-    assert!(&rt; is_recovered_and_fresh(rt.alloc(), &login, &log)?);
+    assert!(&rt; is_one_fresh(&rt, rt.alloc())?);
     Ok(())
 }
 
@@ -294,12 +315,30 @@ fn is_done_again(alloc: Global, login: &Login, log: &[u8]) -> Result<bool, Fault
     is_there_already(alloc, &first.setup, &login.list, log)
 }
 
+/// The same of a login that is stopped after its accepted reply.
+fn is_one_done_again_after<R: Threads + Wait + Sync>(
+    rt: &R,
+    alloc: Global,
+    login: &Login,
+) -> Result<bool, Fault> {
+    let log = stopped_log(rt, alloc, login)?;
+    is_done_again(alloc, login, &log)
+}
+
+/// The same of a new login.
+fn is_one_done_again<R: Threads + Wait + Sync>(rt: &R, alloc: Global) -> Result<bool, Fault> {
+    is_one_done_again_after(rt, alloc, &log_in(rt, alloc, ONE, 4_096)?)
+}
+
 #[test]
 fn a_stopped_recovery_is_done_again(rt: HostRuntime) -> Result<(), Fault> {
-    let login = log_in(&rt, rt.alloc(), ONE, 4_096)?;
-    let log = stopped_log(&rt, rt.alloc(), &login)?;
-    assert!(&rt; is_done_again(rt.alloc(), &login, &log)?);
+    assert!(&rt; is_one_done_again(&rt, rt.alloc())?);
     Ok(())
+}
+
+/// Whether a journal has a reply that was accepted.
+fn has_login(journal: &[Event]) -> bool {
+    journal.iter().any(|event| event.accepts())
 }
 
 /// Whether a client who says what a login's did is let in by this setup.
@@ -309,8 +348,8 @@ fn lets_in<R: Threads + Wait + Sync>(
     login: &Login,
     setup: &[u8],
 ) -> Result<bool, Fault> {
-    let came = come(rt, alloc, &play(setup, login, &[session_of(login)]), 1)?;
-    Ok(came.journal.iter().any(|event| event.accepts()))
+    let sessions = [session_of(login)];
+    Ok(has_login(&come(rt, alloc, &play(setup, login, &sessions), 1)?.journal))
 }
 
 /// Whether the same client is let in by the old setup, and not by the one that was recovered.
@@ -325,11 +364,24 @@ fn is_let_in_once<R: Threads + Wait + Sync>(
     Ok(is_let_in && !lets_in(rt, alloc, login, &recovered.setup)?)
 }
 
+/// The same of a login that is stopped after its accepted reply.
+fn is_one_let_in_once_after<R: Threads + Wait + Sync>(
+    rt: &R,
+    alloc: Global,
+    login: &Login,
+) -> Result<bool, Fault> {
+    let log = stopped_log(rt, alloc, login)?;
+    is_let_in_once(rt, alloc, login, &log)
+}
+
+/// The same of a new login.
+fn is_one_let_in_once<R: Threads + Wait + Sync>(rt: &R, alloc: Global) -> Result<bool, Fault> {
+    is_one_let_in_once_after(rt, alloc, &log_in(rt, alloc, ONE, 4_096)?)
+}
+
 #[test]
 fn no_password_is_taken_again_behind_a_stop(rt: HostRuntime) -> Result<(), Fault> {
-    let login = log_in(&rt, rt.alloc(), ONE, 4_096)?;
-    let log = stopped_log(&rt, rt.alloc(), &login)?;
-    assert!(&rt; is_let_in_once(&rt, rt.alloc(), &login, &log)?);
+    assert!(&rt; is_one_let_in_once(&rt, rt.alloc())?);
     Ok(())
 }
 
@@ -370,6 +422,11 @@ const UNFRESH: [Case; 5] = [
     },
 ];
 
+/// Whether a run served nobody for this reason, and made no call to the disk of its log.
+fn is_refused(logged: &Logged, error: ServeError) -> bool {
+    logged.end == Err(error) && logged.posts == 0 && logged.disk.calls() == 0
+}
+
 /// Whether nobody is served by a log of that kind, for that reason, and no call is made to its disk.
 fn is_unserved<R: Threads + Wait + Sync>(
     rt: &R,
@@ -383,8 +440,7 @@ fn is_unserved<R: Threads + Wait + Sync>(
         sent: 0,
     };
     let mut files = files_of(alloc, &login.setup, &login.list, case.log, &[fail])?;
-    let logged = serve_logged(rt, alloc, login, &mut files)?;
-    Ok(logged.end == Err(case.error) && logged.posts == 0 && logged.disk.calls() == 0)
+    Ok(is_refused(&serve_logged(rt, alloc, login, &mut files)?, case.error))
 }
 
 /// Whether nobody is served by any of these logs.
@@ -401,9 +457,13 @@ fn are_unserved<R: Threads + Wait + Sync>(
     Ok(true)
 }
 
+/// The same of a new login.
+fn are_all_unserved<R: Threads + Wait + Sync>(rt: &R, alloc: Global) -> Result<bool, Fault> {
+    are_unserved(rt, alloc, &log_in(rt, alloc, ONE, 4_096)?)
+}
+
 #[test]
 fn nobody_is_served_over_a_log_that_is_not_fresh(rt: HostRuntime) -> Result<(), Fault> {
-    let login = log_in(&rt, rt.alloc(), ONE, 4_096)?;
-    assert!(&rt; are_unserved(&rt, rt.alloc(), &login)?);
+    assert!(&rt; are_all_unserved(&rt, rt.alloc())?);
     Ok(())
 }

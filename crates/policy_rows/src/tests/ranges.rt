@@ -3,89 +3,90 @@
 use super::*;
 
 /// Workers, connections, requests, tries, hold, and whether a setup may have them.
-const COUNTS: &str = "
-    1 1 8 1 1 yes
-    0 1 8 1 1 no
-    1 0 8 1 1 no
-    1 1 7 1 1 no
-    1 1 8 0 1 no
-    1 1 8 1 0 no
-    64 1 8 10 3600000 yes
-    65 1 8 1 1 no
-    1 4096 8 1 1 yes
-    1 4097 8 1 1 no
-    1 1 4096 1 1 yes
-    1 1 4097 1 1 no
-    1 1 8 11 1 no
-    1 1 8 1 3600001 no
-    64 64 253 1 1 yes
-    64 64 254 1 1 no";
+const COUNTS: &[([u32; 5], bool)] = &[
+    ([1, 1, 8, 1, 1], true),
+    ([0, 1, 8, 1, 1], false),
+    ([1, 0, 8, 1, 1], false),
+    ([1, 1, 7, 1, 1], false),
+    ([1, 1, 8, 0, 1], false),
+    ([1, 1, 8, 1, 0], false),
+    ([64, 1, 8, 10, 3_600_000], true),
+    ([65, 1, 8, 1, 1], false),
+    ([1, 4_096, 8, 1, 1], true),
+    ([1, 4_097, 8, 1, 1], false),
+    ([1, 1, 4_096, 1, 1], true),
+    ([1, 1, 4_097, 1, 1], false),
+    ([1, 1, 8, 11, 1], false),
+    ([1, 1, 8, 1, 3_600_001], false),
+    ([64, 64, 253, 1, 1], true),
+    ([64, 64, 254, 1, 1], false),
+];
 
-/// The place of a text (socket, launcher, vault, words, banner), and its length.
-const TEXTS: &str = "
-    0 1 yes
-    0 100 yes
-    0 0 no
-    0 101 no
-    1 255 yes
-    1 0 no
-    1 256 no
-    2 255 yes
-    2 0 no
-    2 256 no
-    3 255 yes
-    3 0 no
-    3 256 no
-    4 0 yes
-    4 200 yes
-    4 201 no";
+/// The place of a text (socket, launcher, vault, words, banner), its length, and whether a setup may have it.
+const TEXTS: &[(usize, u32, bool)] = &[
+    (0, 1, true),
+    (0, 100, true),
+    (0, 0, false),
+    (0, 101, false),
+    (1, 255, true),
+    (1, 0, false),
+    (1, 256, false),
+    (2, 255, true),
+    (2, 0, false),
+    (2, 256, false),
+    (3, 255, true),
+    (3, 0, false),
+    (3, 256, false),
+    (4, 0, true),
+    (4, 200, true),
+    (4, 201, false),
+];
 
-/// The first number of information, how many follow it in order, and one more after them.
-const NUMBERS: &str = "
-    1 0 1000 yes
-    0 0 5 no
-    1 0 0 no
-    1 0 1001 no
-    7 1 7 no
-    1 30 1000 yes
-    1 31 1000 no";
+/// The first number of information, how many follow it in order, one more after them, and whether a setup
+/// may have them.
+const NUMBERS: &[(u32, u32, u32, bool)] = &[
+    (1, 0, 1_000, true),
+    (0, 0, 5, false),
+    (1, 0, 0, false),
+    (1, 0, 1_001, false),
+    (7, 1, 7, false),
+    (1, 30, 1_000, true),
+    (1, 31, 1_000, false),
+];
 
 /// How many accounts stand before the last (`a1`, `a2` and on, with the user numbers 1, 2 and on);
-/// the last one's name, user number and sequence.
-const ACCOUNTS: &str = "
-    0 a 1 0 yes
-    0 a 0 0 no
-    0 a 4294967294 9999 yes
-    0 a 4294967295 0 no
-    0 a 1 10000 no
-    1 a 2 0 yes
-    1 a1 2 0 no
-    1 a 1 0 no
-    2 a1 3 0 no
-    2 a 1 0 no
-    2 a2 3 0 no
-    2 a 2 0 no
-    1023 a 1024 0 yes
-    1024 a 1025 0 no";
+/// the last one's name, user number and sequence; whether a setup may have them.
+const ACCOUNTS: &[(u32, &str, u32, u16, bool)] = &[
+    (0, "a", 1, 0, true),
+    (0, "a", 0, 0, false),
+    (0, "a", 4_294_967_294, 9_999, true),
+    (0, "a", 4_294_967_295, 0, false),
+    (0, "a", 1, 10_000, false),
+    (1, "a", 2, 0, true),
+    (1, "a1", 2, 0, false),
+    (1, "a", 1, 0, false),
+    (2, "a1", 3, 0, false),
+    (2, "a", 1, 0, false),
+    (2, "a2", 3, 0, false),
+    (2, "a", 2, 0, false),
+    (1_023, "a", 1_024, 0, true),
+    (1_024, "a", 1_025, 0, false),
+];
 
 /// How many grants stand before the last (`f1`, `f2` and on, of mode 1); the last one's name and
-/// mode.
-const GRANTS: &str = "
-    0 f 0 no
-    0 f 1 yes
-    0 f 2 yes
-    0 f 3 yes
-    0 f 4 no
-    1 f1 2 no
-    2 f1 1 no
-    2 f2 1 no
-    63 f 1 yes
-    64 f 1 no";
-
-/// Whether a line ends with `yes`.
-fn wanted(words: &mut SplitWhitespace<'_>) -> Result<bool, Fail> {
-    Ok(word(words)? == "yes")
-}
+/// mode; whether an account may have them.
+const GRANTS: &[(u32, &str, u8, bool)] = &[
+    (0, "f", 0, false),
+    (0, "f", 1, true),
+    (0, "f", 2, true),
+    (0, "f", 3, true),
+    (0, "f", 4, false),
+    (1, "f1", 2, false),
+    (2, "f1", 1, false),
+    (2, "f2", 1, false),
+    (63, "f", 1, true),
+    (64, "f", 1, false),
+];
 
 /// Whether a setup may have these parts.
 fn may_be(parts: SetupParts) -> bool {
@@ -117,18 +118,12 @@ fn may_admit(alloc: Global, accounts: Vec<Account>) -> Result<bool, Fail> {
 
 #[test]
 fn counts(rt: HostRuntime) -> Result<(), Fail> {
-    for line in COUNTS.lines() {
-        let mut words = line.split_whitespace();
-        if line.is_empty() {
-            continue;
-        }
-        let workers = small(&mut words)?;
-        let connections = small(&mut words)?;
-        let requests = small(&mut words)?;
-        let tries = small(&mut words)?;
-        let hold = small(&mut words)?;
-        let may = may_count(rt.alloc(), [workers, connections, requests, tries, hold])?;
-        assert!(rt; may == wanted(&mut words)?, "{line}");
+    for (counts, may) in COUNTS {
+        assert!(rt;
+            may_count(rt.alloc(), *counts)? == *may,
+            "workers {}",
+            counts[0]
+        );
     }
     Ok(())
 }
@@ -142,23 +137,25 @@ fn letters(alloc: Global, count: u32) -> Result<String, AllocError> {
     Ok(text)
 }
 
+/// Whether a setup may have a text of so many letters at this place.
+fn may_say_at(alloc: Global, place: usize, count: u32) -> Result<bool, Fail> {
+    let text = letters(alloc, count)?;
+    let mut texts = PLAIN_TEXTS;
+    if place < 5 {
+        texts[place] = text.as_str();
+    }
+    may_say(alloc, texts)
+}
+
 #[test]
 fn texts(rt: HostRuntime) -> Result<(), Fail> {
-    let alloc = rt.alloc();
-    for line in TEXTS.lines() {
-        let mut words = line.split_whitespace();
-        if line.is_empty() {
-            continue;
-        }
-        let place = small(&mut words)? as usize;
-        let text = letters(alloc, small(&mut words)?)?;
-        let mut texts = PLAIN_TEXTS;
-        if place < 5 {
-            texts[place] = text.as_str();
-        }
-        assert!(rt; may_say(alloc, texts)? == wanted(&mut words)?, "{line}");
+    for (place, count, may) in TEXTS {
+        assert!(rt;
+            may_say_at(rt.alloc(), *place, *count)? == *may,
+            "{count} at {place}"
+        );
     }
-    assert!(rt; !may_say(alloc, ["a", "a", "a", "a", "OTP\tlogin"])?);
+    assert!(rt; !may_say(rt.alloc(), ["a", "a", "a", "a", "OTP\tlogin"])?);
     Ok(())
 }
 
@@ -173,21 +170,20 @@ fn row_of_numbers(alloc: Global, first: u32, more: u32, last: u32) -> Result<Vec
     Ok(numbers)
 }
 
+/// Whether a setup may have these numbers.
+fn may_have_row(alloc: Global, first: u32, more: u32, last: u32) -> Result<bool, Fail> {
+    may_inform(alloc, row_of_numbers(alloc, first, more, last)?)
+}
+
 #[test]
 fn numbers(rt: HostRuntime) -> Result<(), Fail> {
-    let alloc = rt.alloc();
-    for line in NUMBERS.lines() {
-        let mut words = line.split_whitespace();
-        if line.is_empty() {
-            continue;
-        }
-        let first = small(&mut words)?;
-        let more = small(&mut words)?;
-        let last = small(&mut words)?;
-        let may = may_inform(alloc, row_of_numbers(alloc, first, more, last)?)?;
-        assert!(rt; may == wanted(&mut words)?, "{line}");
+    for (first, more, last, may) in NUMBERS {
+        assert!(rt;
+            may_have_row(rt.alloc(), *first, *more, *last)? == *may,
+            "{more} after {first}"
+        );
     }
-    assert!(rt; may_inform(alloc, Vec::new(alloc))?);
+    assert!(rt; may_inform(rt.alloc(), Vec::new(rt.alloc()))?);
     Ok(())
 }
 
@@ -204,23 +200,25 @@ fn row_of_accounts(alloc: Global, before: u32, last: Account) -> Result<Vec<Acco
     Ok(accounts)
 }
 
+/// Whether a setup may have so many accounts and one more.
+fn may_admit_after(
+    alloc: Global,
+    before: u32,
+    user: &str,
+    uid: u32,
+    sequence: u16,
+) -> Result<bool, Fail> {
+    let last = account(name(user)?, uid, sequence, Grants::of(Vec::new(alloc)))?;
+    may_admit(alloc, row_of_accounts(alloc, before, last)?)
+}
+
 #[test]
 fn accounts(rt: HostRuntime) -> Result<(), Fail> {
-    let alloc = rt.alloc();
-    for line in ACCOUNTS.lines() {
-        let mut words = line.split_whitespace();
-        if line.is_empty() {
-            continue;
-        }
-        let before = small(&mut words)?;
-        let user = name(word(&mut words)?)?;
-        let uid = small(&mut words)?;
-        let sequence = u16::try_from(number(&mut words)?)?;
-        let last = account(user, uid, sequence, Grants::of(Vec::new(alloc)))?;
-        let may = may_admit(alloc, row_of_accounts(alloc, before, last)?)?;
-        assert!(rt; may == wanted(&mut words)?, "{line}");
+    for (before, user, uid, sequence, may) in ACCOUNTS {
+        let admitted = may_admit_after(rt.alloc(), *before, user, *uid, *sequence)?;
+        assert!(rt; admitted == *may, "{user} {uid} {sequence} after {before}");
     }
-    assert!(rt; may_admit(alloc, Vec::new(alloc))?);
+    assert!(rt; may_admit(rt.alloc(), Vec::new(rt.alloc()))?);
     Ok(())
 }
 
@@ -243,20 +241,18 @@ fn may_grant(alloc: Global, grants: Vec<Grant>) -> Result<bool, Fail> {
     may_admit(alloc, accounts)
 }
 
+/// Whether an account may have so many grants and one more.
+fn may_grant_after(alloc: Global, before: u32, last: &str, mode: u8) -> Result<bool, Fail> {
+    let name = label(last)?;
+    may_grant(alloc, row_of_grants(alloc, before, Grant { name, mode })?)
+}
+
 #[test]
 fn grants(rt: HostRuntime) -> Result<(), Fail> {
-    let alloc = rt.alloc();
-    for line in GRANTS.lines() {
-        let mut words = line.split_whitespace();
-        if line.is_empty() {
-            continue;
-        }
-        let before = small(&mut words)?;
-        let name = label(word(&mut words)?)?;
-        let mode = tiny(&mut words)?;
-        let may = may_grant(alloc, row_of_grants(alloc, before, Grant { name, mode })?)?;
-        assert!(rt; may == wanted(&mut words)?, "{line}");
+    for (before, last, mode, may) in GRANTS {
+        let granted = may_grant_after(rt.alloc(), *before, last, *mode)?;
+        assert!(rt; granted == *may, "{last} {mode} after {before}");
     }
-    assert!(rt; may_grant(alloc, Vec::new(alloc))?);
+    assert!(rt; may_grant(rt.alloc(), Vec::new(rt.alloc()))?);
     Ok(())
 }
