@@ -17,14 +17,14 @@ fn sink_of(alloc: Global, fails: &[u32]) -> Result<MemSink, AllocError> {
     MemSink::new(alloc, &failing)
 }
 
-/// An empty book over a setup, with such a sink.
-fn book_of(alloc: Global, setup: &Setup, fails: &[u32]) -> Result<Book<MemSink>, Fail> {
+/// What comes of the making of a book.
+type Made = Result<Book<MemSink>, (Core, MemSink, AllocError)>;
+
+/// The making of an empty book over a setup, with such a sink.
+fn made_of(alloc: Global, setup: &Setup, fails: &[u32]) -> Result<Made, AllocError> {
     let log = sink_of(alloc, fails)?;
     let core = Core::new(alloc, setup, setup.events_max() as u32)?;
-    match Book::new(alloc, core, log) {
-        Ok(book) => Ok(book),
-        Err(_) => Err(Fail::from("memory")),
-    }
+    Ok(Book::new(alloc, core, log))
 }
 
 /// Makes a call of a worker, if that worker may make one more.
@@ -39,34 +39,38 @@ fn enter(book: &mut Book<MemSink>, step: &Step) -> bool {
     true
 }
 
-/// A book that made these calls, from the first on.
-fn book_after(
-    alloc: Global,
-    setup: &Setup,
-    fails: &[u32],
-    steps: &[Step],
-) -> Result<Book<MemSink>, Fail> {
-    let mut book = book_of(alloc, setup, fails)?;
+/// Makes these calls, from the first on, if all may be made.
+fn enter_all(book: &mut Book<MemSink>, steps: &[Step]) -> bool {
     for step in steps {
-        if !enter(&mut book, step) {
-            return Err(Fail::from("a call that may be made"));
+        if !enter(book, step) {
+            return false;
         }
     }
-    Ok(book)
+    true
 }
 
-/// Whether the log holds just this, and the workers' sessions are these in the core and in the last events.
-fn ends_so(book: Book<MemSink>, text: &[u8], lost: usize, sessions: &[u32]) -> bool {
-    let (core, journal, log) = book.parts();
-    let count = journal
-        .iter()
-        .filter(|event| event.decision.is_lost())
-        .count();
+/// Whether a core has these workers' sessions.
+fn has_sessions(core: &Core, sessions: &[u32]) -> bool {
     let mut same = true;
     for worker in 0..core.ledger().setup().workers() {
         same &= sessions.get(worker as usize) == Some(&core.session(worker));
     }
-    same && count == lost && log.held() == text
+    same
+}
+
+/// Whether so many decisions are lost.
+fn has_lost(journal: &[Event], lost: usize) -> bool {
+    let count = journal
+        .iter()
+        .filter(|event| event.decision.is_lost())
+        .count();
+    count == lost
+}
+
+/// Whether the log holds just this, and the workers' sessions are these in the core and in the last events.
+fn are_left(parts: &(Core, Vec<Event>, MemSink), row: &Row<'_>) -> bool {
+    let (core, journal, log) = parts;
+    has_sessions(core, row.sessions) && has_lost(journal, row.lost) && log.held() == row.text
 }
 
 fn step(worker: u32, ask: Ask) -> Step {
@@ -82,13 +86,29 @@ fn write() -> Ask {
     }
 }
 
-/// A setup with two workers and no accounts.
-fn two_workers(alloc: Global) -> Result<Setup, Fail> {
-    let parts = SetupParts {
-        socket: Text::of(String::from_str(alloc, "otplogd.sock")?),
-        launcher: Text::of(String::from_str(alloc, "otplogd")?),
-        vault: Text::of(String::from_str(alloc, "vault")?),
-        words: Text::of(String::from_str(alloc, "words")?),
+/// A text.
+fn text(alloc: Global, text: &str) -> Result<Text, AllocError> {
+    Ok(Text::of(String::from_str(alloc, text)?))
+}
+
+/// Socket, launcher, vault and words of a setup.
+fn texts_of(alloc: Global) -> Result<(Text, Text, Text, Text), AllocError> {
+    Ok((
+        text(alloc, "otplogd.sock")?,
+        text(alloc, "otplogd")?,
+        text(alloc, "vault")?,
+        text(alloc, "words")?,
+    ))
+}
+
+/// The parts of a setup with two workers and no accounts.
+fn two_workers_parts(alloc: Global) -> Result<SetupParts, AllocError> {
+    let (socket, launcher, vault, words) = texts_of(alloc)?;
+    Ok(SetupParts {
+        socket,
+        launcher,
+        vault,
+        words,
         banner: Text::of(String::new(alloc)),
         salt: policy_model::plain_salt(),
         frames: Width::Narrow,
@@ -99,11 +119,12 @@ fn two_workers(alloc: Global) -> Result<Setup, Fail> {
         hold: 30_000,
         info: Numbers::of(Vec::new(alloc)),
         accounts: Accounts::of(Vec::new(alloc)),
-    };
-    match Setup::of(parts) {
-        Ok(setup) => Ok(setup),
-        Err(_) => Err(Fail::from("in range")),
-    }
+    })
+}
+
+/// A setup with two workers and no accounts.
+fn two_workers(alloc: Global) -> Result<Setup, Fail> {
+    Ok(Setup::of(two_workers_parts(alloc)?).ok().ok_or("in range")?)
 }
 
 /// Calls, the appends that fail, and what is left then: the log, how many decisions are lost, the
@@ -117,22 +138,28 @@ struct Row<'a> {
     sessions: &'a [u32],
 }
 
+/// Whether a row holds over an empty book.
+fn comes_out(mut book: Book<MemSink>, row: &Row<'_>) -> bool {
+    let are_entered = enter_all(&mut book, row.steps);
+    are_left(&book.parts(), row) && are_entered
+}
+
 /// Whether a row holds over a setup.
 fn holds(alloc: Global, setup: &Setup, row: &Row<'_>) -> Result<bool, Fail> {
-    let book = book_after(alloc, setup, row.fails, row.steps)?;
-    Ok(ends_so(book, row.text, row.lost, row.sessions))
+    match made_of(alloc, setup, row.fails)? {
+        Ok(book) => Ok(comes_out(book, row)),
+        Err(_) => Err(Fail::from("memory")),
+    }
 }
 
 /// Whether it holds over the plain setup.
 fn holds_for_one(alloc: Global, row: &Row<'_>) -> Result<bool, Fail> {
-    let setup = Setup::plain(alloc)?;
-    holds(alloc, &setup, row)
+    holds(alloc, &Setup::plain(alloc)?, row)
 }
 
 /// Whether it holds over the setup with two workers.
 fn holds_for_two(alloc: Global, row: &Row<'_>) -> Result<bool, Fail> {
-    let setup = two_workers(alloc)?;
-    holds(alloc, &setup, row)
+    holds(alloc, &two_workers(alloc)?, row)
 }
 
 #[test]
@@ -182,20 +209,30 @@ fn two_workers_have_one_journal(rt: HostRuntime) -> Result<(), Fail> {
     Ok(())
 }
 
+/// Whether a book is made that has so many events at most, or else its core and log came back as they were.
+fn is_made_or_back(made: &Made, events: u64) -> bool {
+    match made {
+        Ok(book) => (book.passes(), book.quota()) == (1, events),
+        Err((core, log, _)) => {
+            core.ledger().setup().workers() == 1 && core.session(0) == 0 && log.held().is_empty()
+        }
+    }
+}
+
 /// Whether a book over a setup is made, or else its core and log come back as they were.
-fn is_made_or_comes_back(alloc: Global, setup: &Setup) -> Result<bool, Fail> {
-    let log = MemSink::new(alloc, &[])?;
-    let core = Core::new(alloc, setup, setup.events_max() as u32)?;
-    Ok(match Book::new(alloc, core, log) {
-        Ok(book) => (book.passes(), book.quota()) == (1, setup.events_max() as u64),
-        Err((core, log, _)) => core.session(0) == 0 && log.held().is_empty(),
-    })
+fn is_made_or_comes_back(alloc: Global, setup: &Setup) -> Result<bool, AllocError> {
+    let events = setup.events_max() as u64;
+    Ok(is_made_or_back(&made_of(alloc, setup, &[])?, events))
+}
+
+/// The same over the plain setup.
+fn is_plain_made_or_back(alloc: Global) -> Result<bool, AllocError> {
+    is_made_or_comes_back(alloc, &Setup::plain(alloc)?)
 }
 
 /// Where an allocation fails, as by `rt try --test --fail-alloc N`, core and log come back.
 #[test]
 fn a_book_is_made_or_its_parts_come_back(rt: HostRuntime) -> Result<(), Fail> {
-    let setup = Setup::plain(rt.alloc())?;
-    assert!(rt; is_made_or_comes_back(rt.alloc(), &setup)?);
+    assert!(rt; is_plain_made_or_back(rt.alloc())?);
     Ok(())
 }
