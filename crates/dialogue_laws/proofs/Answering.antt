@@ -97,7 +97,7 @@ permitted_told None body = refl
 permitted_told (Some device) body = refl
 
 pub answered_on : (service : Service) (exported : List ℕ) (session : ℕ) (request : RequestValue) (step : Step)
-    → step.message ≡ Some (request_message request) → step.place.event.session ≡ session 
+    → step.message ≡ Some (request_message request) → step.place.event.session ≡ session
     → GoesOn service exported step
     → Answered service exported session request step
 unfolding reply_to
