@@ -274,7 +274,7 @@ fn any_pieces_give_the_same_frames(rt: HostRuntime) -> Result<(), Fail> {
     Ok(())
 }
 
-// Whether a reply is composed, and what stands behind it in the buffer stays.
+// Whether a reply is composed, and what stands after it in the buffer stays.
 fn composes(width: Width) -> bool {
     let mut out = [9; 20];
     compose(width, 264, 0, 1, &[0], &mut out) == Ok(17)
