@@ -8,6 +8,10 @@ pub record AuditParts : Type 0 where
   pub setup : List ℕ
   pub log : List ℕ
 
+-- the files that `audit` is given
+abbrev pub names_of : AuditParts → List (List ℕ)
+names_of parts = parts.setup ∷ parts.log ∷ []
+
 -- what the command line `audit SETUP LOG` asks for; any other asks for nothing
 abbrev pub audit_command : List (List ℕ) → Option AuditParts
 audit_command (mode ∷ setup ∷ log ∷ []) =

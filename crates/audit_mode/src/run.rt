@@ -1,10 +1,11 @@
 //! The mode.
 
-ghost use Rattle.std.specs.Prelude.{◌≡◌, ◌≤◌, Err, IfOk, IfSome, true};
-ghost use Rattle.outside.specs.Files.{SameFiles};
-ghost use Rattle.outside.specs.Told.{Goes, Rose};
+ghost use Rattle.std.specs.Prelude.{◌≡◌, ◌≤◌, ◌∷◌, [], Err, IfOk, IfSome, true};
+ghost use Rattle.outside.specs.FilesNow.{OnlyReads, files_now};
+ghost use Rattle.outside.specs.Told.{Rose};
 ghost use Rattle.audit_mode.specs.declared.error.AuditError.{AuditError};
 ghost use Rattle.audit_mode.specs.Commands.{command_parts};
+ghost use Rattle.audit_mode.specs.Words.{names_of};
 ghost use Rattle.audit_mode.specs.Outcome.{IsAnswered, IsAnswerOf, IsFileError, IsLogError, IsOutcome, answer_status};
 ghost use Rattle.audit_mode.specs.Outcome.{ends_before_line, status_of};
 
@@ -61,9 +62,8 @@ pub fn run_audit<F: Files, E: Stream>(
         (E.link ends.new) (Rose (F.read_faults files.old) (F.read_faults files.new))
         (Rose (E.faults ends.old) (E.faults ends.new)) result }
     ensures untold { ends_before_line result ≡ true → ends.new ≡ ends.old }
-    ensures kept { Goes SameFiles (F.contents files.old) (F.contents files.new) }
-    ensures read_faults { F.read_faults files.old ≤ F.read_faults files.new }
-    ensures replace_faults { F.replace_faults files.old ≤ F.replace_faults files.new }
+    ensures files { let now = files_now F.contents F.read_faults F.replace_faults F.touched in
+        OnlyReads (names_of (command_parts command.now)) (now files.old) (now files.new) }
     ensures faults { E.faults ends.old ≤ E.faults ends.new }
 {
     let answer = audit_files(alloc, command, files)?;
@@ -81,9 +81,8 @@ fn audit_files<F: Files>(
     ensures answer { IfOk result (IsAnswered (F.contents files.new) (command_parts command.now)) }
     ensures error { (error : AuditError) → result ≡ Err error → IsFileError (F.contents files.new)
         (command_parts command.now) (Rose (F.read_faults files.old) (F.read_faults files.new)) error }
-    ensures kept { Goes SameFiles (F.contents files.old) (F.contents files.new) }
-    ensures read_faults { F.read_faults files.old ≤ F.read_faults files.new }
-    ensures replace_faults { F.replace_faults files.old ≤ F.replace_faults files.new }
+    ensures files { let now = files_now F.contents F.read_faults F.replace_faults F.touched in
+        OnlyReads (names_of (command_parts command.now)) (now files.old) (now files.new) }
 {
     let setup = read_setup_file(alloc, files, command.setup)?;
     audit_log(alloc, &setup, files, command.log)
@@ -100,9 +99,8 @@ fn audit_log<F: Files>(
         IsAnswerOf setup.now (there name.now) answer)) }
     ensures error { (error : AuditError) → result ≡ Err error → IsLogError (F.contents files.new)
         name.now (Rose (F.read_faults files.old) (F.read_faults files.new)) error }
-    ensures kept { Goes SameFiles (F.contents files.old) (F.contents files.new) }
-    ensures read_faults { F.read_faults files.old ≤ F.read_faults files.new }
-    ensures replace_faults { F.replace_faults files.old ≤ F.replace_faults files.new }
+    ensures files { let now = files_now F.contents F.read_faults F.replace_faults F.touched in
+        OnlyReads (name.now ∷ []) (now files.old) (now files.new) }
 {
     let Some(bytes) = read_front(alloc, files, name, LOG_MAX)? else {
         return Err(AuditError::LogMissing);

@@ -1,8 +1,9 @@
 //! The mode.
 
-ghost use Rattle.std.specs.Prelude.{◌≡◌, ◌≤◌, IfErr, IfOk, Ok, Err, true};
-ghost use Rattle.outside.specs.Files.{SameFiles};
-ghost use Rattle.outside.specs.Told.{Goes, Rose};
+ghost use Rattle.std.specs.Prelude.{◌≡◌, ◌≤◌, ◌∷◌, [], IfErr, IfOk, Ok, Err, true};
+ghost use Rattle.outside.specs.FilesNow.{files_now};
+ghost use Rattle.outside.specs.Told.{Rose};
+ghost use Rattle.setup_reading.specs.Touching.{ReadsNamed};
 ghost use Rattle.account_file.specs.Entries.{entries_of};
 ghost use Rattle.check_mode.specs.declared.fault.CheckFault.{CheckFault};
 ghost use Rattle.check_mode.specs.Findings.{told_by};
@@ -29,9 +30,8 @@ pub fn run_check<F: Files, I: Information, E: Stream>(
         (Rose (F.read_faults files.old) (F.read_faults files.new))
         (Rose (E.faults ends.old) (E.faults ends.new)) result }
     ensures untold { ends_before_line result ≡ true → ends.new ≡ ends.old }
-    ensures kept { Goes SameFiles (F.contents files.old) (F.contents files.new) }
-    ensures read_faults { F.read_faults files.old ≤ F.read_faults files.new }
-    ensures replace_faults { F.replace_faults files.old ≤ F.replace_faults files.new }
+    ensures files { let now = files_now F.contents F.read_faults F.replace_faults F.touched in
+        ReadsNamed (setup.now ∷ []) (setup.now ∷ []) (now files.old) (now files.new) }
     ensures faults { E.faults ends.old ≤ E.faults ends.new }
 {
     let finding = find(alloc, setup, information, files)?;
@@ -50,9 +50,8 @@ fn find<F: Files, I: Information>(
     ensures finding { IfOk result (IsFinding (I.forms information.now) (F.contents files.new) name.now) }
     ensures fault { (fault : CheckFault) → result ≡ Err fault
         → IsFileFault (Rose (F.read_faults files.old) (F.read_faults files.new)) fault }
-    ensures kept { Goes SameFiles (F.contents files.old) (F.contents files.new) }
-    ensures read_faults { F.read_faults files.old ≤ F.read_faults files.new }
-    ensures replace_faults { F.replace_faults files.old ≤ F.replace_faults files.new }
+    ensures files { let now = files_now F.contents F.read_faults F.replace_faults F.touched in
+        ReadsNamed (name.now ∷ []) (name.now ∷ []) (now files.old) (now files.new) }
 {
     told_by(read_service(alloc, files, name, information))
 }

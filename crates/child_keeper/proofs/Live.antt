@@ -8,7 +8,7 @@ use Rattle.outside.specs.declared.act.Failed.{Failed}
 use Rattle.outside.specs.declared.act.Role.{Role}
 use Rattle.outside.specs.declared.act.Talk.{Talk}
 use Rattle.outside.specs.Link.{Link}
-use Rattle.outside.specs.Scene.{Did, GivenBack, Played, Scene}
+use Rattle.outside.specs.Scene.{Did, GivenBack, Played, Scene, talk_by}
 use Rattle.outside.specs.Told.{Goes}
 use Rattle.outside.proofs.Told.{Goes-then}
 use Rattle.child_keeper.specs.Starts.{ChangesChild}
@@ -34,7 +34,7 @@ pub lives_given_back : (role : Role) (link : Option Link) (before after : Option
 lives_given_back role None before None step = tt
 lives_given_back role None before (Some after) step = absurd (let told = step in cc)
 lives_given_back role (Some link) before after step =
-    goes 1 0 (Finish role) (record { role = role; taken = link.taken; sent = link.sent } ∷ []) (link.left ∷ []) refl before after step
+    goes 1 0 (Finish role) (talk_by role link ∷ []) (link.left ∷ []) refl before after step
 
 lives_then : (first then last : ℕ) (a b c : Option Scene) → Lives first then a b → Lives then last b c → Lives first last a c
 lives_then first then last =

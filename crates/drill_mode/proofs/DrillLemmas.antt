@@ -117,7 +117,7 @@ module _ (n : ℕ) (service : Service) (before after : List QuietPost) (is : IsD
         }
 
 -- the journal of a drill whose posts told it to the end
-whole_drill : (n : ℕ) (service : Service) (failed : Bool) (log : List ℕ) (journal : List Event) (before after : List QuietPost) → IsDrillService n service → length before ≡ 4 → AreNewPosts n before → PlansStay scene_of before after → list_all (λ post. tells_whole (scene_of post)) after ≡ true → RunPromises service failed journal after scene_of faults_of (Some []) (Some log) 0 0 → IsDrilled n journal
+whole_drill : (n : ℕ) (service : Service) (failed : Bool) (log : List ℕ) (journal : List Event) (before after : List QuietPost) → IsDrillService n service → length before ≡ 4 → AreNewPosts n before → PlansStay scene_of before after → list_all (λ post. tells_whole (scene_of post)) after ≡ true → RunPromises service failed journal after scene_of faults_of (record { bytes = Some []; lengths = None }) (record { bytes = Some log; lengths = None }) 0 0 → IsDrilled n journal
 whole_drill n service failed log journal before after is count new stay whole promises = record {
   setup = service.setup;
   setup_is = is.setup;
@@ -163,6 +163,6 @@ whole_drill n service failed log journal before after is count new stay whole pr
       }
 
 -- the same where the log is told
-pub drilled : (n : ℕ) (service : Service) (failed : Bool) (log : Option (List ℕ)) (journal : List Event) (before after : List QuietPost) → IsDrillService n service → length before ≡ 4 → AreNewPosts n before → PlansStay scene_of before after → list_all (λ post. tells_whole (scene_of post)) after ≡ true → IsSome log → RunPromises service failed journal after scene_of faults_of (Some []) log 0 0 → IsDrilled n journal
+pub drilled : (n : ℕ) (service : Service) (failed : Bool) (log : Option (List ℕ)) (journal : List Event) (before after : List QuietPost) → IsDrillService n service → length before ≡ 4 → AreNewPosts n before → PlansStay scene_of before after → list_all (λ post. tells_whole (scene_of post)) after ≡ true → IsSome log → RunPromises service failed journal after scene_of faults_of (record { bytes = Some []; lengths = None }) (record { bytes = log; lengths = None }) 0 0 → IsDrilled n journal
 drilled n service failed None journal before after is count new stay whole some promises = absurd cc
 drilled n service failed (Some log) journal before after is count new stay whole some promises = whole_drill n service failed log journal before after is count new stay whole promises

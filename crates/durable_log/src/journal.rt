@@ -1,6 +1,6 @@
 //! The log.
 
-ghost use Rattle.std.specs.Prelude.{◌≡◌, ◌↔◌, ◌≤◌, [], drop, take, IfSome, IsTrue, OnErr, OnOk, false, true};
+ghost use Rattle.std.specs.Prelude.{◌≡◌, ◌↔◌, ◌≤◌, [], drop, take, IfSome, IsTrue, None, OnErr, OnOk, false, true};
 ghost use Rattle.outside.specs.Faults.{count_after};
 ghost use Rattle.outside.specs.Told.{Gains, GainsPart};
 ghost use Rattle.durable_log.specs.Appending.{HasStopped, IsDone, KeepsAll, KeepsSome};
@@ -77,6 +77,8 @@ fn first_piece(bytes: &[u8]) -> (&[u8], &[u8])
 
 impl<D: Disk> Sink for JournalLog<D> {
     ghost held = { held_of };
+
+    ghost lengths = { λ _. None };
 
     ghost faults = { faults_of };
 

@@ -1,10 +1,15 @@
-use Rattle.std.proofs.Common.{◌≡◌, ℕ, ◌≤◌, List, [], ◌++◌, length, take, drop, Option, Some, None, IfSome, sym, ap, ◌∙◌, arith, length-append}
+use Rattle.std.proofs.Common.{◌≡◌, ℕ, ◌≤◌, List, [], ◌∷◌, ◌++◌, length, take, drop, Option, Some, None, IfSome, Result, sym, ap, subst, ◌∙◌, arith, length-append}
+use Rattle.std.specs.Prelude.{OnErr, OnOk}
 use Rattle.std.proofs.Math.Seq.{take-add}
 use Rattle.std.proofs.lemmas.List.{take-append-le}
 use Rattle.std.proofs.lemmas.Grind.{common_steps}
 use Rattle.outside.specs.Files.{Contents, SameFiles, bytes_read, piece_of}
 use Rattle.outside.specs.Told.{Goes}
-use Rattle.outside.proofs.Told.{Goes-then}
+use Rattle.outside.specs.FilesNow.{FilesNow, OnlyReads}
+use Rattle.outside.specs.Touched.{HasRead, MayHaveRead, TouchesOnly}
+use Rattle.outside.specs.declared.act.Failed.{Failed}
+use Rattle.outside.proofs.OnlyReading.{reads_then}
+use Rattle.outside.proofs.Touching.{Touches-read}
 
 -- these are the first bytes of a file; of no file there are none
 abbrev pub IsFront : List ℕ → Option (List ℕ) → Type 0
@@ -14,11 +19,6 @@ IsFront front (Some bytes) = front ≡ take (length front) bytes
 -- the same of a file among those that are told
 abbrev pub HasFront : Option Contents → List ℕ → List ℕ → Type 0
 HasFront contents name front = IfSome contents (λ files. IsFront front (files name))
-
--- files that stayed as they were, twice
-pub SameFiles-then : (a b c : Option Contents) → Goes SameFiles a b → Goes SameFiles b c → Goes SameFiles a c
-SameFiles-then =
-    Goes-then SameFiles SameFiles SameFiles (λ a b c first second. record { same = λ name. second.same name ∙ first.same name })
 
 -- as many bytes as a part has are that part
 take-own_length : (room : ℕ) (xs : List ℕ) → take (length (take room xs)) xs ≡ take room xs
@@ -41,3 +41,13 @@ HasFront-more before None word name same front buffer rest found n offset room g
 HasFront-more None (Some files) word name same front buffer rest found n offset room goes has is at within read = absurd goes
 HasFront-more (Some before) (Some files) word name same front buffer rest found n offset room goes has is at within read =
     rw (take-append-le n buffer rest within) (IsFront-more (files name) front (take n buffer) room (rw (goes.same name) has) (ap (λ f. bytes_read f buffer) (sym is) ∙ read ∙ ap (λ w. piece_of (files w) offset room) same ∙ ap (λ k. piece_of (files name) k room) at))
+
+-- one more reading of a file of which only that was read
+pub Reads-more : {X : Type 0} (result : Result X Failed) (word name : List ℕ) → word ≡ name → (a b c : FilesNow) → OnlyReads (name ∷ []) a b → Goes SameFiles b.contents c.contents → b.read_faults ≤ c.read_faults → c.replace_faults ≡ b.replace_faults → OnOk result (Goes (HasRead word) b.touched c.touched) → OnErr result (Goes (MayHaveRead word) b.touched c.touched) → OnlyReads (name ∷ []) a c
+Reads-more result word name same a b c before kept counts others ok err =
+    reads_then (name ∷ []) a b c before (record {
+      kept = kept;
+      read_faults = counts;
+      replace_faults = omega (arith, others);
+      touched = subst (λ w. Goes (TouchesOnly (w ∷ []) []) b.touched c.touched) same (Touches-read result word b.touched c.touched ok err);
+    })

@@ -1,8 +1,8 @@
 //! The first bytes of a file.
 
-ghost use Rattle.std.specs.Prelude.{◌≡◌, ◌≤◌, IfOk, IfSome, option_map, take, vec_len};
-ghost use Rattle.outside.specs.Files.{SameFiles};
-ghost use Rattle.outside.specs.Told.{Goes, Rose};
+ghost use Rattle.std.specs.Prelude.{◌≡◌, ◌≤◌, ◌∷◌, [], IfOk, IfSome, option_map, take, vec_len};
+ghost use Rattle.outside.specs.FilesNow.{OnlyReads, files_now};
+ghost use Rattle.outside.specs.Told.{Rose};
 ghost use Rattle.file_front.specs.declared.front.FrontError.TheVariants as errors;
 
 use outside::{Failed, Files, Word};
@@ -49,11 +49,10 @@ pub fn read_front<F: Files>(
     ensures front { IfOk result (λ found. IfSome (F.contents files.new) (λ there.
         option_map (λ bytes. bytes.items) found ≡ option_map (take limit) (there name.now))) }
     ensures within { IfOk result (λ found. IfSome found (λ bytes. vec_len bytes ≤ limit)) }
-    ensures kept { Goes SameFiles (F.contents files.old) (F.contents files.new) }
     ensures failed { result ≡ Err errors.Failed → Rose (F.read_faults files.old)
         (F.read_faults files.new) }
-    ensures read_faults { F.read_faults files.old ≤ F.read_faults files.new }
-    ensures replace_faults { F.replace_faults files.old ≤ F.replace_faults files.new }
+    ensures files { let now = files_now F.contents F.read_faults F.replace_faults F.touched in
+        OnlyReads (name.now ∷ []) (now files.old) (now files.new) }
 {
     let word = Word::of(alloc, name.as_bytes())?;
     let mut bytes = Vec::new(alloc);

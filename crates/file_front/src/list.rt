@@ -1,8 +1,8 @@
 //! The word list of a file.
 
-ghost use Rattle.std.specs.Prelude.{◌≡◌, ◌≤◌, Ok, IfOk};
-ghost use Rattle.outside.specs.Files.{SameFiles};
-ghost use Rattle.outside.specs.Told.{Goes, Rose};
+ghost use Rattle.std.specs.Prelude.{◌≡◌, ◌∷◌, [], Ok, IfOk};
+ghost use Rattle.outside.specs.FilesNow.{OnlyReads, files_now};
+ghost use Rattle.outside.specs.Told.{Rose};
 ghost use Rattle.otp_words.specs.declared.fault.DictError.{DictError};
 ghost use Rattle.file_front.specs.declared.list.ListError.{ListError};
 ghost use Rattle.file_front.specs.Lists.{IsListFault, IsJudgedSo, error_of_front, error_of_list};
@@ -61,9 +61,8 @@ pub fn read_list<F: Files>(
     ensures words { IfOk result (λ words. IsJudgedSo (F.contents files.new) name.now (Ok words)) }
     ensures fault { (error : ListError) → result ≡ Err error → IsListFault (F.contents files.new)
         name.now (Rose (F.read_faults files.old) (F.read_faults files.new)) error }
-    ensures kept { Goes SameFiles (F.contents files.old) (F.contents files.new) }
-    ensures read_faults { F.read_faults files.old ≤ F.read_faults files.new }
-    ensures replace_faults { F.replace_faults files.old ≤ F.replace_faults files.new }
+    ensures files { let now = files_now F.contents F.read_faults F.replace_faults F.touched in
+        OnlyReads (name.now ∷ []) (now files.old) (now files.new) }
 {
     let Some(text) = read_front(alloc, files, name, LIST_MAX)? else {
         return Err(ListError::Missing);

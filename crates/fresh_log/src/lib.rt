@@ -2,10 +2,10 @@
 //! `specs/Fresh.antt`. The modes `serve` and `recover` stand above.
 #![tactic(auto)]
 
-ghost use Rattle.std.specs.Prelude.{◌≡◌, ◌↔◌, ◌≤◌, [], IfOk, IfSome, IsTrue, OnErr};
+ghost use Rattle.std.specs.Prelude.{◌≡◌, ◌↔◌, ◌∷◌, [], IfOk, IfSome, IsTrue, OnErr};
 ghost use Rattle.durable_log.specs.Journal.{image_of};
-ghost use Rattle.outside.specs.Files.{SameFiles};
-ghost use Rattle.outside.specs.Told.{Goes, Rose};
+ghost use Rattle.outside.specs.FilesNow.{OnlyReads, files_now};
+ghost use Rattle.outside.specs.Told.{Rose};
 ghost use Rattle.fresh_log.specs.Fresh.{IsFresh};
 
 use outside::{Failed, Files, Word};
@@ -29,9 +29,8 @@ pub fn is_fresh<F: Files>(files: &mut F, name: &Word) -> Result<bool, Failed>
     ensures fresh { IfOk result (λ answer. IfSome (F.contents files.new) (λ there.
         IsTrue answer ↔ IsFresh (there name.now))) }
     ensures failed { OnErr result (Rose (F.read_faults files.old) (F.read_faults files.new)) }
-    ensures kept { Goes SameFiles (F.contents files.old) (F.contents files.new) }
-    ensures read_faults { F.read_faults files.old ≤ F.read_faults files.new }
-    ensures replace_faults { F.replace_faults files.old ≤ F.replace_faults files.new }
+    ensures files { let now = files_now F.contents F.read_faults F.replace_faults F.touched in
+        OnlyReads (name.now ∷ []) (now files.old) (now files.new) }
 {
     let mut front = [0; FRONT];
     let found = files.read(name, 0, &mut front)?;

@@ -1,6 +1,6 @@
 //! The log of lines.
 
-ghost use Rattle.std.specs.Prelude.{◌≡◌, ◌↔◌, ◌≤◌, [], false, true, IfSome, IsTrue, OnErr, OnOk};
+ghost use Rattle.std.specs.Prelude.{◌≡◌, ◌↔◌, ◌≤◌, [], false, true, IfSome, IsTrue, None, OnErr, OnOk};
 ghost use Rattle.outside.specs.Faults.{count_after};
 ghost use Rattle.outside.specs.Told.{Gains, GainsPart};
 ghost use Rattle.durable_log.specs.Appending.{IsDone};
@@ -78,6 +78,8 @@ impl<D: Disk> LineLog<D> {
 
 impl<D: Disk> Sink for LineLog<D> {
     ghost held = { given_of };
+
+    ghost lengths = { λ _. None };
 
     ghost faults = { line_faults };
 

@@ -4,7 +4,7 @@ ghost use Rattle.outside.specs.Scene.{IsFresh};
 
 use outside::{
     Accepted, Act, Bytes, CallKind, Fail, Failed, Files, MemConn, MemFiles, MemPost, MemSink,
-    MemSite, MemStream, Place, Post, Role, Script, Sink, Site, Stream, Talk, Word,
+    MemSite, MemStream, Place, Post, Receiving, Role, Script, Sink, Site, Stream, Talk, Word,
 };
 use request_catalogue::Label;
 use std::alloc::{AllocError, Global};
@@ -236,6 +236,43 @@ fn is_the_talk(talks: &[Talk]) -> bool {
         }
         _ => false,
     }
+}
+
+/// Receives, sends and receives once more from the one child of a connection, through the bound.
+fn talk_twice<P: Post>(post: &mut P) -> Result<(), Failed> {
+    let Some(conn) = post.accept()? else {
+        return Ok(());
+    };
+    if let Ok(mut child) = post.start(&PRE) {
+        let mut buf = [0; 8];
+        let _ = child.recv(&mut buf);
+        let _ = child.send(b"ok");
+        let _ = child.recv(&mut buf);
+        post.finish(child);
+    }
+    post.hang_up(conn);
+    Ok(())
+}
+
+/// Whether these receivings were asked of the one child, by how many bytes it had taken and sent before.
+fn are_asked(talks: &[Talk], want: &[Receiving]) -> bool {
+    match talks {
+        [talk] => match &talk.receivings {
+            Some(receivings) => receivings.as_slice() == want,
+            None => false,
+        },
+        _ => false,
+    }
+}
+
+#[test]
+fn a_talk_tells_when_each_receiving_was_asked(rt: HostRuntime) -> Result<(), Fault> {
+    let mut post = post(rt.alloc(), 9, &[])?;
+    let first = Receiving { taken: 0, sent: 0 };
+    let second = Receiving { taken: 3, sent: 2 };
+    let is_asked = talk_twice(&mut post).is_ok() && are_asked(post.talks(), &[first, second]);
+    assert!(rt; is_asked);
+    Ok(())
 }
 
 /// Whether the post serves, fails, serves and has no more.

@@ -1,5 +1,5 @@
 -- A book goes on by one call.
-use Rattle.std.proofs.Common.{◌≡◌, ℕ, ◌+◌, ◌<◌, ◌≤◌, Bool, true, false, List, [], ◌∷◌, ◌++◌, length, take, Option, refl, sym, ap, subst, ◌∙◌, arith}
+use Rattle.std.proofs.Common.{◌≡◌, ℕ, ◌+◌, ◌<◌, ◌≤◌, Bool, true, false, List, [], ◌∷◌, ◌++◌, length, take, refl, sym, ap, subst, ◌∙◌, arith}
 use Rattle.std.specs.Prelude.{Result, Ok, Err, OnErr, OnOk, is_err}
 use Rattle.std.proofs.lemmas.Bool.{false≢true}
 use Rattle.std.proofs.Math.Seq.{take-append_seam}
@@ -19,6 +19,7 @@ use Rattle.decision_log.specs.Typed.{IsTyped}
 use Rattle.session_core.specs.Parts.{CoreParts, setup_of}
 use Rattle.session_core.specs.Standing.{HasRoom, KeepsSetup, Stands}
 use Rattle.turn_cell.specs.Facts.{replies_of}
+use Rattle.monitor_book.specs.declared.opened.Held.{Held}
 use Rattle.monitor_book.specs.Entering.{Settles}
 use Rattle.monitor_book.specs.Kept.{BookParts, IsBook, IsLogged, book_parts, worker_of}
 use Rattle.monitor_book.proofs.HistoryLemmas.{IsEntered, core_room, entered, history_push, room_left}
@@ -45,26 +46,32 @@ pub settle_room : (book : BookParts) (worker : ℕ) (opening : Bool) → IsBook 
 settle_room book worker opening kept asked = core_room book.core book.journal book.lost opening kept.history (event_room book worker kept asked)
 
 -- nothing is written after a lost event
-pub writes_nothing : (before : Bool) (line : List ℕ) (held : Option (List ℕ)) (faults : ℕ) → before ≡ true → WritesLine before before line held held faults faults
+pub writes_nothing : (before : Bool) (line : List ℕ) (held : Held) (faults : ℕ) → before ≡ true → WritesLine before before line held held faults faults
 writes_nothing before line held faults lost = record {
   again = λ h. (lost, refl, refl);
   written = λ h. absurd (false≢true (sym h ∙ lost));
+  appended = λ h. absurd (false≢true (sym h ∙ lost));
   cut = λ h. absurd (false≢true (sym h ∙ lost));
+  tried = λ h. absurd (false≢true (sym h ∙ lost));
   counted = omega arith;
 }
 
 -- an append
-pub writes_line : (outcome : Result (Unit {0}) Failed) (line : List ℕ) (held_old held_new : Option (List ℕ)) (faults_old faults_new : ℕ) → OnOk outcome (Gains held_old line held_new) → OnErr outcome (GainsPart held_old line held_new) → faults_new ≡ count_after outcome faults_old → faults_old ≤ faults_new → WritesLine false (is_err outcome) line held_old held_new faults_old faults_new
-writes_line (Ok x) line held_old held_new faults_old faults_new ok part counts kept = record {
+pub writes_line : (outcome : Result (Unit {0}) Failed) (line : List ℕ) (held_old held_new : Held) (faults_old faults_new : ℕ) → OnOk outcome (Gains held_old.bytes line held_new.bytes) → OnErr outcome (GainsPart held_old.bytes line held_new.bytes) → OnOk outcome (Gains held_old.lengths (length line ∷ []) held_new.lengths) → OnErr outcome ((n : ℕ) × Gains held_old.lengths (n ∷ []) held_new.lengths) → faults_new ≡ count_after outcome faults_old → faults_old ≤ faults_new → WritesLine false (is_err outcome) line held_old held_new faults_old faults_new
+writes_line (Ok x) line held_old held_new faults_old faults_new ok part length_ok length_err counts kept = record {
   again = λ h. absurd (false≢true h);
   written = λ h. (ok, counts);
+  appended = λ h. length_ok;
   cut = λ h lost. absurd (false≢true lost);
+  tried = λ h lost. absurd (false≢true lost);
   counted = kept;
 }
-writes_line (Err e) line held_old held_new faults_old faults_new ok part counts kept = record {
+writes_line (Err e) line held_old held_new faults_old faults_new ok part length_ok length_err counts kept = record {
   again = λ h. absurd (false≢true h);
   written = λ h. absurd (false≢true (sym h));
+  appended = λ h. absurd (false≢true (sym h));
   cut = λ h lost. (part, record { rose = omega (arith, counts) });
+  tried = λ h lost. length_err;
   counted = kept;
 }
 
@@ -87,7 +94,7 @@ line_is book worker ask event number len out rest kept none is counted long writ
     front ∙ ap (λ n. line_of n event) counted ∙ ap (line_of (length book.journal + 1)) (event_is book worker ask event kept none is)
 
 -- the book after the event
-pub book_push : (book : BookParts) (new : CoreParts) (lost : Bool) (worker : ℕ) (ask : Ask) (e : Event) (held : Option (List ℕ)) (faults : ℕ) → IsBook book → IsAsked book.core book.journal worker → is_proper ask ≡ true → (book.lost ≡ false → IsTyped (next_event (setup_of book.core) book.journal worker ask)) → WritesLine book.lost lost (line_of (length book.journal + 1) (next_event (setup_of book.core) book.journal worker ask)) book.held held book.faults faults → KeepsSetup book.core new → Settles lost worker ask book.core new e → IsBook (book_parts new (book.journal ++ e ∷ []) lost book.held_first held book.faults_first faults)
+pub book_push : (book : BookParts) (new : CoreParts) (lost : Bool) (worker : ℕ) (ask : Ask) (e : Event) (held : Held) (faults : ℕ) → IsBook book → IsAsked book.core book.journal worker → is_proper ask ≡ true → (book.lost ≡ false → IsTyped (next_event (setup_of book.core) book.journal worker ask)) → WritesLine book.lost lost (line_of (length book.journal + 1) (next_event (setup_of book.core) book.journal worker ask)) book.held held book.faults faults → KeepsSetup book.core new → Settles lost worker ask book.core new e → IsBook (book_parts new (book.journal ++ e ∷ []) lost book.held_first held book.faults_first faults)
 book_push book new lost worker ask e held faults kept asked proper typed line same settled =
     let stays : book.lost ≡ true → lost ≡ true = λ h. (line.again h).0 in
     let came : IsEntered book.core new book.journal lost worker ask e = entered book.core new book.journal book.lost lost worker ask e kept.history stays settled in

@@ -4,7 +4,8 @@ use Rattle.std.specs.Prelude.{find}
 use Rattle.std.proofs.lemmas.Bool.{false≢true}
 use Rattle.std.proofs.lemmas.List.{append-nil}
 use Rattle.std.proofs.lemmas.List.Folds.{find-append}
-use Rattle.outside.specs.Told.{Gains, GainsPart, Rose}
+use Rattle.outside.specs.Told.{Gains, GainsPart, Goes, Rose}
+use Rattle.outside.proofs.Told.{Gains-none, Goes-same, Goes-then}
 use Rattle.policy_model.specs.declared.event.Event.{Event}
 use Rattle.policy_model.specs.Asks.{is_lost}
 use Rattle.policy_model.specs.Journal.{has_lost, kept_events}
@@ -13,19 +14,26 @@ use Rattle.policy_model.specs.Settings.{Settings}
 use Rattle.policy_model.proofs.Lists.{filter-push}
 use Rattle.policy_model.proofs.Runs.{has_lost-push}
 use Rattle.decision_log.specs.Log.{line_of, lines_after, log_text}
+use Rattle.monitor_book.specs.declared.opened.Held.{Held}
 use Rattle.monitor_book.specs.Kept.{IsLogged, lost_line_of}
-use Rattle.monitor_book.specs.Lines.{HoldsLines, LogMatches, lost_line}
+use Rattle.monitor_book.specs.Lines.{AppendsLines, HoldsLines, IsUnwritten, LogMatches, lengths_after, lost_append, lost_line}
 
--- a line was written, or a front of it by a fault, or nothing where one was lost before
-pub record WritesLine (before lost : Bool) (line : List ℕ) (held_old held_new : Option (List ℕ)) (faults_old faults_new : ℕ) : Type 0 where
+-- a line was written by one append, or a front of it by a fault, or nothing where one was lost before
+pub record WritesLine (before lost : Bool) (line : List ℕ) (held_old held_new : Held) (faults_old faults_new : ℕ) : Type 0 where
   pub again : before ≡ true → (lost ≡ true) × (held_new ≡ held_old) × (faults_new ≡ faults_old)
-  pub written : lost ≡ false → Gains held_old line held_new × (faults_new ≡ faults_old)
-  pub cut : before ≡ false → lost ≡ true → GainsPart held_old line held_new × Rose faults_old faults_new
+  pub written : lost ≡ false → Gains held_old.bytes line held_new.bytes × (faults_new ≡ faults_old)
+  pub appended : lost ≡ false → Gains held_old.lengths (length line ∷ []) held_new.lengths
+  pub cut : before ≡ false → lost ≡ true → GainsPart held_old.bytes line held_new.bytes × Rose faults_old faults_new
+  pub tried : before ≡ false → lost ≡ true → (n : ℕ) × Gains held_old.lengths (n ∷ []) held_new.lengths
   pub counted : faults_old ≤ faults_new
 
 -- whatever the log held at first, it holds the second journal's lines after, if it held the first one's before
 abbrev GoesOn : Settings → List Event → List Event → Option (List ℕ) → Option (List ℕ) → Type 0
-GoesOn setup old new held_old held_new = (first : Option (List ℕ)) → LogMatches setup old first held_old → LogMatches setup new first held_new
+GoesOn setup old new held_old held_new = (first : Option (List ℕ)) → Goes (HoldsLines setup old) first held_old → Goes (HoldsLines setup new) first held_new
+
+-- and its appends are those of the second journal's lines after, if they were those of the first one's before
+abbrev AppendsOn : List Event → List Event → Option (List ℕ) → Option (List ℕ) → Type 0
+AppendsOn old new lengths_old lengths_new = (first : Option (List ℕ)) → Goes (AppendsLines old) first lengths_old → Goes (AppendsLines new) first lengths_new
 
 -- where nothing was lost, all events are kept
 pub kept_all : (journal : List Event) → has_lost journal ≡ false → kept_events journal ≡ journal
@@ -86,7 +94,7 @@ line_held setup journal e first old new none kept lines gained = record {
 -- an event whose line was written
 pub logs_line : (setup : Settings) (journal : List Event) (e : Event) (old new : Option (List ℕ)) → has_lost journal ≡ false → is_lost e.decision ≡ false → Gains old (line_of (length journal + 1) e) new → GoesOn setup journal (journal ++ e ∷ []) old new
 logs_line setup journal e old new none kept gained = λ first before. go first old new gained before where
-  go : (first old new : Option (List ℕ)) → Gains old (line_of (length journal + 1) e) new → LogMatches setup journal first old → LogMatches setup (journal ++ e ∷ []) first new
+  go : (first old new : Option (List ℕ)) → Gains old (line_of (length journal + 1) e) new → Goes (HoldsLines setup journal) first old → Goes (HoldsLines setup (journal ++ e ∷ [])) first new
   go first old None gained before = tt
   go first None (Some n) gained before = absurd gained
   go None (Some o) (Some n) gained before = absurd before
@@ -112,7 +120,7 @@ cut_held setup journal e first old new k none lost lines gained = record {
 -- an event whose line was cut, the first that is lost
 pub logs_cut : (setup : Settings) (journal : List Event) (e : Event) (old new : Option (List ℕ)) → has_lost journal ≡ false → is_lost e.decision ≡ true → GainsPart old (line_of (length journal + 1) (next_event setup journal e.worker e.ask)) new → GoesOn setup journal (journal ++ e ∷ []) old new
 logs_cut setup journal e old new none lost gained = λ first before. go first old new gained.1 before where
-  go : (first old new : Option (List ℕ)) → Gains old (take gained.0 (line_of (length journal + 1) (next_event setup journal e.worker e.ask))) new → LogMatches setup journal first old → LogMatches setup (journal ++ e ∷ []) first new
+  go : (first old new : Option (List ℕ)) → Gains old (take gained.0 (line_of (length journal + 1) (next_event setup journal e.worker e.ask))) new → Goes (HoldsLines setup journal) first old → Goes (HoldsLines setup (journal ++ e ∷ [])) first new
   go first old None gain before = tt
   go first None (Some n) gain before = absurd gain
   go None (Some o) (Some n) gain before = absurd before
@@ -142,31 +150,123 @@ again_held setup journal e first held some lost lines =
 -- a lost event after another: the log stays
 pub logs_again : (setup : Settings) (journal : List Event) (e : Event) (held : Option (List ℕ)) → has_lost journal ≡ true → is_lost e.decision ≡ true → GoesOn setup journal (journal ++ e ∷ []) held held
 logs_again setup journal e held some lost = λ first before. go first held before where
-  go : (first held : Option (List ℕ)) → LogMatches setup journal first held → LogMatches setup (journal ++ e ∷ []) first held
+  go : (first held : Option (List ℕ)) → Goes (HoldsLines setup journal) first held → Goes (HoldsLines setup (journal ++ e ∷ [])) first held
   go first None before = tt
   go None (Some o) before = absurd before
   go (Some f) (Some o) before = again_held setup journal e f o some lost before
 
--- an empty journal has no line
-matches_none : (setup : Settings) (held : Option (List ℕ)) → LogMatches setup [] held held
-matches_none setup None = tt
-matches_none setup (Some h) = record { lines = (0, sym (append-nil (h ++ []) ∙ append-nil h)) }
+-- ---- the lengths of its appends
 
-pub logged_none : (setup : Settings) (held : Option (List ℕ)) (faults : ℕ) → IsLogged setup [] held held faults faults
+-- the lengths of the lines of events and of one after them
+lengths_after-push : (count : ℕ) (events : List Event) (e : Event) → lengths_after count (events ++ e ∷ []) ≡ lengths_after count events ++ length (line_of (count + length events + 1) e) ∷ []
+lengths_after-push count [] e = ap (λ n. length (line_of n e) ∷ []) (omega arith)
+lengths_after-push count (x ∷ xs) e =
+    let n : count + 1 + length xs + 1 ≡ count + suc (length xs) + 1 = omega arith in
+    ap (λ t. length (line_of (count + 1) x) ∷ t) (lengths_after-push (count + 1) xs e ∙ ap (λ k. lengths_after (count + 1) xs ++ length (line_of k e) ∷ []) n)
+
+lengths-push : (journal : List Event) (e : Event) → has_lost journal ≡ false → is_lost e.decision ≡ false → lengths_after 0 (kept_events (journal ++ e ∷ [])) ≡ lengths_after 0 (kept_events journal) ++ length (line_of (length journal + 1) e) ∷ []
+lengths-push journal e none kept =
+    let all : kept_events (journal ++ e ∷ []) ≡ journal ++ e ∷ [] = filter-push (λ x. not (is_lost x.decision)) journal e ∙ rw kept (ap (λ xs. xs ++ e ∷ []) (kept_all journal none)) in
+    ap (lengths_after 0) all ∙ lengths_after-push 0 journal e ∙ ap (λ n. lengths_after 0 journal ++ length (line_of n e) ∷ []) (omega arith) ∙ ap (λ xs. lengths_after 0 xs ++ length (line_of (length journal + 1) e) ∷ []) (sym (kept_all journal none))
+
+lost_append-none : (journal : List Event) (n : ℕ) → has_lost journal ≡ false → lost_append journal n ≡ []
+lost_append-none journal n h = rw h refl
+
+lost_append-some : (journal : List Event) (n : ℕ) → has_lost journal ≡ true → lost_append journal n ≡ n ∷ []
+lost_append-some journal n h = rw h refl
+
+-- what was appended, where nothing was lost
+appended_before : (journal : List Event) (first now : List ℕ) → has_lost journal ≡ false → AppendsLines journal first now → now ≡ first ++ lengths_after 0 (kept_events journal)
+appended_before journal first now h is =
+    is.appends.1 ∙ ap (λ t. (first ++ lengths_after 0 (kept_events journal)) ++ t) (lost_append-none journal is.appends.0 h) ∙ append-nil (first ++ lengths_after 0 (kept_events journal))
+
+line_appended : (journal : List Event) (e : Event) (first old new : List ℕ) → has_lost journal ≡ false → is_lost e.decision ≡ false → AppendsLines journal first old → new ≡ old ++ length (line_of (length journal + 1) e) ∷ [] → AppendsLines (journal ++ e ∷ []) first new
+line_appended journal e first old new none kept is gained =
+    let own : List ℕ = length (line_of (length journal + 1) e) ∷ [] in
+    let whole : List ℕ = first ++ lengths_after 0 (kept_events (journal ++ e ∷ [])) in
+    record {
+      appends = (
+        0,
+        gained ∙ ap (λ t. t ++ own) (appended_before journal first old none is)
+            ∙ append_assoc first (lengths_after 0 (kept_events journal)) own
+            ∙ ap (λ t. first ++ t) (sym (lengths-push journal e none kept))
+            ∙ sym (append-nil whole)
+            ∙ ap (λ t. whole ++ t) (sym (lost_append-none (journal ++ e ∷ []) 0 (has_lost-push journal e ∙ rw (none, kept) refl))),
+      );
+    }
+
+lost_appended : (journal : List Event) (e : Event) (first old new : List ℕ) (k : ℕ) → has_lost journal ≡ false → is_lost e.decision ≡ true → AppendsLines journal first old → new ≡ old ++ k ∷ [] → AppendsLines (journal ++ e ∷ []) first new
+lost_appended journal e first old new k none lost is gained = record {
+  appends = (
+    k,
+    gained ∙ ap (λ t. t ++ k ∷ []) (appended_before journal first old none is)
+        ∙ ap (λ t. (first ++ lengths_after 0 t) ++ k ∷ []) (sym (kept_lost journal e lost))
+        ∙ ap (λ t. (first ++ lengths_after 0 (kept_events (journal ++ e ∷ []))) ++ t) (sym (lost_append-some (journal ++ e ∷ []) k (has_lost-push journal e ∙ rw (none, lost) refl))),
+  );
+}
+
+again_appended : (journal : List Event) (e : Event) (first now : List ℕ) → has_lost journal ≡ true → is_lost e.decision ≡ true → AppendsLines journal first now → AppendsLines (journal ++ e ∷ []) first now
+again_appended journal e first now some lost is =
+    let n = is.appends.0 in
+    record {
+      appends = (
+        n,
+        is.appends.1
+            ∙ ap (λ t. (first ++ lengths_after 0 t) ++ lost_append journal n) (sym (kept_lost journal e lost))
+            ∙ ap (λ t. (first ++ lengths_after 0 (kept_events (journal ++ e ∷ []))) ++ t) (lost_append-some journal n some ∙ sym (lost_append-some (journal ++ e ∷ []) n (has_lost-push journal e ∙ rw some refl))),
+      );
+    }
+
+appends_again : (journal : List Event) (e : Event) (lengths : Option (List ℕ)) → has_lost journal ≡ true → is_lost e.decision ≡ true → AppendsOn journal (journal ++ e ∷ []) lengths lengths
+appends_again journal e lengths some lost = λ first before. go first lengths before where
+  go : (first lengths : Option (List ℕ)) → Goes (AppendsLines journal) first lengths → Goes (AppendsLines (journal ++ e ∷ [])) first lengths
+  go first None before = tt
+  go None (Some o) before = absurd before
+  go (Some f) (Some o) before = again_appended journal e f o some lost before
+
+-- ---- both
+
+-- where nothing was done
+pub unwritten : (held : Held) → IsUnwritten held held
+unwritten held = record { bytes = Gains-none held.bytes; lengths = Gains-none held.lengths }
+
+-- an empty journal has no line
+matches_none : (setup : Settings) (held : Held) → LogMatches setup [] held held
+matches_none setup held = record {
+  lines = Goes-same (HoldsLines setup []) (λ h. record { lines = (0, sym (append-nil (h ++ []) ∙ append-nil h)) }) held.bytes;
+  appends = Goes-same (AppendsLines []) (λ h. record { appends = (0, sym (append-nil (h ++ []) ∙ append-nil h)) }) held.lengths;
+}
+
+pub logged_none : (setup : Settings) (held : Held) (faults : ℕ) → IsLogged setup [] held held faults faults
 logged_none setup held faults = record { lines = matches_none setup held; rose = λ lost. absurd (false≢true lost); kept = λ none. refl; counted = omega arith }
 
 -- the line of an event that is the policy's where it isn't lost
-goes_on : (setup : Settings) (journal : List Event) (e : Event) (held_old held_new : Option (List ℕ)) (faults_old faults_new : ℕ) → WritesLine (has_lost journal) (is_lost e.decision) (line_of (length journal + 1) (next_event setup journal e.worker e.ask)) held_old held_new faults_old faults_new → (is_lost e.decision ≡ false → e ≡ next_event setup journal e.worker e.ask) → GoesOn setup journal (journal ++ e ∷ []) held_old held_new
-goes_on setup journal e held_old held_new faults_old faults_new line is = go (has_lost journal) (is_lost e.decision) refl refl where
-  go : (before now : Bool) → has_lost journal ≡ before → is_lost e.decision ≡ now → GoesOn setup journal (journal ++ e ∷ []) held_old held_new
-  go true now before lost = subst (λ held. GoesOn setup journal (journal ++ e ∷ []) held_old held) (sym (line.again before).1) (logs_again setup journal e held_old before (line.again before).0)
-  go false true before lost = logs_cut setup journal e held_old held_new before lost (line.cut before lost).0
-  go false false before kept = logs_line setup journal e held_old held_new before kept (subst (λ x. Gains held_old (line_of (length journal + 1) x) held_new) (sym (is kept)) (line.written kept).0)
+lines_go_on : (setup : Settings) (journal : List Event) (e : Event) (held_old held_new : Held) (faults_old faults_new : ℕ) → WritesLine (has_lost journal) (is_lost e.decision) (line_of (length journal + 1) (next_event setup journal e.worker e.ask)) held_old held_new faults_old faults_new → (is_lost e.decision ≡ false → e ≡ next_event setup journal e.worker e.ask) → GoesOn setup journal (journal ++ e ∷ []) held_old.bytes held_new.bytes
+lines_go_on setup journal e held_old held_new faults_old faults_new line is = go (has_lost journal) (is_lost e.decision) refl refl where
+  go : (before now : Bool) → has_lost journal ≡ before → is_lost e.decision ≡ now → GoesOn setup journal (journal ++ e ∷ []) held_old.bytes held_new.bytes
+  go true now before lost = subst (λ (held : Held). GoesOn setup journal (journal ++ e ∷ []) held_old.bytes held.bytes) (sym (line.again before).1) (logs_again setup journal e held_old.bytes before (line.again before).0)
+  go false true before lost = logs_cut setup journal e held_old.bytes held_new.bytes before lost (line.cut before lost).0
+  go false false before kept = logs_line setup journal e held_old.bytes held_new.bytes before kept (subst (λ x. Gains held_old.bytes (line_of (length journal + 1) x) held_new.bytes) (sym (is kept)) (line.written kept).0)
+
+-- and its append
+appends_go_on : (setup : Settings) (journal : List Event) (e : Event) (held_old held_new : Held) (faults_old faults_new : ℕ) → WritesLine (has_lost journal) (is_lost e.decision) (line_of (length journal + 1) (next_event setup journal e.worker e.ask)) held_old held_new faults_old faults_new → (is_lost e.decision ≡ false → e ≡ next_event setup journal e.worker e.ask) → AppendsOn journal (journal ++ e ∷ []) held_old.lengths held_new.lengths
+appends_go_on setup journal e held_old held_new faults_old faults_new line is = go (has_lost journal) (is_lost e.decision) refl refl where
+  go : (before now : Bool) → has_lost journal ≡ before → is_lost e.decision ≡ now → AppendsOn journal (journal ++ e ∷ []) held_old.lengths held_new.lengths
+  go true now before lost = subst (λ (held : Held). AppendsOn journal (journal ++ e ∷ []) held_old.lengths held.lengths) (sym (line.again before).1) (appends_again journal e held_old.lengths before (line.again before).0)
+  go false true before lost = λ first is.
+      let tried = line.tried before lost in
+      Goes-then (AppendsLines journal) (λ b a. a ≡ b ++ tried.0 ∷ []) (AppendsLines (journal ++ e ∷ [])) (λ f o n held gained. lost_appended journal e f o n tried.0 before lost held gained) first held_old.lengths held_new.lengths is tried.1
+  go false false before kept = λ first held.
+      let gained = subst (λ x. Gains held_old.lengths (length (line_of (length journal + 1) x) ∷ []) held_new.lengths) (sym (is kept)) (line.appended kept) in
+      Goes-then (AppendsLines journal) (λ b a. a ≡ b ++ length (line_of (length journal + 1) e) ∷ []) (AppendsLines (journal ++ e ∷ [])) (λ f o n held gained. line_appended journal e f o n before kept held gained) first held_old.lengths held_new.lengths held gained
 
 -- what one event makes of the log
-pub logged_push : (setup : Settings) (journal : List Event) (e : Event) (first held_old held_new : Option (List ℕ)) (faults_first faults_old faults_new : ℕ) → IsLogged setup journal first held_old faults_first faults_old → WritesLine (has_lost journal) (is_lost e.decision) (line_of (length journal + 1) (next_event setup journal e.worker e.ask)) held_old held_new faults_old faults_new → (is_lost e.decision ≡ false → e ≡ next_event setup journal e.worker e.ask) → IsLogged setup (journal ++ e ∷ []) first held_new faults_first faults_new
+pub logged_push : (setup : Settings) (journal : List Event) (e : Event) (first held_old held_new : Held) (faults_first faults_old faults_new : ℕ) → IsLogged setup journal first held_old faults_first faults_old → WritesLine (has_lost journal) (is_lost e.decision) (line_of (length journal + 1) (next_event setup journal e.worker e.ask)) held_old held_new faults_old faults_new → (is_lost e.decision ≡ false → e ≡ next_event setup journal e.worker e.ask) → IsLogged setup (journal ++ e ∷ []) first held_new faults_first faults_new
 logged_push setup journal e first held_old held_new faults_first faults_old faults_new logged line is = record {
-  lines = goes_on setup journal e held_old held_new faults_old faults_new line is first logged.lines;
+  lines = record {
+    lines = lines_go_on setup journal e held_old held_new faults_old faults_new line is first.bytes logged.lines.lines;
+    appends = appends_go_on setup journal e held_old held_new faults_old faults_new line is first.lengths logged.lines.appends;
+  };
   rose = λ lost. go (has_lost journal) (is_lost e.decision) refl refl (sym (has_lost-push journal e) ∙ lost);
   kept = λ none. same (has_lost journal) (is_lost e.decision) refl refl (sym (has_lost-push journal e) ∙ none);
   counted = omega (arith, logged.counted, line.counted);

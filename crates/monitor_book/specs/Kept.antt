@@ -13,6 +13,7 @@ use Rattle.policy_model.specs.Settings.{IsInRange, Settings, events_max, quota_o
 use Rattle.session_core.specs.Parts.{CoreParts, setup_of}
 use Rattle.session_core.specs.Standing.{Stands}
 use Rattle.turn_cell.specs.Facts.{IsWithin}
+use Rattle.monitor_book.specs.declared.opened.Held.{Held}
 use Rattle.monitor_book.specs.Lines.{LogMatches, decided_in}
 
 -- the line that a lost event would have had after those that were kept, where there is one
@@ -21,17 +22,17 @@ lost_line_of setup kept lost =
     option_map_or (λ e. line_of (length kept + 1) (next_event setup kept e.worker e.ask)) lost []
 
 -- What contracts see of a book: the core, all events, whether one was lost; what the log held when the book
--- was made, where it tells, and what it holds now; and how many faults it had then and has now
+-- was made and holds now, and its faults then and now
 pub record BookParts : Type 0 where
   pub core : CoreParts
   pub journal : List Event
   pub lost : Bool
-  pub held_first : Option (List ℕ)
-  pub held : Option (List ℕ)
+  pub held_first : Held
+  pub held : Held
   pub faults_first : ℕ
   pub faults : ℕ
 
-abbrev pub book_parts : CoreParts → List Event → Bool → Option (List ℕ) → Option (List ℕ) → ℕ → ℕ → BookParts
+abbrev pub book_parts : CoreParts → List Event → Bool → Held → Held → ℕ → ℕ → BookParts
 book_parts core journal lost held_first held faults_first faults = record {
   core = core;
   journal = journal;
@@ -63,8 +64,8 @@ pub record IsHistory (core : CoreParts) (journal : List Event) (lost : Bool) : T
   pub sessions : events_max (setup_of core) ≤ core.ledger.cap
 
 -- the log has the journal's lines after what it held at first, and an event was lost exactly by a fault of the log
-pub record IsLogged (setup : Settings) (journal : List Event) (held_first held : Option (List ℕ))
-    (faults_first faults : ℕ) : Type 0 where
+pub record IsLogged (setup : Settings) (journal : List Event) (held_first held : Held) (faults_first faults : ℕ)
+    : Type 0 where
   pub lines : LogMatches setup journal held_first held
   pub rose : has_lost journal ≡ true → Rose faults_first faults
   pub kept : has_lost journal ≡ false → faults ≡ faults_first

@@ -2,6 +2,7 @@
 
 ghost use Rattle.std.specs.Prelude.{◌≡◌, ◌≤◌, [], IfErr, IfOk, false, length};
 ghost use Rattle.monitor_book.specs.Kept.{IsBook, book_parts};
+ghost use Rattle.monitor_book.specs.Lines.{held_by};
 ghost use Rattle.policy_model.specs.Settings.{events_max};
 ghost use Rattle.session_core.specs.Parts.{setup_of};
 ghost use Rattle.policy_laws.specs.Consequences.{HasConsequences};
@@ -35,16 +36,17 @@ pub struct Book<K: Sink> {
 impl<K: Sink> Model for Book<K> {
     ghost use Rattle.std.specs.Prelude.{◌≤◌, vec_capacity};
     ghost use Rattle.monitor_book.specs.Kept.{BookParts, IsBook, book_parts};
+    ghost use Rattle.monitor_book.specs.Lines.{held_by};
     ghost use Rattle.policy_model.specs.Settings.{events_max};
     ghost use Rattle.session_core.specs.Parts.{setup_of};
 
     ghost Value = { BookParts };
 
-    ghost view = { λ b. book_parts b.core b.journal.items b.lost (K.held b.opened.value) (K.held b.log)
-        (K.faults b.opened.value) (K.faults b.log) };
+    ghost view = { λ b. book_parts b.core b.journal.items b.lost (held_by K.held K.lengths b.opened.value)
+        (held_by K.held K.lengths b.log) (K.faults b.opened.value) (K.faults b.log) };
 
-    ghost invariant = { λ b. IsBook (book_parts b.core b.journal.items b.lost (K.held b.opened.value) (K.held b.log)
-        (K.faults b.opened.value) (K.faults b.log))
+    ghost invariant = { λ b. IsBook (book_parts b.core b.journal.items b.lost (held_by K.held K.lengths b.opened.value)
+        (held_by K.held K.lengths b.log) (K.faults b.opened.value) (K.faults b.log))
         × (events_max (setup_of b.core) ≤ vec_capacity b.journal) };
 }
 
@@ -58,8 +60,8 @@ impl<K: Sink> Book<K> {
     pub fn new(alloc: Global, core: Core, log: K) -> Result<Book<K>, (Core, K, AllocError)>
         requires fresh { Stands core [] }
         requires sessions { events_max (setup_of core) ≤ core.ledger.cap }
-        ensures new { IfOk result (λ book. book ≡ book_parts core [] false (K.held log) (K.held log) (K.faults log)
-            (K.faults log)) }
+        ensures new { IfOk result (λ book. book ≡ book_parts core [] false (held_by K.held K.lengths log)
+            (held_by K.held K.lengths log) (K.faults log) (K.faults log)) }
         ensures back { IfErr result (λ back. (back.0 ≡ core) × (back.1 ≡ log)) }
     {
         match Vec::with_capacity(alloc, core.ledger().setup().events_max()) {
@@ -81,7 +83,7 @@ impl<K: Sink> Book<K> {
     pub fn parts(self) -> (Core, Vec<Event>, K)
         ensures core { result.0 ≡ self.core }
         ensures journal { result.1.items ≡ self.journal }
-        ensures log { (K.held result.2 ≡ self.held) × (K.faults result.2 ≡ self.faults) }
+        ensures log { (held_by K.held K.lengths result.2 ≡ self.held) × (K.faults result.2 ≡ self.faults) }
         ensures kept { IsBook self }
         ensures few { length self.journal ≤ 1048576 }
         ensures consequences { HasConsequences (setup_of self.core) self.journal }

@@ -8,4 +8,4 @@ mod entering;
 mod opened;
 
 pub use book::Book;
-pub use opened::{Held, Opened};
+pub use opened::{Held, Listed, Opened};

@@ -4,11 +4,12 @@ use Rattle.std.specs.Prelude.{slice_index_or}
 use Rattle.std.specs.List.{All, AllByRecursion}
 use Rattle.service_model.specs.Places.{worker_places}
 use Rattle.service_model.specs.Cases.{worker_places_after}
+use Rattle.monitor_book.specs.declared.opened.Held.{Held}
 use Rattle.monitor_book.specs.declared.opened.Opened.{Opened}
 use Rattle.monitor_book.specs.Kept.{BookParts, IsBook}
-use Rattle.monitor_book.specs.Lines.{LogMatches}
-use Rattle.outside.specs.Told.{Gains}
-use Rattle.outside.proofs.Told.{Gains-none}
+use Rattle.monitor_book.specs.Lines.{AppendsLines, HoldsLines, IsUnwritten, LogMatches}
+use Rattle.monitor_book.proofs.LogLemmas.{unwritten}
+use Rattle.outside.specs.Told.{Gains, Goes}
 use Rattle.policy_model.specs.declared.event.Event.{Event}
 use Rattle.policy_model.specs.Journal.{has_lost}
 use Rattle.policy_model.specs.Runs.{IsOfWorker, IsRun}
@@ -19,18 +20,29 @@ use Rattle.turn_cell.specs.Facts.{AreNewPasses, CellFacts, first_pass}
 use Rattle.monitor_run.specs.Prepared.{LogStays}
 
 -- a log that is as it was
-pub log_same : (before after : Option (List ℕ)) (faults_old faults_new : ℕ) → after ≡ before → faults_new ≡ faults_old → LogStays before after faults_old faults_new
-log_same before after faults_old faults_new same faults = record { held = subst (λ held. Gains before [] held) (sym same) (Gains-none before); faults = faults }
+pub log_same : (before after : Held) (faults_old faults_new : ℕ) → after ≡ before → faults_new ≡ faults_old → LogStays before after faults_old faults_new
+log_same before after faults_old faults_new same faults = record { held = subst (λ held. IsUnwritten before held) (sym same) (unwritten before); faults = faults }
 
 take-nothing : (n : ℕ) → take {A = ℕ} n [] ≡ []
 take-nothing zero = refl
 take-nothing (suc n) = refl
 
 -- nothing was written for no event
-nothing_held : (setup : Settings) (before after : Option (List ℕ)) → LogMatches setup [] before after → Gains before [] after
-nothing_held setup before None lines = tt
-nothing_held setup None (Some after) lines = absurd lines
-nothing_held setup (Some before) (Some after) lines = lines.lines.1 ∙ ap (λ t. (before ++ []) ++ t) (take-nothing lines.lines.0) ∙ append-nil (before ++ [])
+no_line : (setup : Settings) (before after : Option (List ℕ)) → Goes (HoldsLines setup []) before after → Gains before [] after
+no_line setup before None lines = tt
+no_line setup None (Some after) lines = absurd lines
+no_line setup (Some before) (Some after) lines = lines.lines.1 ∙ ap (λ t. (before ++ []) ++ t) (take-nothing lines.lines.0) ∙ append-nil (before ++ [])
+
+no_append : (before after : Option (List ℕ)) → Goes (AppendsLines []) before after → Gains before [] after
+no_append before None appends = tt
+no_append None (Some after) appends = absurd appends
+no_append (Some before) (Some after) appends = appends.appends.1 ∙ append-nil (before ++ [])
+
+nothing_held : (setup : Settings) (before after : Held) → LogMatches setup [] before after → IsUnwritten before after
+nothing_held setup before after log = record {
+  bytes = no_line setup before.bytes after.bytes log.lines;
+  lengths = no_append before.lengths after.lengths log.appends;
+}
 
 pub nothing_logged : (book : BookParts) → IsBook book → book.journal ≡ [] → LogStays book.held_first book.held book.faults_first book.faults
 nothing_logged book is none = record {
@@ -58,7 +70,7 @@ none_called setup place passes journal run count new held = no_events setup jour
       holds.1
 
 -- the log of a run that nobody was served by
-pub unserved_log : (setup : Settings) (place : CellFacts (Option Opened)) (passes : List BookPass) (book : BookParts) (terms : Option Opened) (held : Option (List ℕ)) (faults : ℕ) → IsBook book → terms ≡ Some (record { setup = setup; held = held; faults = faults }) → terms ≡ Some (opened_of book) → place.passes ≡ setup.workers → AreNewPasses place passes → All (IsHeldBy book.journal) passes → LogStays held book.held faults book.faults
+pub unserved_log : (setup : Settings) (place : CellFacts (Option Opened)) (passes : List BookPass) (book : BookParts) (terms : Option Opened) (held : Held) (faults : ℕ) → IsBook book → terms ≡ Some (record { setup = setup; held = held; faults = faults }) → terms ≡ Some (opened_of book) → place.passes ≡ setup.workers → AreNewPasses place passes → All (IsHeldBy book.journal) passes → LogStays held book.held faults book.faults
 unserved_log setup place passes book terms held faults is told opened count new all =
     let same : record { setup = setup; held = held; faults = faults } ≡ opened_of book = opened_once _ _ (sym told ∙ opened) in
     let setup_is : setup_of book.core ≡ setup = sym (ap (λ (o : Opened). o.setup) same) in

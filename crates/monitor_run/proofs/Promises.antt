@@ -2,6 +2,7 @@
 use Rattle.std.proofs.Common.{◌≡◌, ℕ, ◌≤◌, Bool, true, false, List, length, Option, Some, sym, subst}
 use Rattle.std.specs.List.{AllByRecursion}
 use Rattle.decision_log.specs.Typed.{IsTyped}
+use Rattle.monitor_book.specs.declared.opened.Held.{Held}
 use Rattle.monitor_book.specs.declared.opened.Opened.{Opened}
 use Rattle.monitor_book.specs.Kept.{BookParts, IsBook}
 use Rattle.monitor_book.specs.Lines.{LogMatches, decided_in}
@@ -22,7 +23,7 @@ use Rattle.monitor_run.specs.Ran.{RunEnded}
 use Rattle.monitor_run.proofs.Headline.{answered_whole, conversations_match, fault_ends_are_counted, no_accept_failed, runs_to_quota, sessions_in_order, some_accept_failed}
 
 -- what the book of a run keeps, by what was fixed of it
-pub record BookSays (setup : Settings) (journal : List Event) (held_old held_new : Option (List ℕ)) (log_old log_new : ℕ) : Type 0 where
+pub record BookSays (setup : Settings) (journal : List Event) (held_old held_new : Held) (log_old log_new : ℕ) : Type 0 where
   pub in_range : IsInRange setup
   pub run : IsRun setup journal
   pub typed : AllByRecursion IsTyped (decided_in setup journal)
@@ -30,7 +31,7 @@ pub record BookSays (setup : Settings) (journal : List Event) (held_old held_new
   pub rose : has_lost journal ≡ true → Rose log_old log_new
   pub kept : has_lost journal ≡ false → log_new ≡ log_old
 
-pub book_says : (setup : Settings) (book : BookParts) (held : Option (List ℕ)) (faults : ℕ) → IsBook book → Some (record { setup = setup; held = held; faults = faults }) ≡ Some (opened_of book) → BookSays setup book.journal held book.held faults book.faults
+pub book_says : (setup : Settings) (book : BookParts) (held : Held) (faults : ℕ) → IsBook book → Some (record { setup = setup; held = held; faults = faults }) ≡ Some (opened_of book) → BookSays setup book.journal held book.held faults book.faults
 book_says setup book held faults is told =
     let same : record { setup = setup; held = held; faults = faults } ≡ opened_of book = once _ _ told in
     subst (λ (o : Opened). BookSays o.setup book.journal o.held book.held o.faults book.faults) (sym same) (record { in_range = is.history.in_range; run = is.history.run; typed = is.history.typed; lines = is.logged.lines; rose = is.logged.rose; kept = is.logged.kept })
@@ -42,7 +43,7 @@ book_says setup book held faults is told =
 pub book_setup : (opened : Opened) (book : BookParts) → Some opened ≡ Some (opened_of book) → opened.setup ≡ setup_of book.core
 book_setup opened book told = cc
 
-pub run_promises : {P : Type 0} (service : Service) (failed : Bool) (journal : List Event) (posts : List P) (scene : P → Option Scene) (faults : P → Faults) (held_old held_new : Option (List ℕ)) (log_old log_new : ℕ) → RunEnded service failed journal posts scene faults → BookSays service.setup journal held_old held_new log_old log_new → length journal ≤ 1048576 → length posts ≡ service.setup.workers → FaultsAreCounted scene faults posts → RunPromises service failed journal posts scene faults held_old held_new log_old log_new
+pub run_promises : {P : Type 0} (service : Service) (failed : Bool) (journal : List Event) (posts : List P) (scene : P → Option Scene) (faults : P → Faults) (held_old held_new : Held) (log_old log_new : ℕ) → RunEnded service failed journal posts scene faults → BookSays service.setup journal held_old held_new log_old log_new → length journal ≤ 1048576 → length posts ≡ service.setup.workers → FaultsAreCounted scene faults posts → RunPromises service failed journal posts scene faults held_old held_new log_old log_new
 run_promises service failed journal posts scene faults held_old held_new log_old log_new ended says few one_each counted =
     record {
       legal = record { legal = says.run.legal; proper = says.run.proper; workers = says.run.workers; few = few; typed = says.typed };
@@ -63,7 +64,7 @@ run_promises service failed journal posts scene faults held_old held_new log_old
     }
 
 -- the same under the names of what was handed out
-pub run_told : {P : Type 0} {service service' : Service} {failed failed' : Bool} {journal journal' : List Event} {posts posts' : List P} {scene : P → Option Scene} {faults : P → Faults} {held held_new held_new' : Option (List ℕ)} {log log_new log_new' : ℕ} → service' ≡ service → failed' ≡ failed → journal' ≡ journal → posts' ≡ posts → held_new' ≡ held_new → log_new' ≡ log_new → RunPromises service failed journal posts scene faults held held_new log log_new → RunPromises service' failed' journal' posts' scene faults held held_new' log log_new'
+pub run_told : {P : Type 0} {service service' : Service} {failed failed' : Bool} {journal journal' : List Event} {posts posts' : List P} {scene : P → Option Scene} {faults : P → Faults} {held held_new held_new' : Held} {log log_new log_new' : ℕ} → service' ≡ service → failed' ≡ failed → journal' ≡ journal → posts' ≡ posts → held_new' ≡ held_new → log_new' ≡ log_new → RunPromises service failed journal posts scene faults held held_new log log_new → RunPromises service' failed' journal' posts' scene faults held held_new' log log_new'
 run_told {P} {service} {service'} {failed} {failed'} {journal} {journal'} {posts} {posts'} {scene} {faults} {held} {held_new} {held_new'} {log} {log_new} {log_new'} s f j p h l is =
     subst (λ s. RunPromises s failed' journal' posts' scene faults held held_new' log log_new') (sym s)
     (subst (λ b. RunPromises service b journal' posts' scene faults held held_new' log log_new') (sym f)

@@ -6,6 +6,7 @@ use Rattle.std.specs.Option.{option_map_or}
 use Rattle.policy_laws.specs.Consequences.{HasConsequences}
 use Rattle.policy_laws.specs.Strangers.{ShowsNoAccounts}
 use Rattle.decision_log.specs.Typed.{IsTyped}
+use Rattle.monitor_book.specs.declared.opened.Held.{Held}
 use Rattle.monitor_book.specs.Lines.{LogMatches, decided_in}
 use Rattle.outside.specs.Told.{Rose}
 use Rattle.outside.specs.declared.faults.Faults.{Faults}
@@ -146,8 +147,7 @@ pub record IsAnsweredWhole {P : Type 0} (service : Service) (scene : P → Optio
 -- all that is promised of a run that has served by a service: what its
 -- journal, its posts and its log are, and whether an accept failed
 pub record RunPromises {P : Type 0} (service : Service) (failed : Bool) (journal : List Event) (posts : List P)
-    (scene : P → Option Scene) (faults : P → Faults) (held_old held_new : Option (List ℕ))
-    (log_old log_new : ℕ) : Type 0 where
+    (scene : P → Option Scene) (faults : P → Faults) (held_old held_new : Held) (log_old log_new : ℕ) : Type 0 where
   pub legal : JournalIsLegal service.setup journal
   pub sessions : SessionsInOrder service journal
   pub conversations : ConversationsMatch service scene journal posts

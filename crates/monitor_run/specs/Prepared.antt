@@ -1,7 +1,8 @@
 -- Inner: what a run is prepared with, before it listens.
-use Rattle.std.specs.Prelude.{◌≡◌, ℕ, ◌≤◌, List, [], Option, Some}
-use Rattle.outside.specs.Told.{Gains}
+use Rattle.std.specs.Prelude.{◌≡◌, ℕ, ◌≤◌, List, Option, Some}
+use Rattle.monitor_book.specs.declared.opened.Held.{Held}
 use Rattle.monitor_book.specs.declared.opened.Opened.{Opened}
+use Rattle.monitor_book.specs.Lines.{IsUnwritten}
 use Rattle.policy_model.specs.Settings.{quota_of}
 use Rattle.session_turns.specs.Passes.{BookPass}
 use Rattle.service_model.specs.Service.{Service}
@@ -25,6 +26,6 @@ pub record IsPrepared (service : Service) (place : CellFacts (Option Opened)) (p
   pub rooms : service.setup.workers ≤ room
 
 -- nothing was written to a log, where it tells what it holds, and it has no more faults than before
-pub record LogStays (held_old held_new : Option (List ℕ)) (faults_old faults_new : ℕ) : Type 0 where
-  pub held : Gains held_old [] held_new
+pub record LogStays (held_old held_new : Held) (faults_old faults_new : ℕ) : Type 0 where
+  pub held : IsUnwritten held_old held_new
   pub faults : faults_new ≡ faults_old

@@ -1,6 +1,8 @@
 //! All memory of a run, taken before it listens.
 
-ghost use Rattle.std.specs.Prelude.{◌≡◌, [], ℕ, All, IfErr, IfOk, List, Option, Some, length};
+ghost use Rattle.std.specs.Prelude.{◌≡◌, [], ℕ, All, IfErr, IfOk, Some, length};
+ghost use Rattle.monitor_book.specs.declared.opened.Held.{Held};
+ghost use Rattle.monitor_book.specs.Lines.{held_by};
 ghost use Rattle.monitor_run.specs.Prepared.{LogStays};
 ghost use Rattle.policy_model.specs.Settings.{quota_of};
 ghost use Rattle.session_core.specs.Parts.{setup_of};
@@ -64,10 +66,14 @@ fn cell_of<K: Sink>(
     log: K,
 ) -> Result<(TurnCell<Book<K>>, Vec<Pass<Book<K>>>), K>
     ensures cell { IfOk result
-        (λ r. IsCellOf r.0 (Some (record { setup = setup.now; held = K.held log; faults = K.faults log }))
-        setup.now.workers (quota_of setup.now)) }
+        (λ r. IsCellOf r.0 (Some (record {
+          setup = setup.now;
+          held = held_by K.held K.lengths log;
+          faults = K.faults log;
+        })) setup.now.workers (quota_of setup.now)) }
     ensures new { IfOk result (λ r. AreNewPasses r.0 r.1.items) }
-    ensures back { IfErr result (λ back. LogStays (K.held log) (K.held back) (K.faults log) (K.faults back)) }
+    ensures back { IfErr result (λ back. LogStays (held_by K.held K.lengths log) (held_by K.held K.lengths back)
+        (K.faults log) (K.faults back)) }
 {
     let book = book_of(alloc, setup, log)?;
     match open_cell(alloc, book) {
@@ -80,7 +86,8 @@ fn cell_of<K: Sink>(
 fn book_of<K: Sink>(alloc: Global, setup: &Setup, log: K) -> Result<Book<K>, K>
     ensures empty { IfOk result (λ book. book.journal ≡ []) }
     ensures setup { IfOk result (λ book. setup_of book.core ≡ setup.now) }
-    ensures held { IfOk result (λ book. (book.held_first ≡ K.held log) × (book.held ≡ K.held log)) }
+    ensures held { IfOk result (λ book. (book.held_first ≡ held_by K.held K.lengths log)
+        × (book.held ≡ held_by K.held K.lengths log)) }
     ensures faults { IfOk result (λ book. (book.faults_first ≡ K.faults log) × (book.faults ≡ K.faults log)) }
     ensures back { IfErr result (λ back. back ≡ log) }
 {
@@ -95,7 +102,7 @@ fn book_of<K: Sink>(alloc: Global, setup: &Setup, log: K) -> Result<Book<K>, K>
 
 /// The log of a book that isn't needed.
 fn log_of<K: Sink>(book: Book<K>) -> K
-    ensures held { K.held result ≡ book.held }
+    ensures held { held_by K.held K.lengths result ≡ book.held }
     ensures faults { K.faults result ≡ book.faults }
 {
     let (_core, _journal, log) = book.parts();
@@ -112,10 +119,11 @@ pub fn prepare<'a, T: Texts + Sync, P: Post, K: Sink>(
     ensures service { IfOk result (λ p. p.service ≡ T.service texts.now) }
     ensures opened { IfOk result (λ p. p.opened ≡ Some (record {
       setup = (T.service texts.now).setup;
-      held = K.held log;
+      held = held_by K.held K.lengths log;
       faults = K.faults log;
     })) }
-    ensures back { IfErr result (λ back. LogStays (K.held log) (K.held back) (K.faults log) (K.faults back)) }
+    ensures back { IfErr result (λ back. LogStays (held_by K.held K.lengths log) (held_by K.held K.lengths back)
+        (K.faults log) (K.faults back)) }
 {
     let Ok(desks) = desks_of(alloc, texts) else {
         return Err(log);
@@ -136,9 +144,9 @@ pub fn prepare<'a, T: Texts + Sync, P: Post, K: Sink>(
 impl<'a, T: Texts + Sync, P: Post, K: Sink> Prepared<'a, T, P, K> {
     /// Gives a run up that nobody was served by: its log, as it was.
     pub fn give_up(self) -> K
-        ensures { (held : Option (List ℕ)) (faults : ℕ) → self.entry.opened
+        ensures { (held : Held) (faults : ℕ) → self.entry.opened
             ≡ Some (record { setup = self.entry.service.setup; held = held; faults = faults })
-            → LogStays held (K.held result) faults (K.faults result) }
+            → LogStays held (held_by K.held K.lengths result) faults (K.faults result) }
     {
         let Prepared { cell, passes, .. } = self;
         let (_core, _journal, log) = close_cell(cell, passes).parts();

@@ -1,6 +1,8 @@
 //! The run itself.
 
-ghost use Rattle.std.specs.Prelude.{◌≡◌, ℕ, All, List, Option, Some, length};
+ghost use Rattle.std.specs.Prelude.{◌≡◌, ℕ, All, Some, length};
+ghost use Rattle.monitor_book.specs.declared.opened.Held.{Held};
+ghost use Rattle.monitor_book.specs.Lines.{held_by};
 ghost use Rattle.monitor_run.specs.Headline.{RunPromises};
 ghost use Rattle.monitor_run.specs.Ran.{PlansStay};
 ghost use Rattle.otp_ledger.specs.Standing.{StandsFor};
@@ -40,10 +42,10 @@ pub fn run<'a, T: Texts + Sync, P: Post, K: Sink, R: Threads + Wait + Sync>(
 ) -> Ran<P, K>
     requires one_each { length posts.items ≡ prepared.service.setup.workers }
     requires fresh { All (IsFresh P.scene P.faults) posts.items }
-    ensures promises { (held : Option (List ℕ)) (faults : ℕ) → prepared.entry.opened
+    ensures promises { (held : Held) (faults : ℕ) → prepared.entry.opened
         ≡ Some (record { setup = prepared.entry.service.setup; held = held; faults = faults })
         → RunPromises prepared.entry.service result.accept_failed result.journal.items result.posts.items P.scene
-        P.faults held (K.held result.log) faults (K.faults result.log) }
+        P.faults held (held_by K.held K.lengths result.log) faults (K.faults result.log) }
     ensures plans { PlansStay P.scene posts.items result.posts.items }
     ensures setup { result.core.ledger.setup ≡ prepared.entry.service.setup }
     ensures ledger { StandsFor result.core.ledger (kept_events result.journal.items) }

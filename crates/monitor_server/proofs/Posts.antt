@@ -5,6 +5,7 @@ use Rattle.std.proofs.lemmas.List.{length-map}
 use Rattle.std.proofs.lemmas.Option.{slice_get-map}
 use Rattle.info_hooks.specs.declared.key.Key.{Key}
 use Rattle.monitor_run.specs.Headline.{EachScene, SomeAcceptFailed, ends_by}
+use Rattle.monitor_book.specs.declared.opened.Held.{Held}
 use Rattle.outside.specs.declared.faults.Faults.{Faults}
 use Rattle.outside.specs.declared.place.Place.{Place as SitePlace}
 use Rattle.outside.specs.Files.{Contents}
@@ -74,7 +75,7 @@ module _ {P : Type 0} (scene : P → Option Scene) (faults : P → Faults) where
     accept_seen : SomeAcceptFailed scene faults posts → SomeAcceptFailed (λ (p : PostNow). p.scene) (λ (p : PostNow). p.faults) (map (seen scene faults) posts)
     accept_seen failed = record { worker = failed.worker; post = seen scene faults failed.post; stands = stands posts failed.worker failed.post failed.stands; counted = failed.counted; told = failed.told }
 
-  module _ (source : Source) (status : ℕ) (journal : List Event) (posts : List P) (old new : Option Contents) (listens_old listens_new : Option (List SitePlace)) (held_old held_new : Option (List ℕ)) (R W L K : Type 0) where
+  module _ (source : Source) (status : ℕ) (journal : List Event) (posts : List P) (old new : Option Contents) (listens_old listens_new : Option (List SitePlace)) (held_old held_new : Held) (R W L K : Type 0) where
     seen_promises : (service : Service) → ServePromises source service status journal posts scene faults old new listens_old listens_new held_old held_new R W L K
         → ServePromises source service status journal (map (seen scene faults) posts) (λ (p : PostNow). p.scene) (λ (p : PostNow). p.faults) old new listens_old listens_new held_old held_new R W L K
     seen_promises service p = record {
@@ -109,7 +110,7 @@ module _ {P : Type 0} (scene : P → Option Scene) (faults : P → Faults) where
     }
 
 -- all that the mode promises of its posts, of what those tell
-pub seen_ended : {P : Type 0} (source : Source) (forms : List Key) (end : Result (Unit {0}) ServeError) (journal : List Event) (posts : List P) (scene : P → Option Scene) (faults : P → Faults) (old new : Option Contents) (listens_old listens_new : Option (List SitePlace)) (held_old held_new : Option (List ℕ)) (R W L K : Type 0)
+pub seen_ended : {P : Type 0} (source : Source) (forms : List Key) (end : Result (Unit {0}) ServeError) (journal : List Event) (posts : List P) (scene : P → Option Scene) (faults : P → Faults) (old new : Option Contents) (listens_old listens_new : Option (List SitePlace)) (held_old held_new : Held) (R W L K : Type 0)
     → ServeEnded source forms end journal posts scene faults old new listens_old listens_new held_old held_new R W L K
     → ServeEnded source forms end journal (map (seen scene faults) posts) (λ (p : PostNow). p.scene) (λ (p : PostNow). p.faults) old new listens_old listens_new held_old held_new R W L K
 seen_ended source forms end journal posts scene faults old new listens_old listens_new held_old held_new R W L K ended = record {

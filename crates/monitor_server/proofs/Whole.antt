@@ -3,6 +3,8 @@ use Rattle.std.proofs.Common.{◌≡◌, ◌≢◌, ◌⊎◌, ℕ, false, List,
 use Rattle.std.specs.Prelude.{is_some}
 use Rattle.info_hooks.specs.declared.key.Key.{Key}
 use Rattle.outside.specs.Files.{Contents, SameFiles}
+use Rattle.monitor_book.specs.Lines.{IsUnwritten}
+use Rattle.monitor_book.proofs.LogLemmas.{unwritten}
 use Rattle.outside.specs.Told.{Gains, Goes}
 use Rattle.outside.proofs.Exchanges.{Exchanged-none}
 use Rattle.outside.proofs.Told.{Gains-none, Goes-same}
@@ -26,7 +28,8 @@ use Rattle.recover_mode.specs.Words.{RecoverParts, recover_command}
 use Rattle.drill_mode.specs.declared.error.DrillError.TheVariants as drill_errors
 use Rattle.serve_mode.specs.declared.error.ServeError.TheVariants as serve_errors
 use Rattle.serve_mode.specs.Errors as serves
-use Rattle.serve_mode.specs.Words.{Plain, Source, serve_command}
+use Rattle.serve_mode.specs.Words.{Plain, Source, files_of, serve_command, setups_of}
+use Rattle.setup_reading.specs.Touching.{TouchesNamed}
 use Rattle.serve_mode.proofs.Promises.{memory_why, unserved_ended}
 use Rattle.otp_mode.specs.Command.{command_parts}
 use Rattle.child_mode.specs.Commands.{parts_of}
@@ -39,12 +42,14 @@ use Rattle.monitor_server.specs.declared.command.Unread.{Unread}
 use Rattle.monitor_server.specs.declared.command.Unread.TheVariants as unread
 use Rattle.monitor_server.specs.Alone.{IsRunOf, SparesRest, unread_answer}
 use Rattle.monitor_server.specs.declared.report.Detail.TheVariants.{Nothing}
-use Rattle.monitor_server.specs.Around.{Around, EndsNow, FilesGo, FilesNow, ListenRose, LogRose, ReadRose, ReplaceRose, Said, answer_in, only_answer, sides_of}
+use Rattle.monitor_server.specs.Around.{Around, EndsNow, FilesGo, FilesNow, ListenRose, LogRose, ReadRose, ReplaceRose, Said, answer_in, files_with, only_answer, sides_of}
 use Rattle.monitor_server.specs.Commands.{AsksAlone, IsCommand, IsReading, asks_audit, asks_check, asks_child, asks_drill, asks_enrol, asks_otp, asks_recover, asks_renew, asks_serve}
 use Rattle.monitor_server.specs.Headline.{IsStatus, StatusHasCause, UsesEndsAlone, UsesNothing}
 use Rattle.monitor_server.specs.Modes.{AuditRan, ChangesFiles, CheckRan, ChildRan, DrillRan, EnrolRan, LeavesRest, PasswordRan, RecoverRan, RenewRan, ServeRan, audit_detail, checked_detail, detail_of, recover_detail, renew_detail, serve_detail}
+use Rattle.monitor_server.specs.Touching.{TouchesFilesNamed, TouchesGiven}
 use Rattle.monitor_server.specs.Whole.{Whole}
 use Rattle.monitor_server.proofs.Apart.{AskOnly, Recover, Renew, none-some, only_audit, only_check, only_child, only_drill, only_enrol, only_otp, only_recover, only_renew, only_serve, spoken}
+use Rattle.monitor_server.proofs.Touching.{touches_alone, touches_same, touches_served}
 use Rattle.monitor_server.proofs.Told.{IsModeStatus, audit_plain, audit_status, check_detail, check_status, child_status, detail-by, drill_status, enrol_files, enrol_status, moded, password_detail, password_status, recover_plain, recover_status, renew_plain, renew_status, serve_command_status, serve_plain, serve_status, served, uncommanded, unremembered}
 
 -- ---- the files that are changed
@@ -116,9 +121,9 @@ taking_none (inl a) = inl a
 taking_none (inr b) = inr (b, refl)
 
 module _ {F S K E : Type 0} {words : List (List ℕ)} {forms : List Key} {contents : F → Option Contents} {before after : Around F S K E} {said : Said} where
-  pub whole-served : (source : Source) → asks_serve words ≡ Some source → ServeRan source forms contents before after said → (source ≡ Plain → after.files ≡ before.files) → after.ends ≡ before.ends
+  pub whole-served : (source : Source) → asks_serve words ≡ Some source → ServeRan source forms contents before after said → (source ≡ Plain → after.files ≡ before.files) → after.ends ≡ before.ends → TouchesNamed (files_of source) (setups_of source) (setups_of source) (files_with contents before.files) (files_with contents after.files)
       → Whole words forms contents before after said
-  whole-served source asked ran plain ends = let only = only_serve words source asked in record {
+  whole-served source asked ran plain ends touches = let only = only_serve words source asked in record {
     causes = served words source said.status asked (spoken serve_command words source asked) (subst IsStatus (sym ran.status_is) (serve_status ran.end)) (λ two. serve_command_status ran.end (sym ran.status_is ∙ two));
     serve = record { ran = λ other is. subst (λ s. ServeRan s forms contents before after said) (once source other (sym asked ∙ is)) ran };
     password = record { ran = λ other is. none-some (asks_otp words) other (only.otp refl) is };
@@ -147,13 +152,14 @@ module _ {F S K E : Type 0} {words : List (List ℕ)} {forms : List Key} {conten
       recovered = λ parts is. none-some (asks_recover words) parts (only.recover refl) is;
       unwritten = λ none _ _ _. none-some (asks_serve words) source none asked;
     };
+    touches = touches_served words contents before after source asked touches;
   } where
     once : (a b : Source) → Some a ≡ Some b → a ≡ b
     once a b e = cc
 
-  pub whole-password : (parts : OtpParts) → asks_otp words ≡ Some parts → PasswordRan parts contents (sides_of before) (sides_of after) (answer_in said) → UsesNothing before after said → (parts.list ≡ None → after.files ≡ before.files) → ((said.status ≡ 3) ⊎ (said.status ≡ 9) → after.ends ≡ before.ends) → ((said.status ≡ 4) ⊎ (said.status ≡ 5) ⊎ (said.status ≡ 13) → after.ends ≡ before.ends) → FilesGo SameFiles contents before.files after.files
+  pub whole-password : (parts : OtpParts) → asks_otp words ≡ Some parts → PasswordRan parts contents (sides_of before) (sides_of after) (answer_in said) → UsesNothing before after said → (parts.list ≡ None → after.files ≡ before.files) → ((said.status ≡ 3) ⊎ (said.status ≡ 9) → after.ends ≡ before.ends) → ((said.status ≡ 4) ⊎ (said.status ≡ 5) ⊎ (said.status ≡ 13) → after.ends ≡ before.ends) → FilesGo SameFiles contents before.files after.files → TouchesFilesNamed words contents before after
       → Whole words forms contents before after said
-  whole-password parts asked ran unused unread silent at_list goes =
+  whole-password parts asked ran unused unread silent at_list goes touches =
       let status_is = sym ran.status_is in
       let of : IsModeStatus said.status = subst IsModeStatus status_is (password_status ran.outcome) in
       let only = only_otp words parts asked in
@@ -174,11 +180,12 @@ module _ {F S K E : Type 0} {words : List (List ℕ)} {forms : List Key} {conten
         enrol = record { ran = λ other is. none-some (asks_enrol words) other (only.enrol refl) is };
         leaves = moded-leaves (only.serve refl) (λ none _ _ _ _. none-some (asks_otp words) parts none asked) (λ none _ _ _ _ _ _ _. none-some (asks_otp words) parts none asked) unused (λ other is none. unread (ap (λ (p : OtpParts). p.list) (let e : Some parts ≡ Some other = sym asked ∙ is in let same : parts ≡ other = cc in same) ∙ none)) (λ how. silent (three_or_nine how)) (λ _. at_list) (λ _. detail-by passwords.status_of detail_of ran.outcome said.status said.detail ran.status_is ran.detail_is (password_detail ran.outcome));
         changes = changes-none goes;
+        touches = touches;
       }
 
-  pub whole-checked : (setup : List ℕ) → asks_check words ≡ Some setup → CheckRan forms setup contents (sides_of before) (sides_of after) (answer_in said) → UsesNothing before after said → ((said.status ≡ 3) ⊎ (said.status ≡ 9) → after.ends ≡ before.ends) → FilesGo SameFiles contents before.files after.files
+  pub whole-checked : (setup : List ℕ) → asks_check words ≡ Some setup → CheckRan forms setup contents (sides_of before) (sides_of after) (answer_in said) → UsesNothing before after said → ((said.status ≡ 3) ⊎ (said.status ≡ 9) → after.ends ≡ before.ends) → FilesGo SameFiles contents before.files after.files → TouchesFilesNamed words contents before after
       → Whole words forms contents before after said
-  whole-checked setup asked ran unused silent goes =
+  whole-checked setup asked ran unused silent goes touches =
       let status_is = sym ran.status_is in
       let of : IsModeStatus said.status = subst IsModeStatus status_is (check_status ran.outcome) in
       let only = only_check words setup asked in
@@ -199,11 +206,12 @@ module _ {F S K E : Type 0} {words : List (List ℕ)} {forms : List Key} {conten
         enrol = record { ran = λ other is. none-some (asks_enrol words) other (only.enrol refl) is };
         leaves = moded-leaves (only.serve refl) (λ _ none _ _ _. none-some (asks_check words) setup none asked) (λ _ none _ _ _ _ _ _. none-some (asks_check words) setup none asked) unused (λ parts is _. none-some (asks_otp words) parts (only.otp refl) is) (λ how. silent (three_or_nine how)) (λ none _. none-some (asks_check words) setup none asked) (λ zero. detail-by checks.status_of checked_detail ran.outcome said.status said.detail ran.status_is ran.detail_is (check_detail ran.outcome (λ e. none-some (asks_check words) setup (zero (ran.status_is ∙ e)) asked)));
         changes = changes-none goes;
+        touches = touches;
       }
 
-  pub whole-child : (parts : ChildParts) → asks_child words ≡ Some parts → ChildRan parts before.ends after.ends said.status → said.detail ≡ Nothing → UsesNothing before after said → ((said.status ≡ 3) ⊎ (said.status ≡ 9) → after.ends ≡ before.ends) → ((said.status ≡ 4) ⊎ (said.status ≡ 5) ⊎ (said.status ≡ 13) → after.ends ≡ before.ends) → after.files ≡ before.files → FilesGo SameFiles contents before.files after.files
+  pub whole-child : (parts : ChildParts) → asks_child words ≡ Some parts → ChildRan parts before.ends after.ends said.status → said.detail ≡ Nothing → UsesNothing before after said → ((said.status ≡ 3) ⊎ (said.status ≡ 9) → after.ends ≡ before.ends) → ((said.status ≡ 4) ⊎ (said.status ≡ 5) ⊎ (said.status ≡ 13) → after.ends ≡ before.ends) → after.files ≡ before.files → FilesGo SameFiles contents before.files after.files → TouchesFilesNamed words contents before after
       → Whole words forms contents before after said
-  whole-child parts asked ran plain unused silent no_file files goes =
+  whole-child parts asked ran plain unused silent no_file files goes touches =
       let status_is = sym ran.status_is in
       let of : IsModeStatus said.status = subst IsModeStatus status_is (child_status ran.outcome) in
       let only = only_child words parts asked in
@@ -224,11 +232,12 @@ module _ {F S K E : Type 0} {words : List (List ℕ)} {forms : List Key} {conten
         enrol = record { ran = λ other is. none-some (asks_enrol words) other (only.enrol refl) is };
         leaves = moded-leaves (only.serve refl) (λ _ _ _ _ _. files) (λ _ _ none _ _ _ _ _. none-some (asks_child words) parts none asked) unused (λ _ _ _. files) (λ how. silent (three_or_nine how)) (λ _. no_file) (λ _ _ _ _ _ _. plain);
         changes = changes-none goes;
+        touches = touches;
       }
 
-  pub whole-audited : (parts : AuditParts) → asks_audit words ≡ Some parts → AuditRan parts contents (sides_of before) (sides_of after) (answer_in said) → UsesNothing before after said → ((said.status ≡ 3) ⊎ (said.status ≡ 9) → after.ends ≡ before.ends) → ((said.status ≡ 4) ⊎ (said.status ≡ 5) ⊎ (said.status ≡ 13) → after.ends ≡ before.ends) → FilesGo SameFiles contents before.files after.files
+  pub whole-audited : (parts : AuditParts) → asks_audit words ≡ Some parts → AuditRan parts contents (sides_of before) (sides_of after) (answer_in said) → UsesNothing before after said → ((said.status ≡ 3) ⊎ (said.status ≡ 9) → after.ends ≡ before.ends) → ((said.status ≡ 4) ⊎ (said.status ≡ 5) ⊎ (said.status ≡ 13) → after.ends ≡ before.ends) → FilesGo SameFiles contents before.files after.files → TouchesFilesNamed words contents before after
       → Whole words forms contents before after said
-  whole-audited parts asked ran unused silent at_file goes =
+  whole-audited parts asked ran unused silent at_file goes touches =
       let status_is = sym ran.status_is in
       let of : IsModeStatus said.status = subst IsModeStatus status_is (audit_status ran.outcome) in
       let only = only_audit words parts asked in
@@ -249,11 +258,12 @@ module _ {F S K E : Type 0} {words : List (List ℕ)} {forms : List Key} {conten
         enrol = record { ran = λ other is. none-some (asks_enrol words) other (only.enrol refl) is };
         leaves = moded-leaves (only.serve refl) (λ _ _ none _ _. none-some (asks_audit words) parts none asked) (λ _ _ _ none _ _ _ _. none-some (asks_audit words) parts none asked) unused (λ other is _. none-some (asks_otp words) other (only.otp refl) is) (λ how. silent (three_or_nine how)) (λ _. at_file) (λ _. detail-by audits.status_of audit_detail ran.outcome said.status said.detail ran.status_is ran.detail_is (audit_plain ran.outcome));
         changes = changes-none goes;
+        touches = touches;
       }
 
-  pub whole-renewed : (parts : RenewParts) → asks_renew words ≡ Some parts → RenewRan parts contents (sides_of before) (sides_of after) (answer_in said) → UsesNothing before after said → ((said.status ≡ 3) ⊎ (said.status ≡ 4) ⊎ (said.status ≡ 5) ⊎ (said.status ≡ 13) → after.ends ≡ before.ends)
+  pub whole-renewed : (parts : RenewParts) → asks_renew words ≡ Some parts → RenewRan parts contents (sides_of before) (sides_of after) (answer_in said) → UsesNothing before after said → ((said.status ≡ 3) ⊎ (said.status ≡ 4) ⊎ (said.status ≡ 5) ⊎ (said.status ≡ 13) → after.ends ≡ before.ends) → TouchesFilesNamed words contents before after
       → Whole words forms contents before after said
-  whole-renewed parts asked ran unused at_files =
+  whole-renewed parts asked ran unused at_files touches =
       let status_is = sym ran.status_is in
       let of : IsModeStatus said.status = subst IsModeStatus status_is (renew_status ran.outcome) in
       let only = only_renew words parts asked in
@@ -274,6 +284,7 @@ module _ {F S K E : Type 0} {words : List (List ℕ)} {forms : List Key} {conten
         enrol = record { ran = λ other is. none-some (asks_enrol words) other (only.enrol refl) is };
         leaves = moded-leaves (only.serve refl) (λ _ _ _ none _. none-some (asks_renew words) parts none asked) (λ _ _ _ _ none _ _ _. none-some (asks_renew words) parts none asked) unused (λ other is _. none-some (asks_otp words) other (only.otp refl) is) silent (λ _ how. at_files (inr how)) (λ _. detail-by renews.status_of renew_detail ran.outcome said.status said.detail ran.status_is ran.detail_is (renew_plain ran.outcome));
         changes = changes-renewed words parts contents before after said asked ran only;
+        touches = touches;
       } where
         silent : (said.status ≡ 3) ⊎ (said.status ≡ 9) × (asks_renew words ≡ None) × (asks_enrol words ≡ None) → after.ends ≡ before.ends
         silent (inl three) = at_files (inl three)
@@ -312,11 +323,12 @@ module _ {F S K E : Type 0} {words : List (List ℕ)} {forms : List Key} {conten
           plain = λ _ _ _ _ _ _. alone.plain;
         };
         changes = changes-none (kept_files contents before.files after.files alone.files);
+        touches = touches_same words contents before after alone.files;
       }
 
-  pub whole-recovered : (parts : RecoverParts) → asks_recover words ≡ Some parts → RecoverRan parts contents (sides_of before) (sides_of after) (answer_in said) → UsesNothing before after said → ((said.status ≡ 3) ⊎ (said.status ≡ 9) → after.ends ≡ before.ends) → ((said.status ≡ 4) ⊎ (said.status ≡ 5) ⊎ (said.status ≡ 13) → after.ends ≡ before.ends)
+  pub whole-recovered : (parts : RecoverParts) → asks_recover words ≡ Some parts → RecoverRan parts contents (sides_of before) (sides_of after) (answer_in said) → UsesNothing before after said → ((said.status ≡ 3) ⊎ (said.status ≡ 9) → after.ends ≡ before.ends) → ((said.status ≡ 4) ⊎ (said.status ≡ 5) ⊎ (said.status ≡ 13) → after.ends ≡ before.ends) → TouchesFilesNamed words contents before after
       → Whole words forms contents before after said
-  whole-recovered parts asked ran unused silent at_files =
+  whole-recovered parts asked ran unused silent at_files touches =
       let status_is = sym ran.status_is in
       let of : IsModeStatus said.status = subst IsModeStatus status_is (recover_status ran.outcome) in
       let only = only_recover words parts asked in
@@ -337,11 +349,12 @@ module _ {F S K E : Type 0} {words : List (List ℕ)} {forms : List Key} {conten
         enrol = record { ran = λ other is. none-some (asks_enrol words) other (only.enrol refl) is };
         leaves = moded-leaves (only.serve refl) (λ _ _ _ _ none. none-some (asks_recover words) parts none asked) (λ _ _ _ _ _ _ none _. none-some (asks_recover words) parts none asked) unused (λ other is _. none-some (asks_otp words) other (only.otp refl) is) (λ how. silent (three_or_nine how)) (λ _. at_files) (λ _. detail-by recoveries.status_of recover_detail ran.outcome said.status said.detail ran.status_is ran.detail_is (recover_plain ran.outcome));
         changes = changes-recovered words parts contents before after said asked ran only;
+        touches = touches;
       }
 
-  pub whole-enrolled : (parts : EnrolParts) → asks_enrol words ≡ Some parts → EnrolRan parts before.ends after.ends said.status → said.detail ≡ Nothing → UsesNothing before after said → after.files ≡ before.files → FilesGo SameFiles contents before.files after.files
+  pub whole-enrolled : (parts : EnrolParts) → asks_enrol words ≡ Some parts → EnrolRan parts before.ends after.ends said.status → said.detail ≡ Nothing → UsesNothing before after said → after.files ≡ before.files → FilesGo SameFiles contents before.files after.files → TouchesFilesNamed words contents before after
       → Whole words forms contents before after said
-  whole-enrolled parts asked ran plain unused files goes =
+  whole-enrolled parts asked ran plain unused files goes touches =
       let of : IsModeStatus said.status = subst IsModeStatus (sym ran.status_is) (enrol_status ran.outcome) in
       let only = only_enrol words parts asked in
       record {
@@ -361,6 +374,7 @@ module _ {F S K E : Type 0} {words : List (List ℕ)} {forms : List Key} {conten
         };
         leaves = moded-leaves (only.serve refl) (λ _ _ _ _ _. files) (λ _ _ _ _ _ _ _ none. none-some (asks_enrol words) parts none asked) unused (λ _ _ _. files) silent (λ _ how. absurd (enrol_files ran.outcome said.status ran.status_is (inr how))) (λ _ _ _ _ _ _. plain);
         changes = changes-none goes;
+        touches = touches;
       } where
         silent : (said.status ≡ 3) ⊎ (said.status ≡ 9) × (asks_renew words ≡ None) × (asks_enrol words ≡ None) → after.ends ≡ before.ends
         silent (inl three) = absurd (enrol_files ran.outcome said.status ran.status_is (inl three))
@@ -369,30 +383,37 @@ module _ {F S K E : Type 0} {words : List (List ℕ)} {forms : List Key} {conten
   -- a command that is done without threads
   pub whole-alone : (command : AloneCommand) → AsksAlone words command
       → IsRunOf command forms contents (sides_of before) (sides_of after) (answer_in said)
-      → SparesRest command contents (sides_of before) (sides_of after) said.status → UsesNothing before after said
+      → SparesRest command contents (sides_of before) (sides_of after) said.status → UsesNothing before after said → TouchesGiven command contents (sides_of before) (sides_of after)
       → Whole words forms contents before after said
-  whole-alone (alone.Password command) asked ran spares unused =
+  whole-alone (alone.Password command) asked ran spares unused given =
       whole-password (command_parts command) asked ran unused (λ none. spares.unread (ap is_some none))
       (λ how. spares.silent (taking_none how)) (spares.unprinted refl) (spares.unwritten refl)
-  whole-alone (alone.Check setup) asked ran spares unused =
+      (touches_alone words contents before after (alone.Password command) asked given)
+  whole-alone (alone.Check setup) asked ran spares unused given =
       whole-checked setup.now asked ran unused (λ how. spares.silent (taking_none how)) (spares.unwritten refl)
-  whole-alone (alone.Child command) asked ran spares unused =
+      (touches_alone words contents before after (alone.Check setup) asked given)
+  whole-alone (alone.Child command) asked ran spares unused given =
       whole-child (parts_of command) asked ran.0 ran.1 unused (λ how. spares.silent (taking_none how))
       (spares.unprinted refl) (spares.unread refl) (spares.unwritten refl)
-  whole-alone (alone.Audit command) asked ran spares unused =
+      (touches_alone words contents before after (alone.Child command) asked given)
+  whole-alone (alone.Audit command) asked ran spares unused given =
       whole-audited (audits_command.command_parts command) asked ran unused (λ how. spares.silent (taking_none how))
       (spares.unprinted refl) (spares.unwritten refl)
-  whole-alone (alone.Renew command) asked ran spares unused =
-      whole-renewed (renewals.command_parts command) asked ran unused at_files where
+      (touches_alone words contents before after (alone.Audit command) asked given)
+  whole-alone (alone.Renew command) asked ran spares unused given =
+      whole-renewed (renewals.command_parts command) asked ran unused at_files
+      (touches_alone words contents before after (alone.Renew command) asked given) where
         at_files : (said.status ≡ 3) ⊎ (said.status ≡ 4) ⊎ (said.status ≡ 5) ⊎ (said.status ≡ 13) → after.ends ≡ before.ends
         at_files (inl three) = spares.silent (inl three)
         at_files (inr how) = spares.unprinted refl how
-  whole-alone (alone.Recover command) asked ran spares unused =
+  whole-alone (alone.Recover command) asked ran spares unused given =
       whole-recovered (recoveries_command.command_parts command) asked ran unused
       (λ how. spares.silent (taking_none how)) (spares.unprinted refl)
-  whole-alone (alone.Enrol command) asked ran spares unused =
+      (touches_alone words contents before after (alone.Recover command) asked given)
+  whole-alone (alone.Enrol command) asked ran spares unused given =
       whole-enrolled (enrolments_command.command_parts command) asked ran.0 ran.1 unused (spares.unread refl)
       (spares.unwritten refl)
+      (touches_alone words contents before after (alone.Enrol command) asked given)
 
   -- nothing was done
   whole-nothing : StatusHasCause words said.status → (said.status ≡ 9) ⊎ (IsCommand words → ⊥) → said.detail ≡ Nothing → said.journal ≡ [] → said.posts ≡ [] → after ≡ before
@@ -421,6 +442,7 @@ module _ {F S K E : Type 0} {words : List (List ℕ)} {forms : List Key} {conten
       plain = λ _ _ _ _ _ _. plain;
     };
     changes = changes-none (kept_files contents before.files after.files files);
+    touches = touches_same words contents before after files;
   } where
     files : after.files ≡ before.files
     files = ap (λ (a : Around F S K E). a.files) same
@@ -444,7 +466,7 @@ module _ {F S K E : Type 0} {words : List (List ℕ)} {forms : List Key} {conten
 
     unremembered_serve : (source : Source) → said.status ≡ 9 → ServeRan source forms contents before after said
     unremembered_serve source is =
-        let logs = subst (λ (a : Around F S K E). Gains before.log.held [] a.log.held) (sym same) (Gains-none before.log.held) in
+        let logs = subst (λ (a : Around F S K E). IsUnwritten before.log.held a.log.held) (sym same) (unwritten before.log.held) in
         let placed = subst (λ (a : Around F S K E). Gains before.site.listens [] a.site.listens) (sym same) (Gains-none before.site.listens) in
         record {
           end = Err serve_errors.OutOfMemory;

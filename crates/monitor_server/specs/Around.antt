@@ -1,23 +1,36 @@
 -- Believed: what is around a call at one moment, what the call says, and the counts that rose meanwhile.
 use Rattle.std.specs.Prelude.{ℕ, List, [], Option, None}
+use Rattle.monitor_book.specs.declared.opened.Held.{Held}
 use Rattle.outside.specs.declared.faults.Faults.{Faults}
 use Rattle.outside.specs.declared.place.Place.{Place as SitePlace}
 use Rattle.outside.specs.Files.{Contents}
+use Rattle.outside.specs.FilesNow as told
 use Rattle.outside.specs.Link.{Link}
 use Rattle.outside.specs.Scene.{Scene}
 use Rattle.outside.specs.Told.{Goes, Rose}
+use Rattle.outside.specs.Touched.{Touched}
 use Rattle.policy_model.specs.declared.event.Event.{Event}
 use Rattle.monitor_server.specs.declared.report.Answer.{Answer}
 use Rattle.monitor_server.specs.declared.report.Detail.{Detail}
 
 -- ---- what is around a call
 
--- the files: themselves, and how many readings and replacings failed. A clause asks them what stands in them
--- (`contents files.it`), since a function is no part of a value
+-- the files: themselves, how many readings and replacings failed, which were touched; a clause asks them what stands in
+-- them (`contents files.it`), as a function is no value
 pub record FilesNow (F : Type 0) : Type 0 where
   pub it : F
   pub read_faults : ℕ
   pub replace_faults : ℕ
+  pub touched : Option Touched
+
+-- the files with what stands in them, of which this tells it
+abbrev pub files_with : {F : Type 0} → (F → Option Contents) → FilesNow F → told.FilesNow
+files_with contents files = record {
+  contents = contents files.it;
+  read_faults = files.read_faults;
+  replace_faults = files.replace_faults;
+  touched = files.touched;
+}
 
 -- the site: itself, where it tells that it listened, and how often it could not
 pub record SiteNow (S : Type 0) : Type 0 where
@@ -25,10 +38,10 @@ pub record SiteNow (S : Type 0) : Type 0 where
   pub listens : Option (List SitePlace)
   pub faults : ℕ
 
--- the log: itself, the bytes that it tells that it holds, and how many appends failed
+-- the log: itself, what it tells that it holds, by its bytes and by the lengths of its appends, and how many failed
 pub record LogNow (K : Type 0) : Type 0 where
   pub it : K
-  pub held : Option (List ℕ)
+  pub held : Held
   pub faults : ℕ
 
 -- the ends: themselves, what they tell of the bytes that pass, and how many calls failed
@@ -58,7 +71,7 @@ abbrev pub only_sides : {F E : Type 0} → SidesNow F E → Around F (Unit {0}) 
 only_sides sides = record {
   files = sides.files;
   site = record { it = tt; listens = None; faults = 0 };
-  log = record { it = tt; held = None; faults = 0 };
+  log = record { it = tt; held = record { bytes = None; lengths = None }; faults = 0 };
   ends = sides.ends;
 }
 

@@ -4,3 +4,4 @@ pub mod Headline
 pub mod Modes
 pub mod Whole
 pub mod Alone
+pub mod Touching

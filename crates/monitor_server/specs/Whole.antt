@@ -6,6 +6,7 @@ use Rattle.monitor_server.specs.Around.{Around, Said}
 use Rattle.monitor_server.specs.Headline.{StatusHasCause}
 use Rattle.monitor_server.specs.Modes.{AuditMode, ChangesFiles, CheckMode, ChildMode, DrillMode, EnrolMode, LeavesRest}
 use Rattle.monitor_server.specs.Modes.{PasswordMode, RecoverMode, RenewMode, ServeMode}
+use Rattle.monitor_server.specs.Touching.{TouchesFilesNamed}
 
 -- all that the top call promises of a command line, a part a mode
 pub record Whole {F S K E : Type 0} (words : List (List ℕ)) (forms : List Key) (contents : F → Option Contents)
@@ -22,3 +23,4 @@ pub record Whole {F S K E : Type 0} (words : List (List ℕ)) (forms : List Key)
   pub enrol : EnrolMode words before after said
   pub leaves : LeavesRest words before after said
   pub changes : ChangesFiles words contents before after said
+  pub touches : TouchesFilesNamed words contents before after

@@ -4,6 +4,7 @@ ghost use Rattle.std.specs.Prelude.{◌≡◌, IfSome, None};
 ghost use Rattle.monitor_server.specs.Alone.{IsDoneAlone, IsRunOf, NeedsThreads, SparesRest, unread_answer};
 ghost use Rattle.monitor_server.specs.Around.{answer_in, sides_of};
 ghost use Rattle.monitor_server.specs.Headline.{UsesNothing};
+ghost use Rattle.monitor_server.specs.Touching.{TouchesGiven};
 
 use crate::command::{AloneCommand, Command, Unread, read_command};
 use crate::modes::{
@@ -43,6 +44,7 @@ fn answer<F: Files, E: Stream, I: Information>(
 ) -> Answer
     ensures ran { IsRunOf command.entry (I.forms information.now) F.contents sides.old sides.new result }
     ensures spares { SparesRest command.entry F.contents sides.old sides.new result.status }
+    ensures touches { TouchesGiven command.entry F.contents sides.old sides.new }
 {
     match command {
         AloneCommand::Password(command) => print_password(alloc, &command, sides),
@@ -65,6 +67,7 @@ pub(crate) fn answer_within<F: Files, S: Site, K: Sink, E: Stream, I: Informatio
     ensures ran { IsRunOf command.entry (I.forms information.now) F.contents
         (sides_of world) (sides_of result.world) (answer_in result.said) }
     ensures spares { SparesRest command.entry F.contents (sides_of world) (sides_of result.world) result.said.status }
+    ensures touches { TouchesGiven command.entry F.contents (sides_of world) (sides_of result.world) }
     ensures unused { UsesNothing world result.world result.said }
 {
     let World {

@@ -12,10 +12,13 @@ ghost use Rattle.recover_mode.specs.Commands as recoveries;
 ghost use Rattle.monitor_server.specs.declared.command.AloneCommand.TheVariants as alone;
 ghost use Rattle.monitor_server.specs.declared.report.Detail.TheVariants.{Nothing};
 ghost use Rattle.serve_mode.specs.Commands as serves;
-ghost use Rattle.serve_mode.specs.Words.{Plain};
+ghost use Rattle.serve_mode.specs.Words.{Plain, files_of, setups_of};
+ghost use Rattle.setup_reading.specs.Touching.{TouchesNamed};
 ghost use Rattle.monitor_server.specs.Alone.{SparesRest};
+ghost use Rattle.monitor_server.specs.Around.{files_with};
 ghost use Rattle.monitor_server.specs.Headline.{UsesEndsAlone};
 ghost use Rattle.monitor_server.specs.Modes.{AuditRan, CheckRan, ChildRan, DrillRan, EnrolRan, PasswordRan, RecoverRan};
+ghost use Rattle.monitor_server.specs.Touching.{TouchesGiven};
 ghost use Rattle.monitor_server.specs.Modes.{RenewRan, ServeRan, audit_detail, detail_of, finding_detail};
 ghost use Rattle.monitor_server.specs.Modes.{recover_detail, renew_detail, serve_detail};
 
@@ -57,6 +60,9 @@ pub(crate) fn serve_setup<
         world result.world result.said }
     ensures plain { serves.source_of command.now ≡ Plain → result.world.files ≡ world.files }
     ensures ends { result.world.ends ≡ world.ends }
+    ensures touches { let source = serves.source_of command.now in
+        TouchesNamed (files_of source) (setups_of source) (setups_of source) (files_with F.contents world.files)
+        (files_with F.contents result.world.files) }
     ensures logged { has_lost result.said.journal ≡ false → result.world.log.faults ≡ world.log.faults }
 {
     let World {
@@ -112,6 +118,7 @@ pub(crate) fn print_password<F: Files, E: Stream>(
 ) -> Answer
     ensures password { PasswordRan (command_parts command.now) F.contents sides.old sides.new result }
     ensures spares { SparesRest (alone.Password command.now) F.contents sides.old sides.new result.status }
+    ensures touches { TouchesGiven (alone.Password command.now) F.contents sides.old sides.new }
 {
     let outcome = run_otp(alloc, command, &mut sides.files, &mut sides.ends);
     Answer {
@@ -152,6 +159,7 @@ pub(crate) fn check_setup<F: Files, I: Information, E: Stream>(
 ) -> Answer
     ensures check { CheckRan (I.forms information.now) setup.now F.contents sides.old sides.new result }
     ensures spares { SparesRest (alone.Check setup.entry) F.contents sides.old sides.new result.status }
+    ensures touches { TouchesGiven (alone.Check setup.entry) F.contents sides.old sides.new }
 {
     match run_check(alloc, setup, information, &mut sides.files, &mut sides.ends) {
         Ok(finding) => Answer {
@@ -191,6 +199,7 @@ pub(crate) fn run_child<F: Files, E: Stream>(
     ensures child { ChildRan (parts_of command.now) sides.old.ends sides.new.ends result.status }
     ensures detail { result.detail ≡ Nothing }
     ensures spares { SparesRest (alone.Child command.now) F.contents sides.old sides.new result.status }
+    ensures touches { TouchesGiven (alone.Child command.now) F.contents sides.old sides.new }
 {
     let run = run_child_mode(alloc, command, &mut sides.ends);
     Answer::plain(run.status())
@@ -204,6 +213,7 @@ pub(crate) fn audit_log<F: Files, E: Stream>(
 ) -> Answer
     ensures audit { AuditRan (audits.command_parts command.now) F.contents sides.old sides.new result }
     ensures spares { SparesRest (alone.Audit command.now) F.contents sides.old sides.new result.status }
+    ensures touches { TouchesGiven (alone.Audit command.now) F.contents sides.old sides.new }
 {
     let outcome = run_audit(alloc, command, &mut sides.files, &mut sides.ends);
     Answer {
@@ -240,6 +250,7 @@ pub(crate) fn renew_account<F: Files, E: Stream>(
 ) -> Answer
     ensures renew { RenewRan (renewals.command_parts command.now) F.contents sides.old sides.new result }
     ensures spares { SparesRest (alone.Renew command.now) F.contents sides.old sides.new result.status }
+    ensures touches { TouchesGiven (alone.Renew command.now) F.contents sides.old sides.new }
 {
     let outcome = run_renew(alloc, command, &mut sides.files, &mut sides.ends);
     Answer {
@@ -275,6 +286,7 @@ pub(crate) fn recover_accounts<F: Files, E: Stream>(
 ) -> Answer
     ensures recover { RecoverRan (recoveries.command_parts command.now) F.contents sides.old sides.new result }
     ensures spares { SparesRest (alone.Recover command.now) F.contents sides.old sides.new result.status }
+    ensures touches { TouchesGiven (alone.Recover command.now) F.contents sides.old sides.new }
 {
     let outcome = run_recover(alloc, command, &mut sides.files, &mut sides.ends);
     Answer {
@@ -306,6 +318,7 @@ pub(crate) fn print_account<F: Files, E: Stream>(
     ensures enrol { EnrolRan (enrolments.command_parts command.now) sides.old.ends sides.new.ends result.status }
     ensures detail { result.detail ≡ Nothing }
     ensures spares { SparesRest (alone.Enrol command.now) F.contents sides.old sides.new result.status }
+    ensures touches { TouchesGiven (alone.Enrol command.now) F.contents sides.old sides.new }
 {
     match run_enrol(alloc, command, &mut sides.ends) {
         Ok(()) => Answer::plain(0),

@@ -5,6 +5,7 @@ ghost use Rattle.policy_model.specs.Journal.{has_lost};
 ghost use Rattle.monitor_server.specs.Headline.{StatusHasCause};
 ghost use Rattle.monitor_server.specs.Modes.{AuditMode, ChangesFiles, CheckMode, ChildMode, DrillMode, EnrolMode};
 ghost use Rattle.monitor_server.specs.Modes.{LeavesRest, PasswordMode, RecoverMode, RenewMode, ServeMode};
+ghost use Rattle.monitor_server.specs.Touching.{TouchesFilesNamed};
 ghost use Rattle.monitor_server.specs.Whole.{Whole};
 
 use crate::alone::answer_within;
@@ -110,6 +111,8 @@ pub fn otplogd<
     ensures leaves { LeavesRest words.now world result.world result.said }
     // No mode but `serve`, `renew` and `recover` writes a file: `renew` the setup's alone, `recover` it and the log's.
     ensures changes { ChangesFiles words.now F.contents world result.world result.said }
+    // No file is read but those that the words name and the list of a setup so named; none replaced that no mode may.
+    ensures touches { TouchesFilesNamed words.now F.contents world result.world }
 {
     run_command(rt, alloc, words, world, information)
 }

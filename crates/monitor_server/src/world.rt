@@ -18,6 +18,7 @@ pub struct World<F: Files, S: Site, K: Sink, E: Stream> {
 }
 
 impl<F: Files, S: Site, K: Sink, E: Stream> Model for World<F, S, K, E> {
+    ghost use Rattle.monitor_book.specs.Lines.{held_by};
     ghost use Rattle.monitor_server.specs.Around.{Around};
 
     ghost Value = { Around F S K E };
@@ -27,9 +28,10 @@ impl<F: Files, S: Site, K: Sink, E: Stream> Model for World<F, S, K, E> {
         it = w.files;
         read_faults = F.read_faults w.files;
         replace_faults = F.replace_faults w.files;
+        touched = F.touched w.files;
       };
       site = record { it = w.site; listens = S.listens w.site; faults = S.listen_faults w.site };
-      log = record { it = w.log; held = K.held w.log; faults = K.faults w.log };
+      log = record { it = w.log; held = held_by K.held K.lengths w.log; faults = K.faults w.log };
       ends = record { it = w.ends; link = E.link w.ends; faults = E.faults w.ends };
     } };
 }
@@ -53,6 +55,7 @@ impl<F: Files, E: Stream> Model for Sides<F, E> {
         it = s.files;
         read_faults = F.read_faults s.files;
         replace_faults = F.replace_faults s.files;
+        touched = F.touched s.files;
       };
       ends = record { it = s.ends; link = E.link s.ends; faults = E.faults s.ends };
     } };

@@ -1,9 +1,9 @@
 //! The mode.
 
 ghost use Rattle.std.specs.Prelude.{◌≡◌, ◌≤◌, None, true};
-ghost use Rattle.std.specs.Option.{option_copied};
-ghost use Rattle.outside.specs.Files.{SameFiles};
-ghost use Rattle.outside.specs.Told.{Goes, Rose};
+ghost use Rattle.std.specs.Option.{option_copied, option_to_list};
+ghost use Rattle.outside.specs.FilesNow.{OnlyReads, files_now};
+ghost use Rattle.outside.specs.Told.{Rose};
 ghost use Rattle.otp_mode.specs.Command.{command_parts};
 ghost use Rattle.otp_mode.specs.Exact.{IsExact};
 ghost use Rattle.otp_mode.specs.Outcome.{IsOutcome, IsPrinting, ends_at_list};
@@ -39,9 +39,8 @@ pub fn run_otp<F: Files, E: Stream>(
         (Rose (E.faults ends.old) (E.faults ends.new)) result }
     ensures no_list { (command_parts command.now).list ≡ None → files.new ≡ files.old }
     ensures at_list { ends_at_list result ≡ true → ends.new ≡ ends.old }
-    ensures kept { Goes SameFiles (F.contents files.old) (F.contents files.new) }
-    ensures read_faults { F.read_faults files.old ≤ F.read_faults files.new }
-    ensures replace_faults { F.replace_faults files.old ≤ F.replace_faults files.new }
+    ensures files { let now = files_now F.contents F.read_faults F.replace_faults F.touched in
+        OnlyReads (option_to_list (command_parts command.now).list) (now files.old) (now files.new) }
     ensures faults { E.faults ends.old ≤ E.faults ends.new }
 {
     let list = match command.list {

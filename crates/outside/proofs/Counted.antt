@@ -9,7 +9,7 @@ use Rattle.outside.specs.declared.act.Talk.{Talk}
 use Rattle.outside.specs.declared.faults.Faults.{Faults}
 use Rattle.outside.specs.Faults.{count_after}
 use Rattle.outside.specs.Link.{Link}
-use Rattle.outside.specs.Scene.{CountsAsTold, Did, GivenBack, Played, Scene, counted, is_failed_accept, is_failed_conn, is_failed_start, is_failed_vault}
+use Rattle.outside.specs.Scene.{CountsAsTold, Did, GivenBack, Played, Scene, counted, is_failed_accept, is_failed_conn, is_failed_start, is_failed_vault, talk_by}
 use Rattle.outside.specs.Told.{Goes, next_count}
 
 -- a count after an act: one more where the act failed
@@ -53,7 +53,7 @@ counts_did act before after f g did counts told = counts_goes act [] [] before a
 pub counts_given_back : (role : Role) (link : Option Link) (before after : Option Scene) (f g : Faults) → GivenBack role link before after → g.accept ≡ f.accept → g.keeper ≡ f.keeper → g.conn ≡ f.conn → g.vault ≡ f.vault → IfSome before (λ s. CountsAsTold s f) → IfSome after (λ s. CountsAsTold s g)
 counts_given_back role None before after f g given accept keeper conn vault told = subst (λ scene. IfSome scene (λ s. CountsAsTold s g)) (sym given) tt
 counts_given_back role (Some link) before after f g given accept keeper conn vault told =
-    counts_goes (Finish role) (record { role = role; taken = link.taken; sent = link.sent } ∷ []) (link.left ∷ []) before after f g given (record { accept = accept; keeper = keeper; conn = conn; vault = vault }) told
+    counts_goes (Finish role) (talk_by role link ∷ []) (link.left ∷ []) before after f g given (record { accept = accept; keeper = keeper; conn = conn; vault = vault }) told
 
 -- by ceasing to tell
 pub counts_ceased : (after : Option Scene) (g : Faults) → after ≡ None → IfSome after (λ s. CountsAsTold s g)

@@ -8,3 +8,5 @@ mod FileLemmas
 pub mod ReceivingLemmas
 pub mod ScriptLemmas
 mod VaultLemmas
+pub mod Touching
+pub mod OnlyReading

@@ -8,6 +8,8 @@ pub mod Failures
 pub mod Repeating
 pub mod Output
 pub mod Files
+pub mod Touched
+pub mod FilesNow
 pub mod MemStream
 pub mod MemSink
 pub mod MemFiles

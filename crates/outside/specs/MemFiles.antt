@@ -7,6 +7,7 @@ use Rattle.outside.specs.declared.memory.files.MemFiles.{MemFiles}
 use Rattle.outside.specs.Failures.{failure_of}
 use Rattle.outside.specs.Files.{Contents}
 use Rattle.outside.specs.Told.{next_count, told_if}
+use Rattle.outside.specs.Touched.{Touched}
 
 -- the bytes of the first of these pairs that has the name, if there is one
 abbrev pub file_of : List (List ℕ × List ℕ) → List ℕ → Option (List ℕ)
@@ -23,6 +24,10 @@ read_faults_of f = f.read_faults
 -- how many replacings failed
 abbrev pub replace_faults_of : MemFiles → ℕ
 replace_faults_of f = f.replace_faults
+
+-- which files were read and which replaced, if they tell it
+abbrev pub touched_of : MemFiles → Option Touched
+touched_of f = told_if f.tells_touched f.touched
 
 -- what files in memory go by: the calls that are to fail, and how many of each kind were asked of
 -- them

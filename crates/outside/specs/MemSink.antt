@@ -5,11 +5,15 @@ use Rattle.outside.specs.declared.memory.fail.Fail.{Fail}
 use Rattle.outside.specs.declared.memory.sink.MemSink.{MemSink}
 use Rattle.outside.specs.Failures.{failure_of}
 use Rattle.outside.specs.Output.{told_bytes}
-use Rattle.outside.specs.Told.{next_count}
+use Rattle.outside.specs.Told.{next_count, told_if}
 
 -- the bytes that the sink holds, if it tells them
 abbrev pub held_of : MemSink → Option (List ℕ)
 held_of s = told_bytes s.output
+
+-- the lengths of its appends, if it tells them
+abbrev pub lengths_of : MemSink → Option (List ℕ)
+lengths_of s = told_if s.output.telling s.lengths.items
 
 -- how many faults it had
 abbrev pub faults_of : MemSink → ℕ

@@ -1,22 +1,28 @@
 -- Inner: what contracts see of a stream in memory.
-use Rattle.std.specs.Prelude.{◌≡◌, ℕ, List, take, drop, Option}
+use Rattle.std.specs.Prelude.{◌≡◌, ℕ, List, [], take, drop, Option, Some}
 use Rattle.outside.specs.declared.act.Role.{Role}
 use Rattle.outside.specs.declared.memory.fail.CallKind.TheVariants.{Recv, Send}
 use Rattle.outside.specs.declared.memory.fail.Fail.{Fail}
 use Rattle.outside.specs.declared.memory.stream.Closed.{Closed}
 use Rattle.outside.specs.declared.memory.stream.MemStream.{MemStream}
 use Rattle.outside.specs.Failures.{failure_of}
+use Rattle.outside.specs.declared.receiving.Receiving.{Receiving}
 use Rattle.outside.specs.Link.{Link}
+use Rattle.outside.specs.Scene.{talk_by}
 use Rattle.outside.specs.Told.{next_count, told_if}
 
 -- what a stream that has received so many bytes of its input tells
-abbrev pub link_at : List ℕ → List ℕ → ℕ → Link
-link_at input sent received =
-    record { left = drop received input; taken = take received input; sent = sent }
+abbrev pub link_at : List ℕ → List ℕ → ℕ → Option (List Receiving) → Link
+link_at input sent received receivings =
+    record { left = drop received input; taken = take received input; sent = sent; receivings = receivings }
+
+-- what a stream tells that has these bytes to send, and is asked nothing yet
+abbrev pub unused_link : List ℕ → Option (List Receiving) → Link
+unused_link input receivings = record { left = input; taken = []; sent = []; receivings = receivings }
 
 -- what the stream tells
 abbrev pub link_of : MemStream → Option Link
-link_of s = told_if s.output.telling (link_at s.input.items s.output.bytes.items s.taken)
+link_of s = told_if s.output.telling (link_at s.input.items s.output.bytes.items s.taken (Some s.receivings))
 
 -- how many faults it had
 abbrev pub faults_of : MemStream → ℕ
@@ -49,5 +55,5 @@ send_failure s = failure_of s.fails Send (next_count s.sends)
 
 -- what a stream to a child of this role told, as it stands once the stream is closed
 pub record IsClosed (role : Role) (closed : Closed) (link : Link) : Type 0 where
-  pub talk : closed.talk ≡ record { role = role; taken = link.taken; sent = link.sent }
+  pub talk : closed.talk ≡ talk_by role link
   pub unread : closed.unread ≡ link.left

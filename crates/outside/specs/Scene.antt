@@ -73,18 +73,23 @@ bytes_at role plan (suc k) = unwrap_or (option_map (bytes_for role) (slice_get p
 abbrev pub planned_bytes : Scene → Role → List ℕ
 planned_bytes scene role = bytes_at role scene.plan (came_count scene.acts)
 
--- a child that was just started: nothing taken from it or sent to it
+-- a child that was just started: nothing taken from it or sent to it, and no receiving asked of it
 pub record IsUnused (link : Link) : Type 0 where
   pub taken : link.taken ≡ []
   pub sent : link.sent ≡ []
+  pub unasked : IfSome link.receivings (λ receivings. receivings ≡ [])
+
+-- what passed with a child of this role, by what its stream reports
+abbrev pub talk_by : Role → Link → Talk
+talk_by role link =
+    record { role = role; taken = link.taken; sent = link.sent; receivings = link.receivings }
 
 -- a child was given back: where it tells, its bytes go to what the post tells; else the post
 -- doesn't tell any more
 abbrev pub GivenBack : Role → Option Link → Option Scene → Option Scene → Type 0
 GivenBack role None before after = after ≡ None
 GivenBack role (Some link) before after =
-    Goes (Played (Finish role ∷ []) (record { role = role; taken = link.taken; sent = link.sent } ∷ [])
-    (link.left ∷ [])) before after
+    Goes (Played (Finish role ∷ []) (talk_by role link ∷ []) (link.left ∷ [])) before after
 
 -- nothing was asked of a post yet
 pub record IsUnplayed (scene : Scene) : Type 0 where

@@ -1,4 +1,5 @@
 use crate::bytes::Bytes;
+use crate::receiving::Receivings;
 use request_catalogue::{Label, Name};
 
 /// A fault of the outside. An object answers it only where its count of such faults rose in the
@@ -78,10 +79,12 @@ pub enum Act {
 }
 
 /// What passed between the monitor and a child that was given back: the bytes `taken` from the
-/// child and those `sent` to it, each in order.
-#[derive(PartialEq, Drop)]
+/// child and those `sent` to it, each in order, and each receiving that was asked of its stream,
+/// where the stream told these.
+#[derive(Drop)]
 pub struct Talk {
     pub role: Role,
     pub taken: Bytes,
     pub sent: Bytes,
+    pub receivings: Option<Receivings>,
 }

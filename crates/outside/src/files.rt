@@ -2,6 +2,7 @@ ghost use Rattle.std.specs.Prelude.{◌≡◌, ℕ, ◌≤◌, length, Option, I
 ghost use Rattle.outside.specs.Files.{Contents, MayBeReplaced, Replaced, SameFiles, bytes_read, piece_of};
 ghost use Rattle.outside.specs.Faults.{count_after};
 ghost use Rattle.outside.specs.Told.{Goes};
+ghost use Rattle.outside.specs.Touched.{HasRead, HasReplaced, MayHaveRead, MayHaveReplaced, Touched};
 
 use crate::act::Failed;
 use crate::bytes::Word;
@@ -17,6 +18,9 @@ pub trait Files: Drop {
     // How many replacings failed.
     ghost replace_faults: { Self → ℕ };
 
+    // Which files were read and which replaced, where they tell it.
+    ghost touched: { Self → Option Touched };
+
     /// Reads a file from the byte at `offset` on into the front of `buf`, and answers how many
     /// bytes: as many as `buf` has room for, or as many as there are. `None`: there is no such
     /// file.
@@ -27,7 +31,10 @@ pub trait Files: Drop {
         ensures same { Goes SameFiles (contents self.old) (contents self.new) }
         ensures counts { read_faults self.new ≡ count_after result (read_faults self.old) }
         ensures kept { read_faults self.old ≤ read_faults self.new }
-        ensures others { replace_faults self.new ≡ replace_faults self.old };
+        ensures others { replace_faults self.new ≡ replace_faults self.old }
+        ensures touched_ok { OnOk result (Goes (HasRead name.now) (touched self.old) (touched self.new)) }
+        ensures touched_err { OnErr result (Goes (MayHaveRead name.now) (touched self.old)
+            (touched self.new)) };
 
     /// Replaces what a file holds, or makes the file. `Failed`: it is as it was, or has been
     /// replaced.
@@ -38,5 +45,9 @@ pub trait Files: Drop {
             (contents self.new)) }
         ensures counts { replace_faults self.new ≡ count_after result (replace_faults self.old) }
         ensures kept { replace_faults self.old ≤ replace_faults self.new }
-        ensures others { read_faults self.new ≡ read_faults self.old };
+        ensures others { read_faults self.new ≡ read_faults self.old }
+        ensures touched_ok { OnOk result (Goes (HasReplaced name.now) (touched self.old)
+            (touched self.new)) }
+        ensures touched_err { OnErr result (Goes (MayHaveReplaced name.now) (touched self.old)
+            (touched self.new)) };
 }

@@ -11,9 +11,11 @@ mod files;
 mod memory;
 mod place;
 mod post;
+mod receiving;
 mod sink;
 mod site;
 mod stream;
+mod touched;
 
 pub use act::{Accepted, Act, Failed, Role, Talk};
 pub use bytes::{Bytes, Word};
@@ -24,6 +26,8 @@ pub use memory::{
 };
 pub use place::Place;
 pub use post::Post;
+pub use receiving::{Receiving, Receivings};
 pub use sink::Sink;
 pub use site::Site;
 pub use stream::Stream;
+pub use touched::FileNames;

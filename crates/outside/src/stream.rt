@@ -1,6 +1,6 @@
 ghost use Rattle.std.specs.Prelude.{◌≡◌, ℕ, ◌<◌, ◌≤◌, [], length, Option, IfOk, IfSome, OnErr, OnOk};
 ghost use Rattle.outside.specs.declared.act.Role.{Role};
-ghost use Rattle.outside.specs.Link.{Exchanged, Link, SendsPart, received_bytes};
+ghost use Rattle.outside.specs.Link.{Exchanged, IsAskedOnce, IsUnasked, Link, SendsPart, received_bytes};
 ghost use Rattle.outside.specs.Faults.{count_after};
 ghost use Rattle.outside.specs.Told.{Goes};
 
@@ -24,6 +24,7 @@ pub trait Stream: Drop + Send {
         ensures bound { IfOk result (λ n. n ≤ length buf.old) }
         ensures link { Goes (Exchanged (received_bytes result buf.new) []) (link self.old)
             (link self.new) }
+        ensures asked { Goes IsAskedOnce (link self.old) (link self.new) }
         ensures end { result ≡ Ok 0 → IfSome (link self.new) (λ l. l.left ≡ []) }
         ensures counts { faults self.new ≡ count_after result (faults self.old) }
         ensures kept { faults self.old ≤ faults self.new }
@@ -33,6 +34,7 @@ pub trait Stream: Drop + Send {
     fn send(&mut self, bytes: &[u8]) -> Result<(), Failed>
         ensures ok { OnOk result (Goes (Exchanged [] bytes.now) (link self.old) (link self.new)) }
         ensures part { OnErr result (SendsPart bytes.now (link self.old) (link self.new)) }
+        ensures unasked { Goes IsUnasked (link self.old) (link self.new) }
         ensures counts { faults self.new ≡ count_after result (faults self.old) }
         ensures kept { faults self.old ≤ faults self.new }
         ensures role { role self.new ≡ role self.old };

@@ -1,5 +1,6 @@
 -- Inner: what contracts see of real files.
-use Rattle.std.specs.Prelude.{ℕ}
+use Rattle.std.specs.Prelude.{ℕ, Option, Some}
+use Rattle.outside.specs.Touched.{Touched}
 use Rattle.outside_real.specs.declared.files.RealFiles.{RealFiles}
 use Rattle.outside_real.specs.declared.seen.SeenFiles.{SeenFiles}
 
@@ -14,3 +15,7 @@ replace_faults_of f = f.replace_faults
 -- how each file was found that was read
 abbrev pub seen_of : {R : Type 0} → RealFiles R → SeenFiles
 seen_of f = f.seen
+
+-- which files were read and which replaced: it is always told
+abbrev pub touched_of : {R : Type 0} → RealFiles R → Option Touched
+touched_of f = Some f.touched

@@ -1,6 +1,8 @@
-ghost use Rattle.std.specs.Prelude.{◌≡◌, ◌<◌, ◌≤◌, IfOk, IfSome, IsSome, None, OnErr, length, take};
+ghost use Rattle.std.specs.Prelude.{◌≡◌, ◌<◌, ◌≤◌, [], IfOk, IfSome, IsSome, None, OnErr, OnOk, Some, length, take};
 ghost use Rattle.std.specs.Io.KnownBytes.{Consumes, IsAtEnd};
 ghost use Rattle.outside.specs.Faults.{count_after};
+ghost use Rattle.outside.specs.Told.{Goes};
+ghost use Rattle.outside.specs.Touched.{HasRead, HasReplaced, MayHaveRead, MayHaveReplaced};
 ghost use Rattle.outside_real.specs.Findings.{KeepsFindings, SameOthers, found_at};
 
 use crate::again::read_again;
@@ -8,7 +10,7 @@ use crate::counted::counted;
 use crate::named::Identity;
 use crate::replacing::replace_file;
 use crate::seen::{Found, SeenFiles};
-use outside::{Failed, Files, Word};
+use outside::{Failed, FileNames, Files, Word};
 use std::alloc::Global;
 use std::fs::File;
 use std::io;
@@ -27,6 +29,7 @@ pub struct RealFiles<R> {
     alloc: Global,
     reading: Option<Reading>,
     seen: SeenFiles,
+    touched: FileNames,
     last: LastCall,
     read_faults: u64,
     replace_faults: u64,
@@ -73,18 +76,20 @@ impl LastCall {
 }
 
 impl<R> RealFiles<R> {
-    ghost use Rattle.outside_real.specs.RealFiles.{read_faults_of, replace_faults_of};
+    ghost use Rattle.outside_real.specs.RealFiles.{read_faults_of, replace_faults_of, touched_of};
 
     /// The files that this runtime reaches.
     pub fn new(rt: R, alloc: Global) -> RealFiles<R>
         ensures read_faultless { read_faults_of result ≡ 0 }
         ensures replace_faultless { replace_faults_of result ≡ 0 }
+        ensures untouched { touched_of result ≡ Some (record { read = []; replaced = [] }) }
     {
         RealFiles {
             rt,
             alloc,
             reading: None,
             seen: SeenFiles::new(alloc),
+            touched: FileNames::none(alloc),
             last: LastCall::none(),
             read_faults: 0,
             replace_faults: 0,
@@ -106,7 +111,7 @@ impl<R> RealFiles<R> {
 }
 
 impl<R: FileSystem<File = File> + Drop> Files for RealFiles<R> {
-    ghost use Rattle.outside_real.specs.RealFiles.{read_faults_of, replace_faults_of, seen_of};
+    ghost use Rattle.outside_real.specs.RealFiles.{read_faults_of, replace_faults_of, seen_of, touched_of};
 
     ghost contents = { λ _. None };
 
@@ -114,15 +119,25 @@ impl<R: FileSystem<File = File> + Drop> Files for RealFiles<R> {
 
     ghost replace_faults = { replace_faults_of };
 
+    ghost touched = { touched_of };
+
     /// Reads from the offset on until the buffer is full or the file ends.
     fn read(&mut self, name: &Word, offset: u64, buf: &mut [u8]) -> Result<Option<usize>, Failed>
         ensures bound { IfOk result (λ found. IfSome found (λ n. n ≤ length buf.old)) }
         ensures counts { read_faults_of self.new ≡ count_after result (read_faults_of self.old) }
         ensures kept { read_faults_of self.old ≤ read_faults_of self.new }
         ensures others { replace_faults_of self.new ≡ replace_faults_of self.old }
+        ensures touched_ok { OnOk result (Goes (HasRead name.now) (touched_of self.old)
+            (touched_of self.new)) }
+        ensures touched_err { OnErr result (Goes (MayHaveRead name.now) (touched_of self.old)
+            (touched_of self.new)) }
         ensures seen { KeepsFindings (seen_of self.old) (seen_of self.new) }
     {
-        let outcome = self.read_piece(name.as_str(), offset, buf);
+        let noted = self.touched.note_read(name);
+        let outcome = match noted {
+            Ok(()) => self.read_piece(name.as_str(), offset, buf),
+            Err(error) => Err(error.into()),
+        };
         if offset == 0 || outcome.is_err() {
             self.last.note(self.alloc, name.as_str(), outcome.err());
         }
@@ -138,25 +153,34 @@ impl<R: FileSystem<File = File> + Drop> Files for RealFiles<R> {
             ≡ count_after result (replace_faults_of self.old) }
         ensures kept { replace_faults_of self.old ≤ replace_faults_of self.new }
         ensures others { read_faults_of self.new ≡ read_faults_of self.old }
+        ensures touched_ok { OnOk result (Goes (HasReplaced name.now) (touched_of self.old)
+            (touched_of self.new)) }
+        ensures touched_err { OnErr result (Goes (MayHaveReplaced name.now) (touched_of self.old)
+            (touched_of self.new)) }
         ensures seen { OnErr result (seen_of self.new ≡ seen_of self.old) }
         ensures known { IsSome (found_at (seen_of self.old) name.now)
             → IsSome (found_at (seen_of self.new) name.now) }
         ensures seen_others { SameOthers name.now (seen_of self.old) (seen_of self.new) }
     {
         self.reading = None;
-        let outcome = self.replace_known(name.as_str(), bytes);
+        let noted = self.touched.note_replaced(name);
+        let outcome = match noted {
+            Ok(()) => self.replace_known(name.as_str(), bytes),
+            Err(error) => Err(error.into()),
+        };
         counted(&mut self.replace_faults, outcome)
     }
 }
 
 impl<R: FileSystem<File = File>> RealFiles<R> {
-    ghost use Rattle.outside_real.specs.RealFiles.{read_faults_of, replace_faults_of, seen_of};
+    ghost use Rattle.outside_real.specs.RealFiles.{read_faults_of, replace_faults_of, seen_of, touched_of};
 
     /// Reads a file from an offset on into the front of a buffer. `None`: there is no such file.
     fn read_piece(&mut self, path: &str, offset: u64, buf: &mut [u8]) -> io::Result<Option<usize>>
         ensures bound { IfOk result (λ found. IfSome found (λ n. n ≤ length buf.old)) }
         ensures read_faults { read_faults_of self.new ≡ read_faults_of self.old }
         ensures replace_faults { replace_faults_of self.new ≡ replace_faults_of self.old }
+        ensures touched { touched_of self.new ≡ touched_of self.old }
         ensures seen { KeepsFindings (seen_of self.old) (seen_of self.new) }
     {
         let begun = self.reading.take();
@@ -172,6 +196,7 @@ impl<R: FileSystem<File = File>> RealFiles<R> {
         ensures bound { IfOk result (λ found. IfSome found (λ n. n ≤ length buf.old)) }
         ensures read_faults { read_faults_of self.new ≡ read_faults_of self.old }
         ensures replace_faults { replace_faults_of self.new ≡ replace_faults_of self.old }
+        ensures touched { touched_of self.new ≡ touched_of self.old }
         ensures seen { seen_of self.new ≡ seen_of self.old }
     {
         let Some(mut reading) = opened else {
@@ -188,6 +213,7 @@ impl<R: FileSystem<File = File>> RealFiles<R> {
     fn replace_known(&mut self, path: &str, bytes: &[u8]) -> io::Result<()>
         ensures read_faults { read_faults_of self.new ≡ read_faults_of self.old }
         ensures replace_faults { replace_faults_of self.new ≡ replace_faults_of self.old }
+        ensures touched { touched_of self.new ≡ touched_of self.old }
         ensures seen { OnErr result (seen_of self.new ≡ seen_of self.old) }
         ensures known { IsSome (found_at (seen_of self.old) path.now)
             → IsSome (found_at (seen_of self.new) path.now) }

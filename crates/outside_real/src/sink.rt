@@ -36,6 +36,8 @@ impl<W: Write + Drop + Send> Sink for RealSink<W> {
 
     ghost held = { λ _. None };
 
+    ghost lengths = { λ _. None };
+
     ghost faults = { faults_of };
 
     /// Writes all bytes. It fails exactly where the writer does.

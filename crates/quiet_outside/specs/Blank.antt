@@ -1,6 +1,7 @@
 -- Inner: users' files with fixed room, before anything stands in them.
 use Rattle.std.specs.Prelude.{◌≡◌, ℕ, ◌<◌, ◌≤◌, List, [], All, length, nat_le, Option, Some, None, if◌then◌else◌}
 use Rattle.outside.specs.Link.{Link}
+use Rattle.outside.specs.MemStream.{unused_link}
 
 -- the room of a stream that isn't used yet: the cuts that it will go by, and how many bytes it may
 -- have to send and be sent
@@ -20,7 +21,7 @@ pub record IsBlank (cuts : List ℕ) (room input spare : ℕ) (told : Option (Li
 -- what an unused stream with this input tells, where that fits the room
 abbrev pub unused_within : ℕ → List ℕ → Option Link
 unused_within room input =
-    if nat_le (length input) room then Some (record { left = input; taken = []; sent = [] }) else None
+    if nat_le (length input) room then Some (unused_link input None) else None
 
 -- the room of so many streams that aren't used yet, all alike: the cuts that they will go by, and how
 -- many bytes each may have to send and be sent

@@ -1,15 +1,16 @@
 -- Inner: what contracts see of a quiet stream.
-use Rattle.std.specs.Prelude.{ℕ, List, Option}
+use Rattle.std.specs.Prelude.{ℕ, List, Option, None}
 use Rattle.outside.specs.declared.act.Role.{Role}
 use Rattle.outside.specs.Link.{Link}
 use Rattle.outside.specs.MemStream.{link_at}
+use Rattle.outside.specs.Scene.{talk_by}
 use Rattle.outside.specs.Told.{told_if}
 use Rattle.quiet_outside.specs.declared.stream.Closed.{Closed}
 use Rattle.quiet_outside.specs.declared.stream.QuietStream.{QuietStream}
 
 -- what the stream tells
 abbrev pub link_of : QuietStream → Option Link
-link_of s = told_if s.sent.telling (link_at s.input.items s.sent.bytes.items s.taken)
+link_of s = told_if s.sent.telling (link_at s.input.items s.sent.bytes.items s.taken None)
 
 -- which child it leads to
 abbrev pub role_of : QuietStream → Role
@@ -28,7 +29,7 @@ stream_stock s = record { cuts = s.cuts; room = s.sent.left }
 -- what a stream to a child of this role told, as it stands once the stream is closed
 abbrev pub closed_with : Role → Link → Closed
 closed_with role link =
-    record { talk = record { role = role; taken = link.taken; sent = link.sent }; unread = link.left }
+    record { talk = talk_by role link; unread = link.left }
 
 -- how many faults it had: none
 abbrev pub faults_of : QuietStream → ℕ

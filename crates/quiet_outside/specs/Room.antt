@@ -13,5 +13,5 @@ kept_within left (Some held) bytes = if nat_le (length bytes) left then Some (he
 abbrev pub sent_within : ℕ → Option Link → List ℕ → Option Link
 sent_within left None bytes = None
 sent_within left (Some l) bytes =
-    if nat_le (length bytes) left then Some (record { left = l.left; taken = l.taken; sent = l.sent ++ bytes })
+    if nat_le (length bytes) left then Some (record l { sent = l.sent ++ bytes })
     else None

@@ -4,6 +4,7 @@ ghost use Rattle.outside.specs.Faults.{count_after};
 ghost use Rattle.outside.specs.Files.{MayBeReplaced, Replaced, SameFiles, bytes_read, piece_of};
 ghost use Rattle.outside.specs.MemFiles.{file_of};
 ghost use Rattle.outside.specs.Told.{Goes};
+ghost use Rattle.outside.specs.Touched.{HasRead, HasReplaced, MayHaveRead, MayHaveReplaced};
 ghost use Rattle.quiet_outside.specs.Pieces.{fits_file, without};
 
 use crate::kept_file::copy_from;
@@ -12,7 +13,8 @@ use crate::shelf::Shelf;
 use outside::{Bytes, Failed, Files, Word};
 use std::alloc::{AllocError, Global};
 
-/// Files with fixed room. They tell what stands in them as long as what replaces it fits the room.
+/// Files with fixed room. They tell what stands in them as long as what replaces it fits the room, but
+/// never which of them were read and replaced.
 #[derive(Drop)]
 pub struct QuietFiles {
     shelf: Shelf,
@@ -65,6 +67,8 @@ impl Files for QuietFiles {
 
     ghost replace_faults = { replace_faults_of };
 
+    ghost touched = { λ _. None };
+
     /// Reads the bytes from the offset on.
     fn read(&mut self, name: &Word, offset: u64, buf: &mut [u8]) -> Result<Option<usize>, Failed>
         ensures bound { IfOk result (λ found. IfSome found (λ n. n ≤ length buf.old)) }
@@ -74,6 +78,8 @@ impl Files for QuietFiles {
         ensures counts { read_faults_of self.new ≡ count_after result (read_faults_of self.old) }
         ensures kept { read_faults_of self.old ≤ read_faults_of self.new }
         ensures others { replace_faults_of self.new ≡ replace_faults_of self.old }
+        ensures touched_ok { OnOk result (Goes (HasRead name.now) None None) }
+        ensures touched_err { OnErr result (Goes (MayHaveRead name.now) None None) }
 
         ensures unchanged { self.new ≡ self.old }
         ensures rest { IfOk result (λ found. IfSome found (λ n. drop n buf.new ≡ drop n buf.old)) }
@@ -93,6 +99,8 @@ impl Files for QuietFiles {
         ensures counts { replace_faults_of self.new ≡ count_after result (replace_faults_of self.old) }
         ensures kept { replace_faults_of self.old ≤ replace_faults_of self.new }
         ensures others { read_faults_of self.new ≡ read_faults_of self.old }
+        ensures touched_ok { OnOk result (Goes (HasReplaced name.now) None None) }
+        ensures touched_err { OnErr result (Goes (MayHaveReplaced name.now) None None) }
 
         ensures tells { IsSome (contents_of self.new) ↔ (IsSome (contents_of self.old)
             × IsTrue (fits_file (files_stock self.old) (length name.now) (length bytes.now))) }

@@ -1,5 +1,5 @@
-ghost use Rattle.std.specs.Prelude.{◌≡◌, ◌↔◌, ◌-◌, ◌≤◌, [], IfOk, IfSome, IsSome, IsTrue, length, Ok, OnErr, OnOk};
-ghost use Rattle.std.specs.Prelude.{Some};
+ghost use Rattle.std.specs.Prelude.{◌≡◌, ◌↔◌, ◌-◌, ◌≤◌, [], IfOk, IfSome, IsSome, IsTrue, length, None, Ok, OnErr};
+ghost use Rattle.std.specs.Prelude.{OnOk, Some};
 ghost use Rattle.outside.specs.Faults.{count_after};
 ghost use Rattle.outside.specs.Told.{Gains, GainsPart};
 ghost use Rattle.quiet_outside.specs.Room.{kept_within};
@@ -47,6 +47,8 @@ impl Sink for QuietSink {
     ghost use Rattle.quiet_outside.specs.QuietSink.{faults_of, held_of, room_of};
 
     ghost held = { held_of };
+
+    ghost lengths = { λ _. None };
 
     ghost faults = { faults_of };
 

@@ -4,7 +4,7 @@ ghost use Rattle.std.specs.Prelude.{vec_capacity, vec_len};
 ghost use Rattle.std.proofs.Props.{props};
 ghost use Rattle.outside.specs.declared.act.Role.{Role};
 ghost use Rattle.outside.specs.Faults.{count_after};
-ghost use Rattle.outside.specs.Link.{Exchanged, SendsPart, received_bytes};
+ghost use Rattle.outside.specs.Link.{Exchanged, IsAskedOnce, IsUnasked, SendsPart, received_bytes};
 ghost use Rattle.outside.specs.Repeating.{items_after, next_item};
 ghost use Rattle.outside.specs.Told.{Goes};
 ghost use Rattle.quiet_outside.specs.Room.{sent_within};
@@ -14,7 +14,8 @@ use crate::kept::Kept;
 use outside::{Bytes, Failed, Repeating, Role, Stream, Talk};
 use std::alloc::{AllocError, Global};
 
-/// A stream with fixed room. It tells what passes as long as the bytes sent to it fit the room.
+/// A stream with fixed room. It tells what passes as long as the bytes sent to it fit the room, but
+/// never which receivings were asked of it.
 #[derive(Drop)]
 pub struct QuietStream {
     pub(crate) role: Role,
@@ -37,7 +38,7 @@ pub(crate) struct Closed {
 }
 
 impl QuietStream {
-    ghost use Rattle.outside.specs.Link.{Link};
+    ghost use Rattle.outside.specs.MemStream.{unused_link};
     ghost use Rattle.quiet_outside.specs.QuietStream.{closed_with, faults_of, link_of, role_of, stream_stock};
 
     /// A stream that gives `input` in pieces of the lengths `cuts`, the last of which repeats, with
@@ -51,7 +52,7 @@ impl QuietStream {
         requires some_cut { 0 < length cuts.now }
         requires each_cut { All (λ c. 1 ≤ c) cuts.now }
         ensures link { IfOk result
-            (λ s. link_of s ≡ Some (record { left = input.now; taken = []; sent = [] })) }
+            (λ s. link_of s ≡ Some (unused_link input.now None)) }
         ensures role { IfOk result (λ s. role_of s ≡ Role.Pre 0) }
         ensures faults { IfOk result (λ s. faults_of s ≡ 0) }
         ensures stock { IfOk result
@@ -100,6 +101,7 @@ impl QuietStream {
                 role,
                 taken: Bytes::from(input),
                 sent: Bytes::from(sent.into_vec()),
+                receivings: None,
             },
             unread: Bytes::from(spare),
         })
@@ -144,6 +146,7 @@ impl Stream for QuietStream {
         ensures bound { IfOk result (λ n. n ≤ length buf.old) }
         ensures link { Goes (Exchanged (received_bytes result buf.new) []) (link_of self.old)
             (link_of self.new) }
+        ensures asked { Goes IsAskedOnce (link_of self.old) (link_of self.new) }
         ensures end { result ≡ Ok 0 → IfSome (link_of self.new) (λ l. l.left ≡ []) }
         ensures counts { faults_of self.new ≡ count_after result (faults_of self.old) }
         ensures kept { faults_of self.old ≤ faults_of self.new }
@@ -172,6 +175,7 @@ impl Stream for QuietStream {
         ensures ok { OnOk result
             (Goes (Exchanged [] bytes.now) (link_of self.old) (link_of self.new)) }
         ensures part { OnErr result (SendsPart bytes.now (link_of self.old) (link_of self.new)) }
+        ensures unasked { Goes IsUnasked (link_of self.old) (link_of self.new) }
         ensures counts { faults_of self.new ≡ count_after result (faults_of self.old) }
         ensures kept { faults_of self.old ≤ faults_of self.new }
         ensures role { role_of self.new ≡ role_of self.old }

@@ -48,6 +48,8 @@ impl<W: Write + Drop + Send, R: Files<File = File> + Drop + Send> Sink for RealL
 
     ghost held = { λ _. None };
 
+    ghost lengths = { λ _. None };
+
     ghost faults = { faults_of };
 
     /// Appends to the log that it is.

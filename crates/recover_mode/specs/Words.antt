@@ -8,6 +8,10 @@ pub record RecoverParts : Type 0 where
   pub setup : List ℕ
   pub log : List ℕ
 
+-- the files that `recover` is given
+abbrev pub names_of : RecoverParts → List (List ℕ)
+names_of parts = parts.setup ∷ parts.log ∷ []
+
 -- what the command line `recover SETUP LOG` asks for; any other asks for nothing
 abbrev pub recover_command : List (List ℕ) → Option RecoverParts
 recover_command (mode ∷ setup ∷ log ∷ []) =

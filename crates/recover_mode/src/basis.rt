@@ -1,11 +1,12 @@
 //! What a recovery rests on.
 
-ghost use Rattle.std.specs.Prelude.{◌≡◌, ◌≤◌, Err, IfOk, IfSome};
-ghost use Rattle.outside.specs.Files.{SameFiles};
-ghost use Rattle.outside.specs.Told.{Goes, Rose};
+ghost use Rattle.std.specs.Prelude.{◌≡◌, ◌∷◌, [], Err, IfOk, IfSome};
+ghost use Rattle.outside.specs.FilesNow.{OnlyReads, files_now};
+ghost use Rattle.outside.specs.Told.{Rose};
 ghost use Rattle.recover_mode.specs.declared.error.RecoveryError.{RecoveryError};
 ghost use Rattle.recover_mode.specs.Bases.{HasBasis, IsFileError, image_in};
 ghost use Rattle.recover_mode.specs.Commands.{command_parts};
+ghost use Rattle.recover_mode.specs.Words.{names_of};
 
 use crate::command::RecoverCommand;
 use crate::error::RecoveryError;
@@ -37,9 +38,8 @@ pub(crate) fn read_basis<F: Files>(
         (HasBasis (command_parts command.now) basis.setup basis.image.items)) }
     ensures error { (error : RecoveryError) → result ≡ Err error → IsFileError (F.contents files.new)
         command.now.setup.now (Rose (F.read_faults files.old) (F.read_faults files.new)) error }
-    ensures kept { Goes SameFiles (F.contents files.old) (F.contents files.new) }
-    ensures read_faults { F.read_faults files.old ≤ F.read_faults files.new }
-    ensures replace_faults { F.replace_faults files.old ≤ F.replace_faults files.new }
+    ensures files { let now = files_now F.contents F.read_faults F.replace_faults F.touched in
+        OnlyReads (names_of (command_parts command.now)) (now files.old) (now files.new) }
 {
     let setup = read_setup_file(alloc, files, command.setup)?;
     let image = read_image(alloc, files, command.log)?;
@@ -53,9 +53,8 @@ fn read_image<F: Files>(alloc: Global, files: &mut F, name: &str) -> Result<Vec<
         image.items ≡ image_in (there name.now))) }
     ensures failed { result ≡ Err FrontError.Failed → Rose (F.read_faults files.old)
         (F.read_faults files.new) }
-    ensures kept { Goes SameFiles (F.contents files.old) (F.contents files.new) }
-    ensures read_faults { F.read_faults files.old ≤ F.read_faults files.new }
-    ensures replace_faults { F.replace_faults files.old ≤ F.replace_faults files.new }
+    ensures files { let now = files_now F.contents F.read_faults F.replace_faults F.touched in
+        OnlyReads (name.now ∷ []) (now files.old) (now files.new) }
 {
     match read_front(alloc, files, name, IMAGE_MAX)? {
         Some(image) => Ok(image),

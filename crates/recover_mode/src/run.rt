@@ -1,13 +1,16 @@
 //! The mode.
 
-ghost use Rattle.std.specs.Prelude.{◌≡◌, ◌≤◌, OnErr, OnOk, false, true};
+ghost use Rattle.std.specs.Prelude.{◌≡◌, ◌≤◌, ◌∷◌, [], OnErr, OnOk, false, true};
 ghost use Rattle.outside.specs.Files.{SameFiles};
+ghost use Rattle.outside.specs.FilesNow.{files_now};
 ghost use Rattle.outside.specs.Told.{Goes, Rose};
+ghost use Rattle.setup_reading.specs.Touching.{OnlyReplaces, TouchesNamed};
 ghost use Rattle.recover_mode.specs.Commands.{command_parts};
 ghost use Rattle.recover_mode.specs.Errors.{ends_before_line, may_be_written, status_of};
 ghost use Rattle.recover_mode.specs.Outcome.{IsOutcome, Spares};
 ghost use Rattle.recover_mode.specs.Recovering.{AreWritten, IsPut, MayBeWritten};
 ghost use Rattle.recover_mode.specs.Returning.{BringsBack};
+ghost use Rattle.recover_mode.specs.Words.{names_of};
 
 use crate::basis::read_basis;
 use crate::command::RecoverCommand;
@@ -55,8 +58,9 @@ pub fn run_recover<F: Files, E: Stream>(
     ensures untold { ends_before_line result ≡ true → ends.new ≡ ends.old }
     ensures spares { Goes (Spares (command_parts command.now)) (F.contents files.old) (F.contents files.new) }
     ensures unwritten { may_be_written result ≡ false → Goes SameFiles (F.contents files.old) (F.contents files.new) }
-    ensures read_faults { F.read_faults files.old ≤ F.read_faults files.new }
-    ensures replace_faults { F.replace_faults files.old ≤ F.replace_faults files.new }
+    ensures files { let now = files_now F.contents F.read_faults F.replace_faults F.touched in
+        TouchesNamed (names_of (command_parts command.now)) [] (names_of (command_parts command.now))
+        (now files.old) (now files.new) }
     ensures faults { E.faults ends.old ≤ E.faults ends.new }
 {
     let basis = read_basis(alloc, command, files)?;
@@ -74,8 +78,8 @@ fn put<F: Files, E: Stream>(
         (Rose (F.replace_faults files.old) (F.replace_faults files.new))
         (Rose (E.faults ends.old) (E.faults ends.new)) result }
     ensures untold { ends_before_line result ≡ true → ends.new ≡ ends.old }
-    ensures read_faults { F.read_faults files.old ≤ F.read_faults files.new }
-    ensures replace_faults { F.replace_faults files.old ≤ F.replace_faults files.new }
+    ensures files { let now = files_now F.contents F.read_faults F.replace_faults F.touched in
+        OnlyReplaces (texts.now.setup ∷ texts.now.log ∷ []) (now files.old) (now files.new) }
     ensures faults { E.faults ends.old ≤ E.faults ends.new }
 {
     if write(texts, files).is_err() {
@@ -92,8 +96,8 @@ fn write<F: Files>(texts: &Texts, files: &mut F) -> Result<(), Failed>
     ensures ok { OnOk result (Goes (AreWritten texts.now) (F.contents files.old) (F.contents files.new)) }
     ensures err { OnErr result (Goes (MayBeWritten texts.now) (F.contents files.old) (F.contents files.new)) }
     ensures failed { OnErr result (Rose (F.replace_faults files.old) (F.replace_faults files.new)) }
-    ensures read_faults { F.read_faults files.old ≤ F.read_faults files.new }
-    ensures replace_faults { F.replace_faults files.old ≤ F.replace_faults files.new }
+    ensures files { let now = files_now F.contents F.read_faults F.replace_faults F.touched in
+        OnlyReplaces (texts.now.setup ∷ texts.now.log ∷ []) (now files.old) (now files.new) }
 {
     files.replace(&texts.setup, texts.bytes.as_slice())?;
     files.replace(&texts.log, fresh_image())

@@ -3,8 +3,8 @@ use Rattle.outside.specs.Files.{Contents, MayBeReplaced, Replaced, SameFiles}
 use Rattle.outside.specs.Link.{Link}
 use Rattle.outside.specs.Told.{Goes}
 use Rattle.outside.proofs.Exchanges.{Exchanged-none}
+use Rattle.outside.proofs.OnlyReading.{same_then}
 use Rattle.outside.proofs.Told.{Goes-same, Goes-then}
-use Rattle.file_front.proofs.FrontLemmas.{SameFiles-then}
 use Rattle.request_catalogue.specs.declared.texts.Name.{Name}
 use Rattle.request_catalogue.specs.TextBytes.{name_bytes}
 use Rattle.policy_model.specs.Settings.{Settings}
@@ -26,6 +26,9 @@ use Rattle.renew_mode.specs.Renewing.{AreTexts, IsMade, IsPut, IsRenewing}
 use Rattle.renew_mode.proofs.RenewLemmas.{IsReady-before}
 
 -- ---- files that stayed as they were, and were then written
+
+SameFiles-then : (a b c : Option Contents) → Goes SameFiles a b → Goes SameFiles b c → Goes SameFiles a c
+SameFiles-then = Goes-then SameFiles SameFiles SameFiles same_then
 
 same-files : (contents : Option Contents) → Goes SameFiles contents contents
 same-files contents = Goes-same SameFiles (λ files. record { same = λ name. refl }) contents

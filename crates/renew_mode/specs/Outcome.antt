@@ -1,5 +1,6 @@
 -- Believed: what the mode `renew` came to, and why.
-use Rattle.std.specs.Prelude.{◌≡◌, ◌≢◌, ℕ, List, Option, Result, Ok, Err}
+use Rattle.std.specs.Prelude.{◌≡◌, ◌≢◌, ℕ, List, ◌∷◌, Option, Result, Ok, Err}
+use Rattle.std.specs.Option.{option_to_list}
 use Rattle.outside.specs.Files.{Contents, SameFiles}
 use Rattle.outside.specs.Link.{Link}
 use Rattle.outside.specs.Told.{Goes}
@@ -47,3 +48,7 @@ IsOutcome parts old new before after ReadFailed ReplaceFailed EndsFailed (Err er
 -- every file but the one of this name is as it was
 pub record Spares (name : List ℕ) (before after : Contents) : Type 0 where
   pub others : (other : List ℕ) → other ≢ name → after other ≡ before other
+
+-- the files that `renew` is given
+abbrev pub names_of : RenewParts → List (List ℕ)
+names_of parts = parts.setup ∷ option_to_list parts.log

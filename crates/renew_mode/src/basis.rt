@@ -1,12 +1,15 @@
 //! What a renewal rests on.
 
-ghost use Rattle.std.specs.Prelude.{◌≡◌, ◌≤◌, Err, IfOk, IfSome, OnOk, option_map};
-ghost use Rattle.outside.specs.Files.{SameFiles};
-ghost use Rattle.outside.specs.Told.{Goes, Rose};
+ghost use Rattle.std.specs.Prelude.{◌≡◌, ◌∷◌, [], Err, IfOk, IfSome, OnOk, option_map};
+ghost use Rattle.std.specs.Option.{option_to_list};
+ghost use Rattle.outside.specs.FilesNow.{OnlyReads, files_now};
+ghost use Rattle.outside.specs.Told.{Rose};
+ghost use Rattle.setup_reading.specs.Touching.{ReadsNamed};
 ghost use Rattle.otp_extended.specs.Commands.{command_parts};
 ghost use Rattle.renew_mode.specs.declared.error.RenewError.{RenewError};
 ghost use Rattle.renew_mode.specs.Bases.{HasBasis, HasFreshLog, IsFileError, IsReady, IsUnready};
 ghost use Rattle.renew_mode.specs.Installing.{IsLogRefused};
+ghost use Rattle.renew_mode.specs.Outcome.{names_of};
 
 use crate::error::RenewError;
 use file_front::read_list;
@@ -35,9 +38,8 @@ pub(crate) fn make_ready<F: Files>(
     ensures ready { IfOk result (λ basis. IfSome (F.contents files.new) (IsReady (command_parts command.now) basis)) }
     ensures error { (error : RenewError) → result ≡ Err error → IsUnready (command_parts command.now)
         (F.contents files.new) (Rose (F.read_faults files.old) (F.read_faults files.new)) error }
-    ensures kept { Goes SameFiles (F.contents files.old) (F.contents files.new) }
-    ensures read_faults { F.read_faults files.old ≤ F.read_faults files.new }
-    ensures replace_faults { F.replace_faults files.old ≤ F.replace_faults files.new }
+    ensures files { let now = files_now F.contents F.read_faults F.replace_faults F.touched in
+        ReadsNamed (names_of (command_parts command.now)) (command.now.setup.now ∷ []) (now files.old) (now files.new) }
 {
     let basis = read_basis(alloc, files, command.setup)?;
     check_log(alloc, command.log, files)?;
@@ -50,9 +52,8 @@ fn check_log<F: Files>(alloc: Global, log: Option<&str>, files: &mut F) -> Resul
         (HasFreshLog (option_map (λ word. word.now) log.entry))) }
     ensures error { (error : RenewError) → result ≡ Err error → IsLogRefused (option_map (λ word. word.now) log.entry)
         (F.contents files.new) (Rose (F.read_faults files.old) (F.read_faults files.new)) error }
-    ensures kept { Goes SameFiles (F.contents files.old) (F.contents files.new) }
-    ensures read_faults { F.read_faults files.old ≤ F.read_faults files.new }
-    ensures replace_faults { F.replace_faults files.old ≤ F.replace_faults files.new }
+    ensures files { let now = files_now F.contents F.read_faults F.replace_faults F.touched in
+        OnlyReads (option_to_list (option_map (λ word. word.now) log.entry)) (now files.old) (now files.new) }
 {
     let Some(log) = log else {
         return Ok(());
@@ -72,9 +73,8 @@ fn read_basis<F: Files>(alloc: Global, files: &mut F, name: &str) -> Result<Basi
     ensures basis { IfOk result (λ basis. IfSome (F.contents files.new) (HasBasis name.now basis)) }
     ensures error { (error : RenewError) → result ≡ Err error → IsFileError (F.contents files.new)
         name.now (Rose (F.read_faults files.old) (F.read_faults files.new)) error }
-    ensures kept { Goes SameFiles (F.contents files.old) (F.contents files.new) }
-    ensures read_faults { F.read_faults files.old ≤ F.read_faults files.new }
-    ensures replace_faults { F.replace_faults files.old ≤ F.replace_faults files.new }
+    ensures files { let now = files_now F.contents F.read_faults F.replace_faults F.touched in
+        ReadsNamed (name.now ∷ []) (name.now ∷ []) (now files.old) (now files.new) }
 {
     let setup = read_setup_file(alloc, files, name)?;
     let dictionary = read_list(alloc, files, setup.parts().words.as_str())?;

@@ -1,12 +1,14 @@
 //! The mode.
 
-ghost use Rattle.std.specs.Prelude.{◌≡◌, ◌≤◌, false, true};
+ghost use Rattle.std.specs.Prelude.{◌≡◌, ◌≤◌, ◌∷◌, [], false, true};
 ghost use Rattle.outside.specs.Files.{SameFiles};
+ghost use Rattle.outside.specs.FilesNow.{files_now};
 ghost use Rattle.outside.specs.Told.{Goes, Rose};
+ghost use Rattle.setup_reading.specs.Touching.{OnlyReplaces, TouchesNamed};
 ghost use Rattle.otp_extended.specs.Commands.{command_parts};
 ghost use Rattle.renew_mode.specs.Errors.{ends_before_input, may_be_written, status_of};
 ghost use Rattle.renew_mode.specs.Installing.{IsInstalling};
-ghost use Rattle.renew_mode.specs.Outcome.{IsOutcome, Spares};
+ghost use Rattle.renew_mode.specs.Outcome.{IsOutcome, Spares, names_of};
 ghost use Rattle.renew_mode.specs.Renewing.{IsPut, IsRenewing};
 
 use crate::basis::{Basis, make_ready};
@@ -50,8 +52,9 @@ pub fn run_renew<F: Files, E: Stream>(
     ensures at_files { ends_before_input result ≡ true → ends.new ≡ ends.old }
     ensures spares { Goes (Spares command.now.setup.now) (F.contents files.old) (F.contents files.new) }
     ensures unwritten { may_be_written result ≡ false → Goes SameFiles (F.contents files.old) (F.contents files.new) }
-    ensures read_faults { F.read_faults files.old ≤ F.read_faults files.new }
-    ensures replace_faults { F.replace_faults files.old ≤ F.replace_faults files.new }
+    ensures files { let now = files_now F.contents F.read_faults F.replace_faults F.touched in
+        TouchesNamed (names_of (command_parts command.now)) (command.now.setup.now ∷ []) (command.now.setup.now ∷ [])
+        (now files.old) (now files.new) }
     ensures faults { E.faults ends.old ≤ E.faults ends.new }
 {
     let basis = make_ready(alloc, command, files)?;
@@ -69,8 +72,8 @@ fn renew_account<F: Files, E: Stream>(
     ensures outcome { IsRenewing (command_parts command.now) basis.now (F.contents files.old) (F.contents files.new)
         (E.link ends.old) (E.link ends.new) (Rose (F.replace_faults files.old) (F.replace_faults files.new))
         (Rose (E.faults ends.old) (E.faults ends.new)) result }
-    ensures read_faults { F.read_faults files.old ≤ F.read_faults files.new }
-    ensures replace_faults { F.replace_faults files.old ≤ F.replace_faults files.new }
+    ensures files { let now = files_now F.contents F.read_faults F.replace_faults F.touched in
+        OnlyReplaces (command.now.setup.now ∷ []) (now files.old) (now files.new) }
     ensures faults { E.faults ends.old ≤ E.faults ends.new }
 {
     let renewal = receive_renewal(alloc, &basis.setup, &basis.dictionary, &command.user, ends)?;
@@ -89,8 +92,8 @@ fn install<F: Files, E: Stream>(
     ensures outcome { IsInstalling (command_parts command.now) renewal.now (F.contents files.old) (F.contents files.new)
         (E.link ends.old) (E.link ends.new) (Rose (F.replace_faults files.old) (F.replace_faults files.new))
         (Rose (E.faults ends.old) (E.faults ends.new)) result }
-    ensures read_faults { F.read_faults files.old ≤ F.read_faults files.new }
-    ensures replace_faults { F.replace_faults files.old ≤ F.replace_faults files.new }
+    ensures files { let now = files_now F.contents F.read_faults F.replace_faults F.touched in
+        OnlyReplaces (command.now.setup.now ∷ []) (now files.old) (now files.new) }
     ensures faults { E.faults ends.old ≤ E.faults ends.new }
 {
     let texts = texts_of(alloc, command, renewal)?;
@@ -103,8 +106,8 @@ fn put<F: Files, E: Stream>(texts: &Texts, files: &mut F, ends: &mut E) -> Resul
     ensures put { IsPut texts.now (F.contents files.old) (F.contents files.new) (E.link ends.old) (E.link ends.new)
         (Rose (F.replace_faults files.old) (F.replace_faults files.new))
         (Rose (E.faults ends.old) (E.faults ends.new)) result }
-    ensures read_faults { F.read_faults files.old ≤ F.read_faults files.new }
-    ensures replace_faults { F.replace_faults files.old ≤ F.replace_faults files.new }
+    ensures files { let now = files_now F.contents F.read_faults F.replace_faults F.touched in
+        OnlyReplaces (texts.now.file ∷ []) (now files.old) (now files.new) }
     ensures faults { E.faults ends.old ≤ E.faults ends.new }
 {
     if files.replace(&texts.file, texts.bytes.as_slice()).is_err() {

@@ -189,26 +189,44 @@ fn waiting_posts(alloc: Global, answered: &AtomicU64) -> Result<Vec<WaitingPost<
     Ok(vec![in alloc; first, second]?)
 }
 
+/// Whether both workers of such posts were served, where they should be.
+fn are_both_finished(came: &Came<WaitingPost<'_>>) -> bool {
+    let is_home = is_at(&came.place, ["s", "l", "v"], 2);
+    came.status == 0 && finished(&came.journal) == 2 && is_home
+}
+
+/// Whether two workers are served whose children wait for one another, with this information.
+fn are_served_with<R: Threads + Wait + Sync>(
+    rt: &R,
+    alloc: Global,
+    play: &Play<'_>,
+    hooks: &Hooks,
+) -> Result<bool, Fault> {
+    let answered = AtomicU64::new(0);
+    let posts = waiting_posts(alloc, &answered)?;
+    Ok(are_both_finished(&serve(rt, alloc, play, posts, hooks)?))
+}
+
 /// Whether two workers are served whose children wait for one another.
 fn are_served_at_once<R: Threads + Wait + Sync>(
     rt: &R,
     alloc: Global,
     play: &Play<'_>,
 ) -> Result<bool, Fault> {
-    let answered = AtomicU64::new(0);
     let hooks = Hooks::new(Vec::new(alloc)).ok().ok_or("hooks")?;
-    let posts = waiting_posts(alloc, &answered)?;
-    let came = serve(rt, alloc, play, posts, &hooks)?;
-    let is_home = is_at(&came.place, ["s", "l", "v"], 2);
-    Ok(came.status == 0 && finished(&came.journal) == 2 && is_home)
+    are_served_with(rt, alloc, play, &hooks)
+}
+
+/// The same by the setup of two workers.
+fn two_are_served_at_once<R: Threads + Wait + Sync>(rt: &R, alloc: Global) -> Result<bool, Fault> {
+    let setup = setup_with(alloc, "workers = 2\nrequests = 64")?;
+    let list = word_list(alloc, 2_048)?;
+    are_served_at_once(rt, alloc, &play_of(&setup, &list, &[]))
 }
 
 #[test]
 fn two_workers_serve_at_once(rt: HostRuntime) -> Result<(), Fault> {
-    let alloc = rt.alloc();
-    let setup = setup_with(alloc, "workers = 2\nrequests = 64")?;
-    let list = word_list(alloc, 2_048)?;
-    assert!(&rt; are_served_at_once(&rt, alloc, &play_of(&setup, &list, &[]))?);
+    assert!(&rt; two_are_served_at_once(&rt, rt.alloc())?);
     Ok(())
 }
 
@@ -244,50 +262,63 @@ fn steps_of(journal: &[Event], worker: u32) -> usize {
     step
 }
 
+/// The run of so many workers by a setup that begins with these lines, a session each.
+fn run_of<R: Threads + Wait + Sync>(
+    rt: &R,
+    alloc: Global,
+    lines: &str,
+    workers: u32,
+) -> Result<Came<MemPost>, Fault> {
+    let setup = setup_with(alloc, lines)?;
+    let list = word_list(alloc, 2_048)?;
+    let pre = [WRITE, FINISH].concat(alloc)?;
+    let session = Session {
+        client: b"",
+        pre: &pre,
+        user: b"",
+    };
+    come(rt, alloc, &play_of(&setup, &list, &[session]), workers)
+}
+
+/// Whether the log of a run has a line of each event.
+fn is_logged(alloc: Global, came: &Came<MemPost>) -> Result<bool, AllocError> {
+    Ok(came.log.held() == lines_of(alloc, &came.journal)?.as_slice())
+}
+
 /// Whether two workers were served, each a session in order, and the log has a line of each event.
-fn are_both_served(alloc: Global, came: &Came<MemPost>) -> Result<bool, AllocError> {
-    let lines = lines_of(alloc, &came.journal)?;
+fn are_both_served(alloc: Global, came: &Came<MemPost>) -> Result<bool, Fault> {
     let are_whole = steps_of(&came.journal, 0) == 4 && steps_of(&came.journal, 1) == 4;
-    let is_logged = came.journal.len() == 8 && came.log.held() == lines.as_slice();
-    Ok(came.status == 0 && are_whole && is_logged)
+    let are_served = came.status == 0 && came.journal.len() == 8 && are_whole;
+    Ok(are_served && is_logged(alloc, came)?)
+}
+
+/// Whether two workers are served so.
+fn two_are_served<R: Threads + Wait + Sync>(rt: &R, alloc: Global) -> Result<bool, Fault> {
+    are_both_served(alloc, &run_of(rt, alloc, "workers = 2\nrequests = 64", 2)?)
 }
 
 #[test]
 fn two_workers_make_eight_lines(rt: HostRuntime) -> Result<(), Fault> {
-    let alloc = rt.alloc();
-    let setup = setup_with(alloc, "workers = 2\nrequests = 64")?;
-    let list = word_list(alloc, 2_048)?;
-    let pre = [WRITE, FINISH].concat(alloc)?;
-    let session = Session {
-        client: b"",
-        pre: &pre,
-        user: b"",
-    };
-    let came = come(&rt, alloc, &play_of(&setup, &list, &[session]), 2)?;
-    assert!(&rt; are_both_served(alloc, &came)?);
+    assert!(&rt; two_are_served(&rt, rt.alloc())?);
     Ok(())
 }
 
 /// Whether 64 workers were served, and the log is the journal's.
-fn are_all_served(alloc: Global, came: &Came<MemPost>) -> Result<bool, AllocError> {
-    let lines = lines_of(alloc, &came.journal)?;
-    let is_logged = came.log.held() == lines.as_slice();
+fn are_all_served(alloc: Global, came: &Came<MemPost>) -> Result<bool, Fault> {
     let is_whole = came.journal.len() == 256 && finished(&came.journal) == 64;
-    Ok(came.status == 0 && is_whole && is_logged)
+    Ok(came.status == 0 && is_whole && is_logged(alloc, came)?)
+}
+
+/// Whether 64 workers are served so.
+fn sixty_four_are_served<R: Threads + Wait + Sync>(rt: &R, alloc: Global) -> Result<bool, Fault> {
+    are_all_served(
+        alloc,
+        &run_of(rt, alloc, "workers = 64\nrequests = 64", 64)?,
+    )
 }
 
 #[test]
 fn sixty_four_workers_serve(rt: HostRuntime) -> Result<(), Fault> {
-    let alloc = rt.alloc();
-    let setup = setup_with(alloc, "workers = 64\nrequests = 64")?;
-    let list = word_list(alloc, 2_048)?;
-    let pre = [WRITE, FINISH].concat(alloc)?;
-    let session = Session {
-        client: b"",
-        pre: &pre,
-        user: b"",
-    };
-    let came = come(&rt, alloc, &play_of(&setup, &list, &[session]), 64)?;
-    assert!(&rt; are_all_served(alloc, &came)?);
+    assert!(&rt; sixty_four_are_served(&rt, rt.alloc())?);
     Ok(())
 }

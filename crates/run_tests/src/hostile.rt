@@ -34,21 +34,38 @@ fn run_of<R: Threads + Wait + Sync>(
     come(rt, alloc, &play, 1)
 }
 
+/// Whether a run had status 0 and this log, and its first child was sent this.
+fn came_so(came: &Came<MemPost>, log: &str, reply: &[u8]) -> bool {
+    let is_logged = came.log.held() == log.as_bytes();
+    came.status == 0 && is_logged && sent(&came.posts, 0) == reply
+}
+
+/// Whether a child that sends these bytes and ends is sent this reply, and the log is this.
+fn is_answered<R: Threads + Wait + Sync>(
+    rt: &R,
+    alloc: Global,
+    pre: &[u8],
+    reply: &[u8],
+    log: &str,
+) -> Result<bool, Fault> {
+    Ok(came_so(&run_of(rt, alloc, ONE, pre, 1)?, log, reply))
+}
+
 /// Whether a header of this length ends the session as a bad frame.
 fn is_bad<R: Threads + Wait + Sync>(rt: &R, alloc: Global, len: u16) -> Result<bool, Fault> {
     let header = header(alloc, 1, len, 0, 0)?;
-    let end = format!(in alloc; "1 w0 s1 open permit\n2 w0 s1 end bad-frame {len} permit\n")?;
-    let came = run_of(rt, alloc, ONE, &header, 1)?;
-    let is_silent = sent(&came.posts, 0).is_empty();
-    Ok(came.status == 0 && came.log.held() == end.as_bytes() && is_silent)
+    let log = format!(in alloc; "1 w0 s1 open permit\n2 w0 s1 end bad-frame {len} permit\n")?;
+    is_answered(rt, alloc, &header, b"", log.as_str())
 }
+
+/// Lengths of headers that are too short or too long.
+const LENGTHS: &[u16] = &[0, 15, 16_385, 65_535];
 
 #[test]
 fn lengths_that_no_frame_has(rt: HostRuntime) -> Result<(), Fault> {
-    assert!(&rt; is_bad(&rt, rt.alloc(), 0)?);
-    assert!(&rt; is_bad(&rt, rt.alloc(), 15)?);
-    assert!(&rt; is_bad(&rt, rt.alloc(), 16_385)?);
-    assert!(&rt; is_bad(&rt, rt.alloc(), 65_535)?);
+    for len in LENGTHS {
+        assert!(&rt; is_bad(&rt, rt.alloc(), *len)?, "{len}");
+    }
     Ok(())
 }
 
@@ -76,9 +93,7 @@ fn is_refused<R: Threads + Wait + Sync>(
         "1 w0 s1 open permit\n2 w0 s1 bad {rule} {detail} deny {rule} {detail}\n3 w0 s1 end violation {rule} permit\n"
     )?;
     let reply = denial(alloc, pre, rule, detail)?;
-    let came = run_of(rt, alloc, ONE, pre, 1)?;
-    let is_denied = sent(&came.posts, 0) == reply.as_slice();
-    Ok(came.status == 0 && came.log.held() == log.as_bytes() && is_denied)
+    is_answered(rt, alloc, pre, &reply, log.as_str())
 }
 
 /// Whether a frame of this kind is refused as unknown.
@@ -87,18 +102,13 @@ fn is_unknown<R: Threads + Wait + Sync>(rt: &R, alloc: Global, kind: u32) -> Res
     is_refused(rt, alloc, &frame, 4, kind)
 }
 
-#[test]
-fn kinds_that_no_request_has(rt: HostRuntime) -> Result<(), Fault> {
-    for kind in [0, 14, u32::MAX] {
-        assert!(&rt; is_unknown(&rt, rt.alloc(), kind)?);
-    }
-    Ok(())
-}
+const KINDS: &[u32] = &[0, 14, u32::MAX];
 
 #[test]
-fn a_frame_that_is_marked(rt: HostRuntime) -> Result<(), Fault> {
-    let marked = frame(rt.alloc(), 13, u16::MAX, 0, b"")?;
-    assert!(&rt; is_refused(&rt, rt.alloc(), &marked, 2, 65_535)?);
+fn kinds_that_no_request_has(rt: HostRuntime) -> Result<(), Fault> {
+    for kind in KINDS {
+        assert!(&rt; is_unknown(&rt, rt.alloc(), *kind)?);
+    }
     Ok(())
 }
 
@@ -114,24 +124,20 @@ fn is_marked<R: Threads + Wait + Sync>(
 }
 
 #[test]
-fn a_finish_with_flags(rt: HostRuntime) -> Result<(), Fault> {
-    for (flags, rule) in [(1, 2), (2, 3), (3, 2)] {
-        assert!(&rt; is_marked(&rt, rt.alloc(), flags, rule)?);
-    }
+fn a_frame_that_is_marked(rt: HostRuntime) -> Result<(), Fault> {
+    assert!(&rt; is_marked(&rt, rt.alloc(), u16::MAX, 2)?);
     Ok(())
 }
 
-/// Whether a child that sends these bytes and ends is sent this reply, and the log is this.
-fn is_answered<R: Threads + Wait + Sync>(
-    rt: &R,
-    alloc: Global,
-    pre: &[u8],
-    reply: &[u8],
-    log: &str,
-) -> Result<bool, Fault> {
-    let came = run_of(rt, alloc, ONE, pre, 1)?;
-    let is_logged = came.log.held() == log.as_bytes();
-    Ok(came.status == 0 && is_logged && sent(&came.posts, 0) == reply)
+/// Flags, and the rules that refuse them.
+const FLAGS: &[(u16, u8)] = &[(1, 2), (2, 3), (3, 2)];
+
+#[test]
+fn a_finish_with_flags(rt: HostRuntime) -> Result<(), Fault> {
+    for (flags, rule) in FLAGS {
+        assert!(&rt; is_marked(&rt, rt.alloc(), *flags, *rule)?);
+    }
+    Ok(())
 }
 
 /// WRITE of `a` to handle 5, and the reply to it.
@@ -178,30 +184,34 @@ fn is_malformed<R: Threads + Wait + Sync>(
     is_refused(rt, alloc, &frame, 5, kind)
 }
 
-/// The body of a READ of the connection of at most so many bytes: handle, offset and that number.
-fn read_body(max: u16) -> [u8; 14] {
-    let mut body = [0; 14];
-    body[12..].copy_from_slice(&max.to_le_bytes());
-    body
-}
+/// Kinds of requests, and bodies that they don't have: a READ has handle, offset and at most 16,000 bytes.
+const BODIES: &[(u32, &[u8])] = &[
+    (1, b"x"),
+    (2, b""),
+    (7, &[0; 14]),
+    (7, b"\0\0\0\0\0\0\0\0\0\0\0\0\x81\x3e"),
+    (8, &[0; 12]),
+    (9, b"\x04notes"),
+    (12, &[b'a'; 65]),
+];
 
 #[test]
 fn bodies_that_no_request_has(rt: HostRuntime) -> Result<(), Fault> {
-    let alloc = rt.alloc();
-    assert!(&rt; is_malformed(&rt, alloc, 1, b"x")?);
-    assert!(&rt; is_malformed(&rt, alloc, 2, b"")?);
-    assert!(&rt; is_malformed(&rt, alloc, 7, &read_body(0))?);
-    assert!(&rt; is_malformed(&rt, alloc, 7, &read_body(16_001))?);
-    assert!(&rt; is_malformed(&rt, alloc, 8, &[0; 12])?);
-    assert!(&rt; is_malformed(&rt, alloc, 9, b"\x04notes")?);
-    assert!(&rt; is_malformed(&rt, alloc, 12, &[b'a'; 65])?);
+    for (kind, body) in BODIES {
+        assert!(&rt; is_malformed(&rt, rt.alloc(), *kind, body)?);
+    }
     Ok(())
+}
+
+/// Whether a WRITE of 16,001 bytes is refused.
+fn is_too_long<R: Threads + Wait + Sync>(rt: &R, alloc: Global) -> Result<bool, Fault> {
+    let long = vec![in alloc; 0; 16_013]?;
+    is_malformed(rt, alloc, 8, &long)
 }
 
 #[test]
 fn a_body_that_is_too_long(rt: HostRuntime) -> Result<(), Fault> {
-    let long = vec![in rt.alloc(); 0; 16_013]?;
-    assert!(&rt; is_malformed(&rt, rt.alloc(), 8, &long)?);
+    assert!(&rt; is_too_long(&rt, rt.alloc())?);
     Ok(())
 }
 
@@ -233,20 +243,21 @@ fn nine_notes(alloc: Global) -> Result<Vec<u8>, AllocError> {
 /// The reply to the ninth note of session 1.
 const LAST_REPLY: &[u8] = b"\x0c\x01\0\0\x16\0\0\0\0\0\0\0\x01\0\0\0\x01\x01\x08\0\0\0";
 
-/// Whether eight of these notes are permitted in a session, and the ninth ends it.
-fn are_limited<R: Threads + Wait + Sync>(
-    rt: &R,
-    alloc: Global,
-    notes: &[u8],
-) -> Result<bool, Fault> {
-    let came = run_of(rt, alloc, "workers = 1\nrequests = 8", notes, 2)?;
+/// Whether the log of a run begins with that of eight notes, and its first child was sent the last reply.
+fn is_limited(came: &Came<MemPost>) -> bool {
     let is_logged = came.log.held().starts_with(BUDGET_LOG.as_bytes());
-    Ok(is_logged && sent(&came.posts, 0).ends_with(LAST_REPLY))
+    is_logged && sent(&came.posts, 0).ends_with(LAST_REPLY)
+}
+
+/// Whether eight of nine notes are permitted in a session, and the ninth ends it.
+fn are_limited<R: Threads + Wait + Sync>(rt: &R, alloc: Global) -> Result<bool, Fault> {
+    let notes = nine_notes(alloc)?;
+    let lines = "workers = 1\nrequests = 8";
+    Ok(is_limited(&run_of(rt, alloc, lines, &notes, 2)?))
 }
 
 #[test]
 fn a_session_s_requests_are_limited(rt: HostRuntime) -> Result<(), Fault> {
-    let notes = nine_notes(rt.alloc())?;
-    assert!(&rt; are_limited(&rt, rt.alloc(), &notes)?);
+    assert!(&rt; are_limited(&rt, rt.alloc())?);
     Ok(())
 }

@@ -3,7 +3,7 @@
 ghost use Rattle.std.specs.Prelude.{◌≤◌};
 
 use super::beside::{FINISH, WRITE};
-use outside::{CallKind, Fail, MemFiles, MemPost};
+use outside::{CallKind, Fail, MemFiles, MemPost, Receiving};
 use policy_model::{Decision, Event};
 use service_play::{
     Came, ONE, Play, Session, chain_in, come, is_at, sent, setup_in, setup_with, told, word_list,
@@ -16,6 +16,7 @@ use std::thread::Threads;
 /// A key of the setup whose line is another, how many lines the word list has, the name of the file,
 /// a call that fails, and what comes of it: the status, how many posts served, and whether the setup's
 /// file was written anew.
+#[derive(Clone, Copy)]
 struct Case {
     key: &'static str,
     line: &'static str,
@@ -46,7 +47,7 @@ const UNSERVED: Case = Case {
     ..RIGHT
 };
 
-const CASES: [Case; 17] = [
+const CASES: &[Case] = &[
     RIGHT,
     Case {
         name: "other",
@@ -167,10 +168,7 @@ fn is_left(
 
 /// WRITE and FINISH.
 fn smallest(alloc: Global) -> Result<Vec<u8>, AllocError> {
-    let mut requests = Vec::new(alloc);
-    requests.extend_from_slice(WRITE)?;
-    requests.extend_from_slice(FINISH)?;
-    Ok(requests)
+    [WRITE, FINISH].concat(alloc)
 }
 
 /// A session whose first child sends these bytes, and nobody else any.
@@ -222,13 +220,12 @@ fn is_as_said(
 /// Whether a run comes to what a case says.
 fn comes_to<R: Threads + Wait + Sync>(rt: &R, alloc: Global, case: &Case) -> Result<bool, Fault> {
     let setup = setup_but(alloc, case.key, case.line)?;
-    let mut came = run_of(rt, alloc, case, &setup)?;
-    is_as_said(alloc, case, &setup, &mut came)
+    is_as_said(alloc, case, &setup, &mut run_of(rt, alloc, case, &setup)?)
 }
 
 #[test]
 fn each_fault_has_its_status(rt: HostRuntime) -> Result<(), Fault> {
-    for case in &CASES {
+    for case in CASES {
         assert!(&rt; comes_to(&rt, rt.alloc(), case)?);
     }
     Ok(())
@@ -245,11 +242,33 @@ const BOTH_DONE: &[u8] = b"\x08\x01\0\0\x11\0\0\0\0\0\0\0\x01\0\0\0\0\
     \x0d\x01\0\0\x11\0\0\0\0\0\0\0\x01\0\0\0\0";
 
 /// Whether a run by the plain setup served one connection.
-fn is_plain(alloc: Global, came: &Came<MemPost>) -> Result<bool, AllocError> {
-    let told = told(alloc, &came.posts)?;
+fn is_plain(alloc: Global, came: &Came<MemPost>) -> Result<bool, Fault> {
     let is_home = is_at(&came.place, ["otplogd.sock", "otplogd", "vault"], 1);
-    let is_told = sent(&came.posts, 0) == BOTH_DONE && told.as_slice() == b"hi".as_slice();
-    Ok(came.status == 0 && is_home && is_told && came.log.held() == PLAIN_LOG.as_bytes())
+    let is_answered = came.status == 0 && sent(&came.posts, 0) == BOTH_DONE;
+    let is_logged = is_home && is_answered && came.log.held() == PLAIN_LOG.as_bytes();
+    Ok(is_logged && told(alloc, &came.posts)?.as_slice() == b"hi".as_slice())
+}
+
+/// The run by the plain setup of one connection whose child sends pieces of this length, with calls that
+/// fail.
+fn plain_run<R: Threads + Wait + Sync>(
+    rt: &R,
+    alloc: Global,
+    piece: usize,
+    fails: &[Fail],
+) -> Result<Came<MemPost>, Fault>
+    requires { 1 ≤ piece }
+{
+    let pre = smallest(alloc)?;
+    let play = Play {
+        name: "",
+        setup: b"",
+        list: b"",
+        sessions: &[only(&pre)],
+        piece,
+        fails,
+    };
+    come(rt, alloc, &play, 1)
 }
 
 /// Whether the plain setup serves one connection whose child sends pieces of this length.
@@ -260,17 +279,7 @@ fn is_plainly_served<R: Threads + Wait + Sync>(
 ) -> Result<bool, Fault>
     requires { 1 ≤ piece }
 {
-    let pre = smallest(alloc)?;
-    let play = Play {
-        name: "",
-        setup: b"",
-        list: b"",
-        sessions: &[only(&pre)],
-        piece,
-        fails: &[],
-    };
-    let came = come(rt, alloc, &play, 1)?;
-    Ok(is_plain(alloc, &came)?)
+    is_plain(alloc, &plain_run(rt, alloc, piece, &[])?)
 }
 
 #[test]
@@ -278,6 +287,43 @@ fn the_smallest_run_succeeds(rt: HostRuntime) -> Result<(), Fault> {
     assert!(&rt; is_plainly_served(&rt, rt.alloc(), 100)?);
     assert!(&rt; is_plainly_served(&rt, rt.alloc(), 15)?);
     assert!(&rt; is_plainly_served(&rt, rt.alloc(), 1)?);
+    Ok(())
+}
+
+/// A receiving that was asked after so many bytes were taken and sent.
+const fn after(taken: usize, sent: usize) -> Receiving {
+    Receiving { taken, sent }
+}
+
+/// Whether these receivings were asked of the first child that was given back.
+fn are_asked(posts: &[MemPost], want: &[Receiving]) -> bool {
+    match posts.first().and_then(|post| post.talks().first()) {
+        Some(talk) => match &talk.receivings {
+            Some(receivings) => receivings.as_slice() == want,
+            None => false,
+        },
+        None => false,
+    }
+}
+
+/// Whether the smallest run asks its child for these receivings, by pieces of this length.
+fn asks_for<R: Threads + Wait + Sync>(
+    rt: &R,
+    alloc: Global,
+    piece: usize,
+    want: &[Receiving],
+) -> Result<bool, Fault>
+    requires { 1 ≤ piece }
+{
+    Ok(are_asked(&plain_run(rt, alloc, piece, &[])?.posts, want))
+}
+
+#[test]
+fn a_child_is_asked_for_bytes_only_once_it_is_answered(rt: HostRuntime) -> Result<(), Fault> {
+    let cut = [after(0, 0), after(16, 0), after(32, 17)];
+    assert!(&rt; asks_for(&rt, rt.alloc(), 16, &cut)?);
+    assert!(&rt; asks_for(&rt, rt.alloc(), 30, &[after(0, 0), after(30, 17)])?);
+    assert!(&rt; asks_for(&rt, rt.alloc(), 100, &[after(0, 0)])?);
     Ok(())
 }
 
@@ -292,27 +338,22 @@ fn lost(journal: &[Event]) -> usize {
     journal.iter().filter(is_lost).count()
 }
 
-/// Whether the smallest run goes on without an answer after a line of the log that is cut short.
+/// Whether a run went on without an answer after a line of the log that is cut short.
+fn went_unanswered(came: &Came<MemPost>) -> bool {
+    let is_cut = came.log.held() == CUT_LOG.as_bytes();
+    let is_lost = came.journal.len() == 4 && lost(&came.journal) == 2;
+    let is_answered_once = sent(&came.posts, 0) == WRITE_DONE;
+    came.status == 7 && is_cut && is_lost && is_answered_once
+}
+
+/// Whether the smallest run does.
 fn is_unanswered<R: Threads + Wait + Sync>(rt: &R, alloc: Global) -> Result<bool, Fault> {
-    let pre = smallest(alloc)?;
     let fail = Fail {
         call: CallKind::Append,
         number: 3,
         sent: 5,
     };
-    let play = Play {
-        name: "",
-        setup: b"",
-        list: b"",
-        sessions: &[only(&pre)],
-        piece: 4_096,
-        fails: &[fail],
-    };
-    let came = come(rt, alloc, &play, 1)?;
-    let is_cut = came.log.held() == CUT_LOG.as_bytes();
-    let is_lost = came.journal.len() == 4 && lost(&came.journal) == 2;
-    let is_answered_once = sent(&came.posts, 0) == WRITE_DONE;
-    Ok(came.status == 7 && is_cut && is_lost && is_answered_once)
+    Ok(went_unanswered(&plain_run(rt, alloc, 4_096, &[fail])?))
 }
 
 /// The reply to WRITE in session 1, done.

@@ -2,7 +2,8 @@
 use Rattle.std.proofs.Common.{◌≡◌, ◌≢◌, ◌⊎◌, ℕ, ◌≤◌, Bool, true, false, List, [], ◌∷◌, ◌++◌, length, Option, Some, None, Result, Ok, Err, refl, sym, ap, subst, ◌∙◌, arith, inl, inr, append-nil}
 use Rattle.std.specs.Prelude.{IfSome, slice_get, is_some}
 use Rattle.info_hooks.specs.declared.key.Key.{Key}
-use Rattle.monitor_book.specs.Lines.{LogMatches}
+use Rattle.monitor_book.specs.declared.opened.Held.{Held}
+use Rattle.monitor_book.specs.Lines.{AppendsLines, HoldsLines, IsUnwritten, LogMatches}
 use Rattle.monitor_run.specs.Headline.{JournalIsLegal, RunPromises}
 use Rattle.otp_ledger.specs.Accounts.{LedgerParts}
 use Rattle.otp_ledger.specs.Standing.{StandsFor}
@@ -279,7 +280,7 @@ plain_printed source setup ledger old new ReplaceRose written lost failed w is p
 
 -- ---- where somebody was served
 
-module _ {P : Type 0} (source : Source) (service : Service) (ledger : LedgerParts) (written : Result (Unit {0}) ServeError) (failed : Bool) (journal : List Event) (posts : List P) (scene : P → Option Scene) (faults : P → Faults) (old mid new : Option Contents) (held_old held_new : Option (List ℕ)) (log_old log_new : ℕ) (ReadRose ReplaceRose ListenRose : Type 0) (ran : RunPromises service failed journal posts scene faults held_old held_new log_old log_new) (writes : WritesBack source service.setup ledger mid new ReplaceRose written) where
+module _ {P : Type 0} (source : Source) (service : Service) (ledger : LedgerParts) (written : Result (Unit {0}) ServeError) (failed : Bool) (journal : List Event) (posts : List P) (scene : P → Option Scene) (faults : P → Faults) (old mid new : Option Contents) (held_old held_new : Held) (log_old log_new : ℕ) (ReadRose ReplaceRose ListenRose : Type 0) (ran : RunPromises service failed journal posts scene faults held_old held_new log_old log_new) (writes : WritesBack source service.setup ledger mid new ReplaceRose written) where
   tells : EndTells (run_end written (has_lost journal) failed) written (has_lost journal) failed
   tells = end_tells written (has_lost journal) failed (written_end source service.setup ledger mid new ReplaceRose written writes)
 
@@ -359,17 +360,27 @@ module _ {P : Type 0} (source : Source) (service : Service) (ledger : LedgerPart
 no_post : {P : Type 0} {X : Type 0} (posts : List P) (worker : ℕ) (post : P) → posts ≡ [] → slice_get posts worker ≡ Some post → X
 no_post posts worker post none is = absurd (let e : None ≡ Some post = sym (ap (λ ps. slice_get ps worker) none) ∙ is in cc)
 
-log_unchanged : (setup : Settings) (held_old held_new : Option (List ℕ)) → Gains held_old [] held_new → LogMatches setup [] held_old held_new
-log_unchanged setup held_old None gains = tt
-log_unchanged setup None (Some after) gains = absurd gains
-log_unchanged setup (Some before) (Some after) gains = record { lines = (0, gains ∙ sym (append-nil (before ++ []))) }
+log_unchanged : (setup : Settings) (held_old held_new : Held) → IsUnwritten held_old held_new → LogMatches setup [] held_old held_new
+log_unchanged setup held_old held_new same = record {
+  lines = lines held_old.bytes held_new.bytes same.bytes;
+  appends = appends held_old.lengths held_new.lengths same.lengths;
+} where
+  lines : (before after : Option (List ℕ)) → Gains before [] after → Goes (HoldsLines setup []) before after
+  lines before None gains = tt
+  lines None (Some after) gains = absurd gains
+  lines (Some before) (Some after) gains = record { lines = (0, gains ∙ sym (append-nil (before ++ []))) }
+
+  appends : (before after : Option (List ℕ)) → Gains before [] after → Goes (AppendsLines []) before after
+  appends before None gains = tt
+  appends None (Some after) gains = absurd gains
+  appends (Some before) (Some after) gains = record { appends = (0, gains ∙ sym (append-nil (before ++ []))) }
 
 module _ {P : Type 0} (source : Source) (service : Service) (status : ℕ) (journal : List Event) (posts : List P) (scene : P → Option Scene) (faults : P → Faults) (events : journal ≡ []) (none : posts ≡ []) where
   legal : JournalIsLegal service.setup journal
   legal = subst (JournalIsLegal service.setup) (sym events) (record { legal = IsLegal-none service.setup; proper = tt; workers = tt; few = omega arith; typed = tt })
 
-  unserved_promises : (old new : Option Contents) (listens_old listens_new : Option (List SitePlace)) (held_old held_new : Option (List ℕ)) (ReadRose ReplaceRose ListenRose LogRose : Type 0)
-      → is_run_status status ≡ false → Goes SameFiles old new → Gains listens_old [] listens_new → Gains held_old [] held_new → (NoFault ReadRose ReplaceRose ListenRose LogRose faults posts → status ≡ 9)
+  unserved_promises : (old new : Option Contents) (listens_old listens_new : Option (List SitePlace)) (held_old held_new : Held) (ReadRose ReplaceRose ListenRose LogRose : Type 0)
+      → is_run_status status ≡ false → Goes SameFiles old new → Gains listens_old [] listens_new → IsUnwritten held_old held_new → (NoFault ReadRose ReplaceRose ListenRose LogRose faults posts → status ≡ 9)
       → ServePromises source service status journal posts scene faults old new listens_old listens_new held_old held_new ReadRose ReplaceRose ListenRose LogRose
   unserved_promises old new listens_old listens_new held_old held_new ReadRose ReplaceRose ListenRose LogRose not_run kept listens log nine = record {
     legal = legal;
@@ -437,8 +448,8 @@ pub record TellsWhy (source : Source) (forms : List Key) (old new : Option Conte
   pub unfresh : error ≡ errors.LogNotFresh → IsUnfresh source forms new
   pub ready : error ≡ errors.ListenFailed → IsServable source forms new
 
-pub unserved_ended : {P : Type 0} (source : Source) (forms : List Key) (error : ServeError) (end : Result (Unit {0}) ServeError) (journal : List Event) (posts : List P) (scene : P → Option Scene) (faults : P → Faults) (old new : Option Contents) (listens_old listens_new : Option (List SitePlace)) (held_old held_new : Option (List ℕ)) (ReadRose ReplaceRose ListenRose LogRose : Type 0)
-    → end ≡ Err error → TellsWhy source forms old new error ReadRose ListenRose → journal ≡ [] → posts ≡ [] → Goes SameFiles old new → Gains listens_old [] listens_new → Gains held_old [] held_new
+pub unserved_ended : {P : Type 0} (source : Source) (forms : List Key) (error : ServeError) (end : Result (Unit {0}) ServeError) (journal : List Event) (posts : List P) (scene : P → Option Scene) (faults : P → Faults) (old new : Option Contents) (listens_old listens_new : Option (List SitePlace)) (held_old held_new : Held) (ReadRose ReplaceRose ListenRose LogRose : Type 0)
+    → end ≡ Err error → TellsWhy source forms old new error ReadRose ListenRose → journal ≡ [] → posts ≡ [] → Goes SameFiles old new → Gains listens_old [] listens_new → IsUnwritten held_old held_new
     → ServeEnded source forms end journal posts scene faults old new listens_old listens_new held_old held_new ReadRose ReplaceRose ListenRose LogRose
 unserved_ended source forms error end journal posts scene faults old new listens_old listens_new held_old held_new ReadRose ReplaceRose ListenRose LogRose is why events none kept listens log =
     subst (λ e. ServeEnded source forms e journal posts scene faults old new listens_old listens_new held_old held_new ReadRose ReplaceRose ListenRose LogRose) (sym is) (record {

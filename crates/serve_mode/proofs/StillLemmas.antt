@@ -1,9 +1,11 @@
 -- What files say of a service, they say as long as they stay the same.
-use Rattle.std.proofs.Common.{◌≡◌, ℕ, ◌≤◌, arith, true, List, Option, Some, None, Result, Ok, refl, sym, ap, subst, ◌∙◌}
+use Rattle.std.proofs.Common.{◌≡◌, ℕ, ◌≤◌, arith, true, List, [], ◌∷◌, Option, Some, None, Result, Ok, refl, sym, ap, subst, ◌∙◌}
+use Rattle.std.specs.Option.{option_to_list}
 use Rattle.std.specs.Prelude.{IfSome, is_ok, is_some}
 use Rattle.std.proofs.lemmas.Bool.{false≢true}
 use Rattle.info_hooks.specs.declared.key.Key.{Key}
 use Rattle.outside.specs.Files.{Contents, SameFiles}
+use Rattle.outside.specs.FilesNow.{FilesNow, OnlyReads}
 use Rattle.outside.specs.Told.{Goes, Rose}
 use Rattle.outside.proofs.Told.{Rose-within}
 use Rattle.fixed_list.specs.FixedList.{list_of}
@@ -13,6 +15,8 @@ use Rattle.policy_model.specs.Settings.{Settings, plain_settings}
 use Rattle.service_model.specs.Service.{Service}
 use Rattle.account_file.specs.Entries.{entries_of}
 use Rattle.account_file.proofs.Once.{setup_once}
+use Rattle.setup_reading.specs.Touching.{ReadsNamed}
+use Rattle.setup_reading.proofs.Touching.{reads_more}
 use Rattle.service_reading.specs.declared.error.ServiceError.{ServiceError}
 use Rattle.service_reading.specs.Found.{FoundService, IsServiceIn, service_in}
 use Rattle.fresh_log.specs.Fresh.{IsFresh}
@@ -21,7 +25,7 @@ use Rattle.serve_mode.specs.declared.error.ServeError.{ServeError}
 use Rattle.serve_mode.specs.declared.error.ServeError.TheVariants as errors
 use Rattle.serve_mode.specs.Services.{HasFreshLog, IsServable, IsServedBy, IsUnfresh, plain_entries, tell_throughout}
 use Rattle.serve_mode.specs.Steps.{IsLogRefused, IsReadFrom, IsUnready, log_of, service_by}
-use Rattle.serve_mode.specs.Words.{Named, Plain, Source}
+use Rattle.serve_mode.specs.Words.{Named, Plain, Source, files_of, setups_of}
 
 -- the file of this name, as the files told before the run and tell still, spells the setup, and the one that it names the word list; the log is fresh
 pub record IsNamedService (name : List ℕ) (log : Option (List ℕ)) (forms : List Key) (old new : Option Contents) (service : Service) : Type 0 where
@@ -131,3 +135,10 @@ unready_log (Named name (Some log)) forms mid new setup words first meanwhile la
 unready_log (Named name (Some log)) forms mid new setup words first meanwhile last errors.LogLost read kept low refused = absurd refused
 unready_log (Named name (Some log)) forms mid new setup words first meanwhile last errors.AcceptFailed read kept low refused = absurd refused
 unready_log (Named name (Some log)) forms mid new setup words first meanwhile last errors.ReplaceFailed read kept low refused = absurd refused
+
+-- ---- which files are touched
+
+-- what was read, and then perhaps the log
+pub ready_files : (source : Source) (a b c : FilesNow) → ReadsNamed (setups_of source) (setups_of source) a b → OnlyReads (option_to_list (log_of source)) b c → ReadsNamed (files_of source) (setups_of source) a c
+ready_files Plain a b c first second = reads_more [] [] [] a b c first second
+ready_files (Named name log) a b c first second = reads_more (name ∷ []) (name ∷ []) (option_to_list log) a b c first second

@@ -8,7 +8,8 @@ use Rattle.account_writer.specs.CurrentSetup.{setup_after}
 use Rattle.account_writer.specs.Written.{IsFileOf}
 use Rattle.setup_reading.specs.Read.{judged_setup}
 use Rattle.info_hooks.specs.declared.key.Key.{Key}
-use Rattle.monitor_book.specs.Lines.{LogMatches}
+use Rattle.monitor_book.specs.declared.opened.Held.{Held}
+use Rattle.monitor_book.specs.Lines.{IsUnwritten, LogMatches}
 use Rattle.monitor_run.specs.Headline.{AreFaultless, ConversationsMatch, FaultEndsAreCounted, FaultsAreCounted}
 use Rattle.monitor_run.specs.Headline.{IsAnsweredWhole, JournalIsLegal, NoAcceptFailed, RunsToQuota, SessionsInOrder}
 use Rattle.monitor_run.specs.Headline.{SomeAcceptFailed}
@@ -124,7 +125,7 @@ pub record IsComplete {P : Type 0} (service : Service) (status : ℕ) (journal :
 -- all that is promised of a run by one service: setup, word list and forms
 pub record ServePromises {P : Type 0} (source : Source) (service : Service) (status : ℕ) (journal : List Event)
     (posts : List P) (scene : P → Option Scene) (faults : P → Faults) (old new : Option Contents)
-    (listens_old listens_new : Option (List SitePlace)) (held_old held_new : Option (List ℕ))
+    (listens_old listens_new : Option (List SitePlace)) (held_old held_new : Held)
     (ReadRose ReplaceRose ListenRose LogRose : Type 0) : Type 0 where
   pub legal : JournalIsLegal service.setup journal
   pub sessions : SessionsInOrder service journal
@@ -146,7 +147,7 @@ pub record ServePromises {P : Type 0} (source : Source) (service : Service) (sta
 -- listen, and neither log nor files changed
 pub record ServeEnded {P : Type 0} (source : Source) (forms : List Key) (end : Result (Unit {0}) ServeError)
     (journal : List Event) (posts : List P) (scene : P → Option Scene) (faults : P → Faults) (old new : Option Contents)
-    (listens_old listens_new : Option (List SitePlace)) (held_old held_new : Option (List ℕ))
+    (listens_old listens_new : Option (List SitePlace)) (held_old held_new : Held)
     (ReadRose ReplaceRose ListenRose LogRose : Type 0) : Type 0 where
   pub causes : ServeHasCause (status_of end) journal posts scene faults ReadRose ListenRose LogRose ReplaceRose
   pub unread : (error : ServiceError) → end ≡ Err (Unread error) → IsUnread source forms new ReadRose error
@@ -163,6 +164,6 @@ pub record ServeEnded {P : Type 0} (source : Source) (forms : List Key) (end : R
   pub promises : (service : Service) → tell_throughout source old new ≡ true → IsServedBy source forms old new service
       → ServePromises source service (status_of end) journal posts scene faults old new listens_old listens_new held_old
       held_new ReadRose ReplaceRose ListenRose LogRose
-  pub unlogged : posts ≡ [] → Gains held_old [] held_new
+  pub unlogged : posts ≡ [] → IsUnwritten held_old held_new
   pub unlistened : posts ≡ [] → Gains listens_old [] listens_new
   pub unchanged : posts ≡ [] → Goes SameFiles old new

@@ -1,6 +1,7 @@
 -- Inner: the steps of serving: what was read, that nobody was served, what was written back, how it ended.
 use Rattle.std.specs.Prelude.{◌≡◌, ◌⊎◌, ℕ, Bool, true, false, List, [], Option, Some, None, IfSome, Result, Ok, Err}
 use Rattle.info_hooks.specs.declared.key.Key.{Key}
+use Rattle.monitor_book.specs.declared.opened.Held.{Held}
 use Rattle.monitor_run.specs.Prepared.{LogStays}
 use Rattle.otp_ledger.specs.Accounts.{LedgerParts}
 use Rattle.otp_words.specs.Dictionaries.{plain_words}
@@ -49,7 +50,7 @@ IsUnready source forms contents ReadFailed _ = ⊥
 
 -- out of memory, or the site could not listen; the log stays, and the site listened nowhere
 pub record IsNotServed (error : ServeError) (listens_old listens_new : Option (List SitePlace))
-    (held_old held_new : Option (List ℕ)) (log_old log_new : ℕ) (ListenRose : Type 0) : Type 0 where
+    (held_old held_new : Held) (log_old log_new : ℕ) (ListenRose : Type 0) : Type 0 where
   pub why : (error ≡ errors.OutOfMemory) ⊎ ((error ≡ errors.ListenFailed) × ListenRose)
   pub listens : Gains listens_old [] listens_new
   pub log : LogStays held_old held_new log_old log_new

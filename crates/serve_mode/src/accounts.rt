@@ -1,10 +1,12 @@
 //! The accounts, written back.
 
-ghost use Rattle.std.specs.Prelude.{◌≡◌, ◌≤◌};
+ghost use Rattle.std.specs.Prelude.{◌≡◌, ◌∷◌, []};
+ghost use Rattle.outside.specs.FilesNow.{files_now};
 ghost use Rattle.outside.specs.Told.{Rose};
+ghost use Rattle.setup_reading.specs.Touching.{OnlyReplaces};
 ghost use Rattle.serve_mode.specs.Commands.{source_of};
 ghost use Rattle.serve_mode.specs.Steps.{WritesBack, WritesNamed};
-ghost use Rattle.serve_mode.specs.Words.{Plain};
+ghost use Rattle.serve_mode.specs.Words.{Plain, setups_of};
 
 use crate::command::ServeCommand;
 use crate::error::ServeError;
@@ -26,6 +28,8 @@ fn write_named<F: Files>(
     ensures written { WritesNamed name.now setup.now core.now.ledger (F.contents files.old) (F.contents files.new)
         (Rose (F.replace_faults files.old) (F.replace_faults files.new)) result }
     ensures read_faults { F.read_faults files.new ≡ F.read_faults files.old }
+    ensures files { let now = files_now F.contents F.read_faults F.replace_faults F.touched in
+        OnlyReplaces (name.now ∷ []) (now files.old) (now files.new) }
 {
     let Ok(name) = Word::of(alloc, name.as_bytes()) else {
         return Err(ServeError::OutOfMemory);
@@ -53,6 +57,8 @@ pub(crate) fn write_back<F: Files>(
         (Rose (F.replace_faults files.old) (F.replace_faults files.new)) result }
     ensures plain { source_of command.now ≡ Plain → files.new ≡ files.old }
     ensures read_faults { F.read_faults files.new ≡ F.read_faults files.old }
+    ensures files { let now = files_now F.contents F.read_faults F.replace_faults F.touched in
+        OnlyReplaces (setups_of (source_of command.now)) (now files.old) (now files.new) }
 {
     match command {
         ServeCommand::Plain => Ok(()),

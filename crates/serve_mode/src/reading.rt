@@ -1,15 +1,17 @@
 //! What a run serves by, read.
 
-ghost use Rattle.std.specs.Prelude.{◌≡◌, ◌≤◌, [], Err, IfOk, IfSome, None, OnOk};
-ghost use Rattle.outside.specs.Files.{SameFiles};
-ghost use Rattle.outside.specs.Told.{Goes, Rose};
+ghost use Rattle.std.specs.Prelude.{◌≡◌, [], Err, IfOk, IfSome, None, OnOk};
+ghost use Rattle.std.specs.Option.{option_to_list};
+ghost use Rattle.outside.specs.FilesNow.{OnlyReads, files_now};
+ghost use Rattle.outside.specs.Told.{Rose};
+ghost use Rattle.setup_reading.specs.Touching.{ReadsNamed};
 ghost use Rattle.service_reading.specs.declared.error.ServiceError.{ServiceError};
 ghost use Rattle.serve_mode.specs.Commands.{source_of};
 ghost use Rattle.serve_mode.specs.Errors.{IsUnread};
 ghost use Rattle.serve_mode.specs.declared.error.ServeError.{ServeError};
 ghost use Rattle.serve_mode.specs.Services.{HasFreshLog};
 ghost use Rattle.serve_mode.specs.Steps.{IsLogRefused, IsReadFrom, IsUnready, log_of};
-ghost use Rattle.serve_mode.specs.Words.{Plain};
+ghost use Rattle.serve_mode.specs.Words.{Plain, files_of, setups_of};
 
 use crate::command::ServeCommand;
 use crate::error::ServeError;
@@ -51,9 +53,9 @@ pub(crate) fn make_ready<'a, F: Files, I: Information>(
         (I.forms information.now) (F.contents files.new)
         (Rose (F.read_faults files.old) (F.read_faults files.new)) error }
     ensures plain { source_of command.now ≡ Plain → files.new ≡ files.old }
-    ensures kept { Goes SameFiles (F.contents files.old) (F.contents files.new) }
-    ensures read_faults { F.read_faults files.old ≤ F.read_faults files.new }
-    ensures replace_faults { F.replace_faults files.old ≤ F.replace_faults files.new }
+    ensures files { let source = source_of command.now in
+        let now = files_now F.contents F.read_faults F.replace_faults F.touched in
+        ReadsNamed (files_of source) (setups_of source) (now files.old) (now files.new) }
 {
     let house = read_house(alloc, command, files, information)?;
     check_log(alloc, command, files)?;
@@ -71,9 +73,8 @@ fn check_log<F: Files>(
         (F.contents files.new)
         (Rose (F.read_faults files.old) (F.read_faults files.new)) error }
     ensures plain { source_of command.now ≡ Plain → files.new ≡ files.old }
-    ensures kept { Goes SameFiles (F.contents files.old) (F.contents files.new) }
-    ensures read_faults { F.read_faults files.old ≤ F.read_faults files.new }
-    ensures replace_faults { F.replace_faults files.old ≤ F.replace_faults files.new }
+    ensures files { let now = files_now F.contents F.read_faults F.replace_faults F.touched in
+        OnlyReads (option_to_list (log_of (source_of command.now))) (now files.old) (now files.new) }
 {
     let ServeCommand::Named { log: Some(log), .. } = command else {
         return Ok(());
@@ -106,9 +107,9 @@ fn read_house<'a, F: Files, I: Information>(
         (I.forms information.now) (F.contents files.new)
         (Rose (F.read_faults files.old) (F.read_faults files.new)) error }
     ensures plain { source_of command.now ≡ Plain → files.new ≡ files.old }
-    ensures kept { Goes SameFiles (F.contents files.old) (F.contents files.new) }
-    ensures read_faults { F.read_faults files.old ≤ F.read_faults files.new }
-    ensures replace_faults { F.replace_faults files.old ≤ F.replace_faults files.new }
+    ensures files { let source = source_of command.now in
+        let now = files_now F.contents F.read_faults F.replace_faults F.touched in
+        ReadsNamed (setups_of source) (setups_of source) (now files.old) (now files.new) }
 {
     let parts = match command {
         ServeCommand::Plain => match plain_parts(alloc) {

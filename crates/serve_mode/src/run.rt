@@ -1,14 +1,17 @@
 //! The mode.
 
 ghost use Rattle.std.specs.Prelude.{◌≡◌, [], Err, false};
+ghost use Rattle.monitor_book.specs.Lines.{held_by};
 ghost use Rattle.monitor_run.specs.Prepared.{LogStays};
+ghost use Rattle.outside.specs.FilesNow.{files_now};
 ghost use Rattle.outside.specs.Told.{Rose};
 ghost use Rattle.policy_model.specs.Journal.{has_lost};
+ghost use Rattle.setup_reading.specs.Touching.{OnlyReplaces, TouchesNamed};
 ghost use Rattle.serve_mode.specs.Commands.{source_of};
 ghost use Rattle.serve_mode.specs.Finished.{IsFinished};
 ghost use Rattle.serve_mode.specs.Headline.{ServeEnded};
 ghost use Rattle.serve_mode.specs.Steps.{run_end};
-ghost use Rattle.serve_mode.specs.Words.{Plain};
+ghost use Rattle.serve_mode.specs.Words.{Plain, files_of, setups_of};
 
 use crate::accounts::write_back;
 use crate::command::ServeCommand;
@@ -80,6 +83,8 @@ fn finish<F: Files, P, K>(
     ensures posts { result.posts ≡ ran.posts }
     ensures plain { source_of command.now ≡ Plain → files.new ≡ files.old }
     ensures read_faults { F.read_faults files.new ≡ F.read_faults files.old }
+    ensures files { let now = files_now F.contents F.read_faults F.replace_faults F.touched in
+        OnlyReplaces (setups_of (source_of command.now)) (now files.old) (now files.new) }
 {
     let Ran {
         core,
@@ -119,15 +124,18 @@ pub fn run_serve<F: Files, S: Site, K: Sink, I: Information + Sync, R: Threads +
 ) -> Served<S::Post, K>
     ensures ended { ServeEnded (source_of command.now) (I.forms information.now) result.end result.journal.items
         result.posts.items S.Post.scene S.Post.faults
-        (F.contents files.old) (F.contents files.new) (S.listens site.old) (S.listens site.new) (K.held log)
-        (K.held result.log)
+        (F.contents files.old) (F.contents files.new) (S.listens site.old) (S.listens site.new)
+        (held_by K.held K.lengths log) (held_by K.held K.lengths result.log)
         (Rose (F.read_faults files.old) (F.read_faults files.new))
         (Rose (F.replace_faults files.old) (F.replace_faults files.new))
         (Rose (S.listen_faults site.old) (S.listen_faults site.new)) (Rose (K.faults log) (K.faults result.log)) }
-    ensures log { result.posts.items ≡ [] → LogStays (K.held log) (K.held result.log) (K.faults log)
-        (K.faults result.log) }
+    ensures log { result.posts.items ≡ [] → LogStays (held_by K.held K.lengths log)
+        (held_by K.held K.lengths result.log) (K.faults log) (K.faults result.log) }
     ensures logged { has_lost result.journal.items ≡ false → K.faults result.log ≡ K.faults log }
     ensures plain { source_of command.now ≡ Plain → files.new ≡ files.old }
+    ensures files { let source = source_of command.now in
+        let now = files_now F.contents F.read_faults F.replace_faults F.touched in
+        TouchesNamed (files_of source) (setups_of source) (setups_of source) (now files.old) (now files.new) }
 {
     match make_ready(alloc, command, files, information) {
         Ok(house) => match serve(rt, alloc, &house, site, log) {

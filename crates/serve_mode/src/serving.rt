@@ -1,6 +1,7 @@
 //! A run at a site.
 
 ghost use Rattle.std.specs.Prelude.{◌≡◌, ◌≤◌, [], ◌∷◌, IfErr, IfOk};
+ghost use Rattle.monitor_book.specs.Lines.{held_by};
 ghost use Rattle.monitor_run.specs.Headline.{RunPromises};
 ghost use Rattle.otp_ledger.specs.Standing.{StandsFor};
 ghost use Rattle.outside.specs.Told.{Gains, Rose};
@@ -45,15 +46,15 @@ pub(crate) fn serve<I: Information + Sync, S: Site, K: Sink, R: Threads + Wait +
 ) -> Result<Ran<S::Post, K>, (ServeError, K)>
     ensures promises { IfOk result
         (λ ran. RunPromises (service_by house.now.setup house.now.dictionary (I.forms house.now.information.now))
-        ran.accept_failed ran.journal.items ran.posts.items S.Post.scene S.Post.faults (K.held log) (K.held ran.log)
-        (K.faults log) (K.faults ran.log)) }
+        ran.accept_failed ran.journal.items ran.posts.items S.Post.scene S.Post.faults
+        (held_by K.held K.lengths log) (held_by K.held K.lengths ran.log) (K.faults log) (K.faults ran.log)) }
     ensures some { IfOk result (λ _. 1 ≤ house.now.setup.workers) }
     ensures setup { IfOk result (λ ran. ran.core.ledger.setup ≡ house.now.setup) }
     ensures ledger { IfOk result (λ ran. StandsFor ran.core.ledger (kept_events ran.journal.items)) }
     ensures listens { IfOk result (λ ran. Gains (S.listens site.old) (setup_place house.now.setup ∷ [])
         (S.listens site.new)) }
-    ensures error { IfErr result (λ e. IsNotServed e.0 (S.listens site.old) (S.listens site.new) (K.held log)
-        (K.held e.1) (K.faults log) (K.faults e.1)
+    ensures error { IfErr result (λ e. IsNotServed e.0 (S.listens site.old) (S.listens site.new)
+        (held_by K.held K.lengths log) (held_by K.held K.lengths e.1) (K.faults log) (K.faults e.1)
         (Rose (S.listen_faults site.old) (S.listen_faults site.new))) }
 {
     let Ok(place) = place_of(alloc, &house.setup) else {

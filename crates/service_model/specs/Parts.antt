@@ -1,6 +1,6 @@
 -- Believed: what one child had of a session.
 use Rattle.std.specs.Prelude.{◌≡◌, ◌≢◌, ◌≤◌, ℕ, true, false, List, [], ◌++◌, length, take, Option, Some, None}
-use Rattle.std.specs.Prelude.{IsSomeAnd, option_and_then, option_to_list}
+use Rattle.std.specs.Prelude.{IfSome, IsSomeAnd, option_and_then, option_to_list}
 use Rattle.std.specs.List.{AllByRecursion, flat_map}
 use Rattle.std.specs.Option.{option_map_or}
 use Rattle.imsg_frame.specs.Message.{spelling_of}
@@ -9,6 +9,7 @@ use Rattle.request_catalogue.specs.declared.width.Width.{Width}
 use Rattle.request_catalogue.specs.Widths.{frame_max}
 use Rattle.outside.specs.declared.act.Act.{Act}
 use Rattle.outside.specs.declared.act.Role.{Role}
+use Rattle.outside.specs.declared.receiving.Receiving.{Receiving}
 use Rattle.policy_model.specs.declared.event.Why.{Why}
 use Rattle.policy_model.specs.declared.event.Why.TheVariants as whys
 use Rattle.policy_model.specs.declared.event.Decision.{Decision}
@@ -20,7 +21,8 @@ use Rattle.service_model.specs.Requests.{CameBy}
 use Rattle.service_model.specs.Acts.{AreActsOf}
 use Rattle.service_model.specs.Answers.{answer_to, answers}
 
--- what one child had of a session: the steps of its requests, and the bytes taken, sent, left over and never received
+-- what one child had of a session: its requests' steps, the bytes taken, sent, left over and never received, and the
+-- receivings that were asked of it
 pub record Part : Type 0 where
   pub role : Role
   pub served : List Step
@@ -32,6 +34,7 @@ pub record Part : Type 0 where
   pub rest : List ℕ
   -- what the child sent and nobody received
   pub unread : List ℕ
+  pub receivings : Option (List Receiving)
 
 -- how a child's part ended: the session ended for a reason, or the user's child is next
 pub data PartEnd : Type 0 where
@@ -84,13 +87,29 @@ pub record LastSent (end : PartEnd) (whole sent : List ℕ) : Type 0 where
   pub cut : (n : ℕ) × (sent ≡ take n whole)
   pub all : end ≢ EndsSession whys.LinkFault → sent ≡ whole
 
--- what one child had of a session: its requests, their whole answers, the bytes that passed, and how it ended
+-- a receiving was asked of a child when the first of these requests were answered, and what it had taken besides was no
+-- whole frame
+pub record IsInOrder (service : Service) (exported : List ℕ) (served : List Step) (taken : List ℕ)
+    (receiving : Receiving) : Type 0 where
+  pub answered : List Step
+  pub later : List Step
+  pub served_is : served ≡ answered ++ later
+  pub held : List ℕ
+  pub partial : IsPartialFront service.setup.frames (frame_max service.setup.frames) held
+  pub behind : List ℕ
+  pub taken_is : taken ≡ (step_bytes service.setup.frames answered ++ held) ++ behind
+  pub had_taken : receiving.taken ≡ length (step_bytes service.setup.frames answered ++ held)
+  pub had_sent : receiving.sent ≡ length (answers service exported answered)
+
+-- what one child had of a session: its requests, their whole answers, the bytes that passed, in which order it was
+-- asked for them, and how it ended
 pub record IsPart (service : Service) (exported : List ℕ) (end : PartEnd) (part : Part) : Type 0 where
   pub each : AllByRecursion (IsRequestStep service) (requests_of part)
   pub on : AllByRecursion (GoesOn service exported) part.served
   pub taken : part.taken ≡ step_bytes service.setup.frames (requests_of part) ++ part.rest
   pub sent : (last : List ℕ) × (part.sent ≡ answers service exported part.served ++ last)
       × LastSent end (answers service exported (option_to_list part.final)) last
+  pub in_order : IfSome part.receivings (AllByRecursion (IsInOrder service exported part.served part.taken))
   pub ended : end ≢ EndsSession whys.LinkFault → EndsSo service.setup.frames end part.final part.rest part.unread
 
 -- the operations done for the request that ended a part

@@ -32,9 +32,10 @@ is_stop _ = false
 abbrev pub parts_of : List Sitting → List Part
 parts_of sittings = flat_map (λ s. s.parts) sittings
 
--- what a post reports of one child: its role, and the bytes taken from it and sent to it
+-- what a post reports of one child: its role, the bytes taken from it and sent to it, and the receivings
 abbrev pub talk_of : Part → Talk
-talk_of part = record { role = part.role; taken = part.taken; sent = part.sent }
+talk_of part =
+    record { role = part.role; taken = part.taken; sent = part.sent; receivings = part.receivings }
 
 -- all that a session's children sent, taken or left unread, is what the plan has for the connection with this number
 abbrev pub IsPlanned : List (List ℕ × List ℕ) → ℕ → Sitting → Type 0

@@ -1,5 +1,6 @@
 -- What files say of a service, step by step.
-use Rattle.std.proofs.Common.{◌≡◌, ℕ, List, Option, Some, None, Result, Ok, Err, sym, ap, subst, ◌∙◌}
+use Rattle.std.proofs.Common.{◌≡◌, ℕ, Bool, true, false, IfSome, List, Option, Some, None, Result, Ok, Err, sym, ap, subst, ◌∙◌}
+use Rattle.std.specs.Bool.{then_some}
 use Rattle.std.specs.Prelude.{option_map}
 use Rattle.std.specs.Result.{result_map_both}
 use Rattle.otp_words.specs.declared.fault.DictFault.{DictFault}
@@ -13,14 +14,18 @@ use Rattle.file_front.specs.Lists.{IsJudgedSo, IsListFault, list_text}
 use Rattle.info_hooks.specs.declared.key.Key.{Key}
 use Rattle.policy_model.specs.Settings.{Settings}
 use Rattle.account_file.specs.declared.fault.SetupFault.{SetupFault}
+use Rattle.account_file.specs.declared.fault.SetupKey.TheVariants as keys
+use Rattle.account_file.specs.declared.fault.SetupRule.TheVariants as rules
 use Rattle.account_file.specs.Entries.{SetupEntries, entries_of}
+use Rattle.account_file.specs.Faults.{demand_at}
+use Rattle.account_file.specs.Setups.{top}
 use Rattle.setup_reading.specs.declared.reading.SetupFileError.{SetupFileError}
 use Rattle.setup_reading.specs.declared.reading.SetupFileError.TheVariants as setup_errors
 use Rattle.setup_reading.specs.Read.{IsSetupError, IsSetupIn, setup_in, judged_setup}
 use Rattle.service_reading.specs.declared.error.ServiceError.{ServiceError}
 use Rattle.service_reading.specs.declared.error.ServiceError.TheVariants as errors
 use Rattle.service_reading.specs.Errors.{IsServiceError, error_of_list, error_of_setup}
-use Rattle.service_reading.specs.Found.{FoundService, IsServiceIn, informed, service_in}
+use Rattle.service_reading.specs.Found.{FoundService, IsServiceIn, are_said, informed, service_in}
 
 -- a service after its first steps
 abbrev found_words : SetupEntries → Result (List (List ℕ)) DictFault → Result FoundService ServiceError
@@ -52,6 +57,14 @@ setup_unread forms (Some files) name ReadFailed (setup_errors.Refused fault) why
 pub uninformed : (forms : List Key) (contents : Option Contents) (name : List ℕ) (ReadFailed : Type 0) (setup : Settings) (fault : SetupFault) → IsSetupIn contents name setup → informed forms (entries_of setup) ≡ Err fault → IsServiceError forms contents name ReadFailed (errors.SetupRefused fault)
 uninformed forms None name ReadFailed setup fault there refused = tt
 uninformed forms (Some files) name ReadFailed setup fault there refused = ap (found_file forms files) there ∙ ap (found_setup files) refused
+
+-- a setup all of whose numbers of information can be said is the one that was read
+pub informed_in : (forms : List Key) (contents : Option Contents) (name : List ℕ) (first setup : Settings) → informed forms (entries_of first) ≡ Ok (entries_of setup) → IsSetupIn contents name first → IsSetupIn contents name setup
+informed_in forms contents name first setup said there =
+    subst (λ (e : SetupEntries). IfSome contents (λ files. setup_in files name ≡ Some (Ok e))) (go (are_said forms (entries_of first).info) said) there where
+      go : (b : Bool) → demand_at (top keys.Info) rules.NoHook (then_some b (entries_of first)) ≡ Ok (entries_of setup) → entries_of first ≡ entries_of setup
+      go true e = cc
+      go false e = absurd cc
 
 -- what is found is what the word list says
 listed : (forms : List Key) (files later : Contents) (name : List ℕ) (first setup : Settings) → SameFiles files later → setup_in files name ≡ Some (Ok (entries_of first)) → informed forms (entries_of first) ≡ Ok (entries_of setup) → service_in forms later name ≡ found_text (entries_of setup) (list_text (later setup.words))

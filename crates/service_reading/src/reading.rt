@@ -1,10 +1,11 @@
 //! The reading.
 
-ghost use Rattle.std.specs.Prelude.{◌≡◌, ◌≤◌, Err, IfOk, Ok};
+ghost use Rattle.std.specs.Prelude.{◌≡◌, ◌∷◌, [], Err, IfOk, Ok};
 ghost use Rattle.file_front.specs.declared.list.ListError.{ListError};
 ghost use Rattle.file_front.specs.Lists.{IsJudgedSo, IsListFault};
-ghost use Rattle.outside.specs.Files.{SameFiles};
-ghost use Rattle.outside.specs.Told.{Goes, Rose};
+ghost use Rattle.outside.specs.FilesNow.{OnlyReads, files_now};
+ghost use Rattle.outside.specs.Told.{Rose};
+ghost use Rattle.setup_reading.specs.Touching.{ReadsNamed};
 ghost use Rattle.service_reading.specs.declared.error.ServiceError.{ServiceError};
 ghost use Rattle.service_reading.specs.Errors.{IsServiceError};
 ghost use Rattle.service_reading.specs.Found.{IsServiceIn};
@@ -43,9 +44,8 @@ pub fn read_service<F: Files, I: Information>(
     ensures error { (error : ServiceError) → result ≡ Err error → IsServiceError (I.forms information.now)
         (F.contents files.new)
         name.now (Rose (F.read_faults files.old) (F.read_faults files.new)) error }
-    ensures kept { Goes SameFiles (F.contents files.old) (F.contents files.new) }
-    ensures read_faults { F.read_faults files.old ≤ F.read_faults files.new }
-    ensures replace_faults { F.replace_faults files.old ≤ F.replace_faults files.new }
+    ensures files { let now = files_now F.contents F.read_faults F.replace_faults F.touched in
+        ReadsNamed (name.now ∷ []) (name.now ∷ []) (now files.old) (now files.new) }
 {
     let setup = read_setup_file(alloc, files, name)?;
     match informed(setup, information) {
@@ -65,9 +65,8 @@ fn with_list<F: Files>(
     ensures words { IfOk result (λ parts. IsJudgedSo (F.contents files.new) setup.words (Ok parts.dictionary)) }
     ensures fault { (error : ListError) → result ≡ Err error → IsListFault (F.contents files.new)
         setup.words (Rose (F.read_faults files.old) (F.read_faults files.new)) error }
-    ensures kept { Goes SameFiles (F.contents files.old) (F.contents files.new) }
-    ensures read_faults { F.read_faults files.old ≤ F.read_faults files.new }
-    ensures replace_faults { F.replace_faults files.old ≤ F.replace_faults files.new }
+    ensures files { let now = files_now F.contents F.read_faults F.replace_faults F.touched in
+        OnlyReads (setup.words ∷ []) (now files.old) (now files.new) }
 {
     let dictionary = read_list(alloc, files, setup.parts().words.as_str())?;
     Ok(ServiceParts { setup, dictionary })

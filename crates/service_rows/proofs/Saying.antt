@@ -10,7 +10,7 @@ use Rattle.child_protocol.specs.declared.run.ChildEnd.TheVariants as ends
 use Rattle.welcome_laws.specs.Shipped.{IsSaidWhole}
 
 pub told_said : (role : Role) (session : ℕ) (replies said bytes : List ℕ) (end : ChildEnd) (before after : Option Link)
-    → before ≡ Some (record { left = replies; taken = []; sent = [] })
+    → before ≡ Some (record { left = replies; taken = []; sent = []; receivings = Some [] })
     → HasRun role session end before after → end ≢ ends.LinkFault → IsSome after → IfSome after (λ l. bytes ≡ l.sent)
     → said ≡ bytes → IsSaidWhole role session replies said
 told_said role session replies said bytes end before (Some l) start run unfailed some sent same = record {

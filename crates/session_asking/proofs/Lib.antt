@@ -4,3 +4,4 @@ pub mod Done
 pub mod Answering
 pub mod Framing
 pub mod Served
+pub mod Links

@@ -4,7 +4,7 @@ use Rattle.imsg_frame.specs.Message.{IsMessage, Message}
 use Rattle.outside.specs.declared.act.Role.{Role}
 use Rattle.outside.specs.declared.faults.Faults.{Faults}
 use Rattle.outside.specs.Faults.{NoneFell}
-use Rattle.outside.specs.Link.{Exchanged, Link}
+use Rattle.outside.specs.Link.{Exchanged, IsUnasked, Link}
 use Rattle.outside.specs.Scene.{Played, Scene}
 use Rattle.outside.specs.Told.{Goes}
 use Rattle.policy_model.specs.declared.event.Event.{Event}
@@ -203,6 +203,7 @@ pub record EndsProperly (turn : Turn) (before after : Stand) : Type 0 where
 -- a message was answered, or its session handed over
 pub record Answered (message : Message) (turn : Turn) (before after : Stand) : Type 0 where
   pub serves : Serves (whose_of before) message turn (moment_of before) (moment_of after)
+  pub unasked : Goes IsUnasked before.live.child.link after.live.child.link
   pub leaves : Leaves before.desk.service.setup before.live.session turn before.seat.rights before.seat.seen
       after.seat.rights after.seat.seen after.live.user
   pub rights : KeepsRights 1 before.seat.rights after.seat.rights

@@ -42,7 +42,8 @@ use Rattle.service_model.specs.Users.{user_role}
 use Rattle.service_model.proofs.Lists.{All-push, count-append}
 use Rattle.service_model.proofs.Steps.{acts-append, none_came_by, places-append}
 use Rattle.session_asking.specs.Serving.{Moment, Steps, Whose, whose}
-use Rattle.session_loop.specs.Child.{HandsOn, export_step, left_in}
+use Rattle.session_loop.specs.Child.{AsksFrom, HandsOn, export_step, left_in, receivings_in}
+use Rattle.session_loop.proofs.AskOrder.{Asks-whole}
 use Rattle.session_loop.specs.Sessions.{AfterChange, HasChildren, HasEnd, HasPart, HasSecond, IsPlannedPart}
 use Rattle.session_loop.proofs.EndLemmas.{Goes-weaker, Returned, given_back}
 use Rattle.session_loop.proofs.Turning.{Steps-then}
@@ -117,7 +118,7 @@ first_handed w e state a b held user outcome v nothing have none changes unused 
     let final : Step = done_step have.front e have.message acts in
     let given = answers service [] have.served in
     let left = left_in b.link in
-    let pre : Part = record { role = Pre w.session; served = have.served; final = Some final; taken = have.received; sent = given; rest = have.rest; unread = left } in
+    let pre : Part = record { role = Pre w.session; served = have.served; final = Some final; taken = have.received; sent = given; rest = have.rest; unread = left; receivings = receivings_in b.link } in
     let taken : have.received ≡ step_bytes width (have.served ++ final ∷ []) ++ have.rest = ap (λ h. h ++ have.received) (sym none) ∙ have.framed ∙ ap (λ xs. xs ++ have.rest) (bytes_same width have.served have.front e have.message acts) in
     let verified : user ≡ user_role service.setup (place_of have.front e) = is ∙ have.role in
     let step_is : IsRequestStep service final = subst (λ n. IsRequestStep service (done_step have.front e have.message (Finish (Pre n) ∷ Start user outcome ∷ []))) have.session_is (export_is service have.front e have.message user outcome have.came have.exported verified) in
@@ -133,6 +134,7 @@ first_handed w e state a b held user outcome v nothing have none changes unused 
         on = subst (λ x. AllByRecursion (GoesOn service x) have.served) nothing have.on;
         taken = taken;
         sent = ([], sym (append-nil given), record { cut = (0, refl); all = λ ne. sym untold });
+        in_order = Asks-whole service [] have.served held have.received a.link b.link none unused (subst (λ x. Goes (AsksFrom service x have.served held have.received) a.link b.link) nothing have.asks);
         ended = λ ne. have.exported;
       };
       final = final;
@@ -142,9 +144,9 @@ first_handed w e state a b held user outcome v nothing have none changes unused 
       state_is = have.body;
       steps = record { own = have.steps.own ∙ ap (λ ps. worker_places a.seen w.worker ++ ps) (places_same have.served have.front e have.message acts) };
       played = subst (λ (xs : List Act). Goes (Played xs (talk_of pre ∷ []) (pre.unread ∷ [])) a.scene v) (sym done)
-          (Goes-then (Returned (step_acts have.served) (Pre w.session) have.received given left) (Played (Start user outcome ∷ []) [] []) (Played ((step_acts have.served ++ Finish (Pre w.session) ∷ []) ++ Start user outcome ∷ []) (talk_of pre ∷ []) (pre.unread ∷ []))
+          (Goes-then (Returned (step_acts have.served) (Pre w.session) have.received given left (receivings_in b.link)) (Played (Start user outcome ∷ []) [] []) (Played ((step_acts have.served ++ Finish (Pre w.session) ∷ []) ++ Start user outcome ∷ []) (talk_of pre ∷ []) (pre.unread ∷ []))
           (λ x y z first second. Played-then (step_acts have.served ++ Finish (Pre w.session) ∷ []) (Start user outcome ∷ []) (talk_of pre ∷ []) [] (pre.unread ∷ []) [] x y z first.played second) a.scene changes.between v back changes.started);
-      planned = Goes-then (Returned (step_acts have.served) (Pre w.session) have.received given left) (Played (Start user outcome ∷ []) [] []) (IsPlannedPart pre) (λ x y z first second. first.planned) a.scene changes.between v back changes.started;
+      planned = Goes-then (Returned (step_acts have.served) (Pre w.session) have.received given left (receivings_in b.link)) (Played (Start user outcome ∷ []) [] []) (IsPlannedPart pre) (λ x y z first second. first.planned) a.scene changes.between v back changes.started;
     }
 
 -- the connections that came stay the same while a child is served

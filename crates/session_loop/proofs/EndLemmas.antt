@@ -5,8 +5,9 @@ use Rattle.outside.specs.declared.act.Act.{Act}
 use Rattle.outside.specs.declared.act.Act.TheVariants.{Finish, HangUp}
 use Rattle.outside.specs.declared.act.Role.{Role}
 use Rattle.outside.specs.declared.act.Talk.{Talk}
+use Rattle.outside.specs.declared.receiving.Receiving.{Receiving}
 use Rattle.outside.specs.Link.{Exchanged, Link}
-use Rattle.outside.specs.Scene.{GivenBack, IsUnused, Played, Scene, planned_bytes}
+use Rattle.outside.specs.Scene.{GivenBack, IsUnused, Played, Scene, planned_bytes, talk_by}
 use Rattle.outside.specs.Told.{Goes}
 use Rattle.outside.proofs.Scenes.{Played-then}
 use Rattle.outside.proofs.Told.{Goes-then}
@@ -38,7 +39,8 @@ use Rattle.child_keeper.specs.Starts.{IsNewChild}
 use Rattle.session_asking.specs.declared.live.LoggedIn.{LoggedIn}
 use Rattle.session_asking.specs.Known.{IsServed, IsStillOpen}
 use Rattle.session_turns.specs.Joins.{Joins, KeepsRights, Rights}
-use Rattle.session_loop.specs.Child.{Concludes, EndsWithin, left_in}
+use Rattle.session_loop.specs.Child.{Concludes, EndsWithin, left_in, receivings_in}
+use Rattle.session_loop.proofs.AskOrder.{Asks-whole}
 use Rattle.session_loop.specs.Sessions.{CanEnd, ClosesWith, EndsOpen, HasPart, IsOver, IsPlannedPart, LeavesWithin}
 use Rattle.session_loop.proofs.Turning.{Steps-then}
 
@@ -78,22 +80,22 @@ no_keeper width why final rest unread ended is = go final (subst (λ w. EndsSess
   go (Some step) ends = no_keeper_by step.place.event.decision ends.1
 
 -- what passed with a child that was given back
-pub record Returned (acts : List Act) (role : Role) (received given left : List ℕ) (before after : Scene) : Type 0 where
-  pub played : Played (acts ++ Finish role ∷ []) (record { role = role; taken = received; sent = given } ∷ []) (left ∷ []) before after
+pub record Returned (acts : List Act) (role : Role) (received given left : List ℕ) (receivings : Option (List Receiving)) (before after : Scene) : Type 0 where
+  pub played : Played (acts ++ Finish role ∷ []) (record { role = role; taken = received; sent = given; receivings = receivings } ∷ []) (left ∷ []) before after
   pub planned : received ++ left ≡ planned_bytes before role
 
-returned_told : (acts : List Act) (role : Role) (received given : List ℕ) (s t u : Scene) (k l : Link) → Played acts [] [] s t → Played (Finish role ∷ []) (record { role = role; taken = l.taken; sent = l.sent } ∷ []) (l.left ∷ []) t u → Exchanged received given k l → IsUnused k → k.left ≡ planned_bytes s role → Returned acts role received given l.left s u
+returned_told : (acts : List Act) (role : Role) (received given : List ℕ) (s t u : Scene) (k l : Link) → Played acts [] [] s t → Played (Finish role ∷ []) (talk_by role l ∷ []) (l.left ∷ []) t u → Exchanged received given k l → IsUnused k → k.left ≡ planned_bytes s role → Returned acts role received given l.left l.receivings s u
 returned_told acts role received given s t u k l served finished passed unused planned =
-    let talk : Talk = record { role = role; taken = l.taken; sent = l.sent } in
+    let talk : Talk = talk_by role l in
     let taken : l.taken ≡ received = passed.taken ∙ ap (λ xs. xs ++ received) unused.taken in
     let sent : l.sent ≡ given = passed.sent ∙ ap (λ xs. xs ++ given) unused.sent in
-    let same : talk ≡ record { role = role; taken = received; sent = given } = rw (taken, sent) refl in
+    let same : talk ≡ record { role = role; taken = received; sent = given; receivings = l.receivings } = rw (taken, sent) refl in
     record {
       played = subst (λ (x : Talk). Played (acts ++ Finish role ∷ []) (x ∷ []) (l.left ∷ []) s u) same (Played-then acts (Finish role ∷ []) [] (talk ∷ []) [] (l.left ∷ []) s t u served finished);
       planned = sym passed.left ∙ planned;
     }
 
-pub given_back : (acts : List Act) (role : Role) (received given : List ℕ) (s t u : Option Scene) (k l : Option Link) → Goes (Played acts [] []) s t → GivenBack role l t u → Goes (Exchanged received given) k l → IfSome k IsUnused → IfSome s (λ b. IfSome k (λ x. x.left ≡ planned_bytes b role)) → Goes (Returned acts role received given (left_in l)) s u
+pub given_back : (acts : List Act) (role : Role) (received given : List ℕ) (s t u : Option Scene) (k l : Option Link) → Goes (Played acts [] []) s t → GivenBack role l t u → Goes (Exchanged received given) k l → IfSome k IsUnused → IfSome s (λ b. IfSome k (λ x. x.left ≡ planned_bytes b role)) → Goes (Returned acts role received given (left_in l) (receivings_in l)) s u
 given_back acts role received given s t None k l served finished passed unused planned = tt
 given_back acts role received given s t (Some u) k None served finished passed unused planned = absurd (let e = finished in cc)
 given_back acts role received given s None (Some u) k (Some l) served finished passed unused planned = absurd finished
@@ -125,7 +127,7 @@ has_part w live why a b c v held concludes none ends opened closes unused planne
     let given = answers w.service w.exported concludes.served ++ concludes.last in
     let left = left_in b.link in
     let taken : concludes.received ≡ step_bytes width requests ++ concludes.rest = ap (λ h. h ++ concludes.received) (sym none) ∙ concludes.framed in
-    let part : Part = record { role = live; served = concludes.served; final = concludes.final; taken = concludes.received; sent = given; rest = concludes.rest; unread = left } in
+    let part : Part = record { role = live; served = concludes.served; final = concludes.final; taken = concludes.received; sent = given; rest = concludes.rest; unread = left; receivings = receivings_in b.link } in
     let acts : List Act = Finish live ∷ HangUp ∷ [] in
     let no : why ≢ whys.KeeperFault = no_keeper width why concludes.final concludes.rest left concludes.ended in
     let end = ends.by live acts (finishes live why no) in
@@ -135,15 +137,15 @@ has_part w live why a b c v held concludes none ends opened closes unused planne
     record {
       part = part;
       role = refl;
-      is = record { each = concludes.each; on = concludes.on; taken = taken; sent = (concludes.last, refl, concludes.sent); ended = concludes.ended };
+      is = record { each = concludes.each; on = concludes.on; taken = taken; sent = (concludes.last, refl, concludes.sent); in_order = Asks-whole w.service w.exported concludes.served held concludes.received a.link b.link none unused concludes.asks; ended = concludes.ended };
       served = no;
       ending = end.ending;
       ends = subst (λ n. Rattle.service_model.specs.Sittings.IsEnding n live why end.ending) opened end.ends;
       steps = Steps-then w.worker requests (end.ending ∷ []) a.seen b.seen c concludes.steps end.steps;
       played = subst (λ (acts : List Act). Goes (Played acts (talk_of part ∷ []) (left ∷ [])) a.scene v) (sym steps_acts)
-          (Goes-then (Returned (step_acts requests) live concludes.received given left) (Played (HangUp ∷ []) [] []) (Played done (talk_of part ∷ []) (left ∷ []))
+          (Goes-then (Returned (step_acts requests) live concludes.received given left (receivings_in b.link)) (Played (HangUp ∷ []) [] []) (Played done (talk_of part ∷ []) (left ∷ []))
           (λ x y z first second. Played-then (step_acts requests ++ Finish live ∷ []) (HangUp ∷ []) (talk_of part ∷ []) [] (left ∷ []) [] x y z first.played second) a.scene closes.between v back closes.closed);
-      planned = Goes-then (Returned (step_acts requests) live concludes.received given left) (Played (HangUp ∷ []) [] []) (IsPlannedPart part) (λ x y z first second. first.planned) a.scene closes.between v back closes.closed;
+      planned = Goes-then (Returned (step_acts requests) live concludes.received given left (receivings_in b.link)) (Played (HangUp ∷ []) [] []) (IsPlannedPart part) (λ x y z first second. first.planned) a.scene closes.between v back closes.closed;
     }
 
 -- a session that is still open may be ended, and then its worker has made at most two asks more than the session may

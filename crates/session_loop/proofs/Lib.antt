@@ -1,4 +1,5 @@
 pub mod Reading
+mod AskOrder
 pub mod Turning
 pub mod Parts
 pub mod EndLemmas

@@ -1,10 +1,10 @@
 -- Turns of serving a child, one after the other.
 use Rattle.std.proofs.Common.{◌≡◌, ℕ, true, false, List, [], ◌∷◌, ◌++◌, Option, Some, None, option_to_list, refl, sym, ap, subst, ◌∙◌, append_assoc, append-nil}
 use Rattle.std.specs.List.{AllByRecursion}
-use Rattle.std.proofs.lemmas.List.Concat.{flat_map-append}
 use Rattle.imsg_frame.specs.Cut.{IsBadFront}
 use Rattle.imsg_frame.specs.Message.{Message, spelling_of}
-use Rattle.outside.specs.Link.{Exchanged, Link}
+use Rattle.imsg_frame.specs.Cut.{IsPartialFront}
+use Rattle.outside.specs.Link.{Exchanged, IsAskedOnce, IsUnasked, Link}
 use Rattle.outside.specs.Scene.{Played, Scene}
 use Rattle.outside.specs.Told.{Goes}
 use Rattle.outside.proofs.Exchanges.{Exchanges-none, Exchanges-then}
@@ -12,18 +12,18 @@ use Rattle.outside.proofs.Scenes.{Plays-none, Plays-then}
 use Rattle.policy_model.specs.declared.event.Event.{Event}
 use Rattle.policy_model.specs.declared.event.Why.{Why}
 use Rattle.policy_model.specs.declared.event.Why.TheVariants as whys
-use Rattle.request_catalogue.specs.declared.width.Width.{Width}
 use Rattle.request_catalogue.specs.Widths.{frame_max}
 use Rattle.service_model.specs.Answers.{answer_to, answers}
 use Rattle.service_model.specs.Parts.{EndsSession, GoesOn, IsRequestStep, LastSent, step_bytes}
 use Rattle.service_model.specs.Cases.{message_bytes}
 use Rattle.service_model.specs.Places.{Step, step_acts, step_places, worker_places}
-use Rattle.service_model.specs.Service.{Service}
 use Rattle.service_model.proofs.Lists.{All-append}
 use Rattle.service_model.proofs.Steps.{acts-append, places-append}
 use Rattle.session_asking.specs.declared.asking.Turn.{Turn}
 use Rattle.session_asking.specs.declared.asking.Turn.TheVariants as turns
 use Rattle.session_asking.specs.Serving.{HasReplied, Moment, Serves, Steps, Whose, moment}
+use Rattle.session_asking.proofs.Links.{unasked_none}
+use Rattle.session_loop.proofs.AskOrder.{Asks-none, Asks-once, Asks-then, answers-append, bytes-append}
 use Rattle.session_loop.specs.Child.{Concludes, HandsOn, PartTaken, Proceeds, Receives, TurnTaken, ends_part, export_step}
 
 -- no step, and steps one after the other
@@ -39,12 +39,6 @@ Steps-then worker xs ys a b c first second = record {
 pub Plays-steps : (xs ys : List Step) (a b c : Option Scene) → Goes (Played (step_acts xs) [] []) a b → Goes (Played (step_acts ys) [] []) b c → Goes (Played (step_acts (xs ++ ys)) [] []) a c
 Plays-steps xs ys a b c first second = subst (λ acts. Goes (Played acts [] []) a c) (sym (acts-append xs ys)) (Plays-then (step_acts xs) (step_acts ys) [] [] [] [] a b c first second)
 
-pub bytes-append : (width : Width) (xs ys : List Step) → step_bytes width (xs ++ ys) ≡ step_bytes width xs ++ step_bytes width ys
-bytes-append width xs ys = flat_map-append (λ s. message_bytes width s.message) xs ys
-
-pub answers-append : (service : Service) (exported : List ℕ) (xs ys : List Step) → answers service exported (xs ++ ys) ≡ answers service exported xs ++ answers service exported ys
-answers-append service exported xs ys = flat_map-append (answer_to service exported) xs ys
-
 joined : (h r r' a h' b h'' : List ℕ) → h ++ r ≡ a ++ h' → h' ++ r' ≡ b ++ h'' → h ++ (r ++ r') ≡ (a ++ b) ++ h''
 joined h r r' a h' b h'' first second = sym (append_assoc h r r') ∙ ap (λ xs. xs ++ r') first ∙ append_assoc a h' r' ∙ ap (λ xs. a ++ xs) second ∙ sym (append_assoc a b h'')
 
@@ -59,6 +53,7 @@ Proceeds-none w m held = record {
   received = [];
   framed = append-nil held;
   bytes = Exchanges-none m.link;
+  asks = Asks-none w.service w.exported [] held [] m.link m.link (unasked_none m.link);
 }
 
 pub Proceeds-then : (w : Whose) (a b c : Moment) (h i j : List ℕ) → Proceeds w a b h i → Proceeds w b c i j → Proceeds w a c h j
@@ -74,6 +69,7 @@ Proceeds-then w a b c h i j first second =
       framed = joined h first.received second.received (step_bytes width first.served) i (step_bytes width second.served) j first.framed second.framed ∙ ap (λ xs. xs ++ j) (sym (bytes-append width first.served second.served));
       bytes = subst (λ xs. Goes (Exchanged (first.received ++ second.received) xs) a.link c.link) (sym (answers-append w.service w.exported first.served second.served))
           (Exchanges-then first.received (answers w.service w.exported first.served) second.received (answers w.service w.exported second.served) a.link b.link c.link first.bytes second.bytes);
+      asks = Asks-then w.service w.exported first.served second.served h first.received i second.received a.link b.link c.link first.framed first.bytes first.asks second.asks;
     }
 
 pub Concludes-after : (w : Whose) (why : Why) (a b c : Moment) (h i : List ℕ) → Proceeds w a b h i → Concludes w why b c i → Concludes w why a c h
@@ -97,6 +93,7 @@ Concludes-after w why a b c h i first second =
       bytes = subst (λ xs. Goes (Exchanged (first.received ++ second.received) xs) a.link c.link)
           (sym (append_assoc (answers w.service w.exported first.served) (answers w.service w.exported second.served) second.last) ∙ ap (λ xs. xs ++ second.last) (sym (answers-append w.service w.exported first.served second.served)))
           (Exchanges-then first.received (answers w.service w.exported first.served) second.received (answers w.service w.exported second.served ++ second.last) a.link b.link c.link first.bytes second.bytes);
+      asks = Asks-then w.service w.exported first.served second.served h first.received i second.received a.link b.link c.link first.framed first.bytes first.asks second.asks;
       sent = second.sent;
       ended = second.ended;
     }
@@ -125,6 +122,7 @@ HandsOn-after w e state a b c h i first second =
           ∙ ap (λ xs. xs ++ second.rest) (sym (bytes-append width first.served (second.served ++ step ∷ [])) ∙ ap (step_bytes width) (sym both));
       bytes = subst (λ xs. Goes (Exchanged (first.received ++ second.received) xs) a.link c.link) (sym (answers-append w.service w.exported first.served second.served))
           (Exchanges-then first.received (answers w.service w.exported first.served) second.received (answers w.service w.exported second.served) a.link b.link c.link first.bytes second.bytes);
+      asks = Asks-then w.service w.exported first.served second.served h first.received i second.received a.link b.link c.link first.framed first.bytes first.asks second.asks;
       named = second.named;
       role = second.role;
     }
@@ -141,8 +139,8 @@ turn_proceeds w (turns.Ends why) state a b h i on taken = absurd cc
 turn_proceeds w (turns.HandsOver e) state a b h i on taken = absurd cc
 
 -- a message that was held was served
-pub turn_message : (w : Whose) (message : Message) (turn : Turn) (state : List ℕ) (a b : Moment) (held rest : List ℕ) → held ≡ spelling_of w.service.setup.frames message ++ rest → HasReplied turn message.body w.exported state → Serves w message turn a b → TurnTaken w turn state a b held rest
-turn_message w message turns.GoesOn state a b held rest is replied served =
+pub turn_message : (w : Whose) (message : Message) (turn : Turn) (state : List ℕ) (a b : Moment) (held rest : List ℕ) → held ≡ spelling_of w.service.setup.frames message ++ rest → HasReplied turn message.body w.exported state → Serves w message turn a b → Goes IsUnasked a.link b.link → TurnTaken w turn state a b held rest
+turn_message w message turns.GoesOn state a b held rest is replied served unasked =
     let width = w.service.setup.frames in
     record {
       served = served.step ∷ [];
@@ -153,8 +151,9 @@ turn_message w message turns.GoesOn state a b held rest is replied served =
       received = [];
       framed = append-nil held ∙ is ∙ ap (λ xs. xs ++ rest) (sym (append-nil (message_bytes width served.step.message) ∙ ap (message_bytes width) served.came));
       bytes = subst (λ xs. Goes (Exchanged [] xs) a.link b.link) (served.answers.1 ∙ sym (append-nil (answer_to w.service w.exported served.step))) served.bytes;
+      asks = Asks-none w.service w.exported (served.step ∷ []) held [] a.link b.link unasked;
     }
-turn_message w message (turns.HandsOver e) state a b held rest is replied served =
+turn_message w message (turns.HandsOver e) state a b held rest is replied served unasked =
     let width = w.service.setup.frames in
     record {
       served = [];
@@ -172,10 +171,11 @@ turn_message w message (turns.HandsOver e) state a b held rest is replied served
       rest = rest;
       framed = append-nil held ∙ is ∙ ap (λ xs. xs ++ rest) (sym (append-nil (spelling_of width message)));
       bytes = served.bytes;
+      asks = Asks-none w.service w.exported [] held [] a.link b.link unasked;
       named = served.named;
       role = served.role;
     }
-turn_message w message (turns.Ends why) state a b held rest is replied served =
+turn_message w message (turns.Ends why) state a b held rest is replied served unasked =
     let width = w.service.setup.frames in
     let whole : answers w.service w.exported (served.step ∷ []) ≡ answer_to w.service w.exported served.step = append-nil (answer_to w.service w.exported served.step) in
     record {
@@ -190,13 +190,14 @@ turn_message w message (turns.Ends why) state a b held rest is replied served =
       framed = append-nil held ∙ is ∙ ap (λ xs. xs ++ rest) (sym (append-nil (message_bytes width served.step.message) ∙ ap (message_bytes width) served.came));
       last = served.sent;
       bytes = served.bytes;
+      asks = Asks-none w.service w.exported [] held [] a.link b.link unasked;
       sent = subst (λ xs. LastSent (EndsSession why) xs served.sent) (sym whole) served.answers.0;
       ended = λ ne. served.answers.1 ne;
     }
 
 -- bytes were received, or the child's bytes have ended
-pub turn_received : (w : Whose) (turn : Turn) (state : List ℕ) (seen : List Event) (s : Option Scene) (k l : Option Link) (held_old held_new : List ℕ) → Receives w.service.setup.frames turn held_old held_new k l → TurnTaken w turn state (moment seen s k) (moment seen s l) held_old held_new
-turn_received w turns.GoesOn state seen s k l held_old held_new received = record {
+pub turn_received : (w : Whose) (turn : Turn) (state : List ℕ) (seen : List Event) (s : Option Scene) (k l : Option Link) (held_old held_new : List ℕ) → IsPartialFront w.service.setup.frames (frame_max w.service.setup.frames) held_old → Goes IsAskedOnce k l → Receives w.service.setup.frames turn held_old held_new k l → TurnTaken w turn state (moment seen s k) (moment seen s l) held_old held_new
+turn_received w turns.GoesOn state seen s k l held_old held_new partial asked received = record {
   served = [];
   steps = Steps-none w.worker seen;
   each = tt;
@@ -205,8 +206,9 @@ turn_received w turns.GoesOn state seen s k l held_old held_new received = recor
   received = received.0;
   framed = received.1;
   bytes = received.2;
+  asks = Asks-once w.service w.exported held_old received.0 k l partial asked;
 }
-turn_received w (turns.Ends why) state seen s k l held_old held_new received = record {
+turn_received w (turns.Ends why) state seen s k l held_old held_new partial asked received = record {
   served = [];
   final = None;
   steps = Steps-none w.worker seen;
@@ -218,10 +220,11 @@ turn_received w (turns.Ends why) state seen s k l held_old held_new received = r
   framed = append-nil held_old;
   last = [];
   bytes = received.0;
+  asks = Asks-once w.service w.exported held_old [] k l partial asked;
   sent = record { cut = (0, refl); all = λ ne. refl };
   ended = received.1;
 }
-turn_received w (turns.HandsOver e) state seen s k l held_old held_new received = absurd received
+turn_received w (turns.HandsOver e) state seen s k l held_old held_new partial asked received = absurd received
 
 -- a header of wrong length stands in front
 pub turn_bad : (w : Whose) (len : ℕ) (m : Moment) (held : List ℕ) → IsBadFront w.service.setup.frames (frame_max w.service.setup.frames) held len → Concludes w (whys.BadFrame len) m m held
@@ -237,6 +240,7 @@ turn_bad w len m held bad = record {
   framed = append-nil held;
   last = [];
   bytes = Exchanges-none m.link;
+  asks = Asks-none w.service w.exported [] held [] m.link m.link (unasked_none m.link);
   sent = record { cut = (0, refl); all = λ ne. refl };
   ended = λ ne. bad;
 }

@@ -4,9 +4,10 @@ use Rattle.std.specs.Prelude.{Some, None, option_to_list, length}
 use Rattle.std.specs.List.{AllByRecursion}
 use Rattle.imsg_frame.specs.Held.{Held}
 use Rattle.imsg_frame.specs.Message.{Message}
-use Rattle.outside.specs.Link.{Exchanged, Link}
+use Rattle.outside.specs.declared.receiving.Receiving.{Receiving}
+use Rattle.outside.specs.Link.{Exchanged, IsAskedOnce, Link}
 use Rattle.outside.specs.Scene.{Played}
-use Rattle.outside.specs.Told.{Goes}
+use Rattle.outside.specs.Told.{Gains, Goes}
 use Rattle.policy_model.specs.declared.event.Event.{Event}
 use Rattle.policy_model.specs.declared.event.Why.{Why}
 use Rattle.policy_model.specs.declared.event.Why.TheVariants.{LinkFault}
@@ -17,9 +18,10 @@ use Rattle.request_catalogue.specs.declared.width.Width.{Width}
 use Rattle.request_catalogue.specs.Widths.{frame_max}
 use Rattle.child_keeper.specs.Tickets.{NamesAccount, user_role}
 use Rattle.service_model.specs.Answers.{answers}
-use Rattle.service_model.specs.Parts.{EndsSession, EndsSo, GoesOn, IsRequestStep, LastSent, step_bytes}
+use Rattle.service_model.specs.Parts.{EndsSession, EndsSo, GoesOn, IsInOrder, IsRequestStep, LastSent, step_bytes}
 use Rattle.service_model.specs.Places.{Step, step_acts}
 use Rattle.service_model.specs.Requests.{CameBy}
+use Rattle.service_model.specs.Service.{Service}
 use Rattle.service_model.specs.Users.{user_at}
 use Rattle.service_model.specs.Cases.{role_of, by_link, place_of}
 use Rattle.session_asking.specs.declared.asking.Turn.{Turn}
@@ -35,6 +37,24 @@ pub record IsForSessions (width : Width) (reader : Held) : Type 0 where
   pub right : reader.width ≡ width
   pub max : reader.max ≡ frame_max width
 
+-- a receiving was asked in order, counted from where a child's serving began: it had these numbers of bytes taken and
+-- sent then, of which so many were held
+pub record IsAskedFrom (service : Service) (exported : List ℕ) (served : List Step) (bytes : List ℕ)
+    (taken sent held : ℕ) (receiving : Receiving) : Type 0 where
+  pub counted : Receiving
+  pub is : IsInOrder service exported served bytes counted
+  pub had_taken : receiving.taken + held ≡ taken + counted.taken
+  pub had_sent : receiving.sent ≡ sent + counted.sent
+
+-- the receivings that were asked while a child's requests were served are in order
+pub record AsksFrom (service : Service) (exported : List ℕ) (served : List Step) (held received : List ℕ)
+    (before after : Link) : Type 0 where
+  pub more : List Receiving
+  pub gained : Gains before.receivings more after.receivings
+  pub each : AllByRecursion
+      (IsAskedFrom service exported served (held ++ received) (length before.taken) (length before.sent) (length held))
+      more
+
 -- a child was served, and goes on; held are the bytes taken and not yet framed
 pub record Proceeds (w : Whose) (before after : Moment) (held_old held_new : List ℕ) : Type 0 where
   pub served : List Step
@@ -45,6 +65,12 @@ pub record Proceeds (w : Whose) (before after : Moment) (held_old held_new : Lis
   pub received : List ℕ
   pub framed : held_old ++ received ≡ step_bytes w.service.setup.frames served ++ held_new
   pub bytes : Goes (Exchanged received (answers w.service w.exported served)) before.link after.link
+  pub asks : Goes (AsksFrom w.service w.exported served held_old received) before.link after.link
+
+-- the receivings that a link tells
+abbrev pub receivings_in : Option Link → Option (List Receiving)
+receivings_in None = None
+receivings_in (Some link) = link.receivings
 
 -- the bytes that a link tells are still to come
 abbrev pub left_in : Option Link → List ℕ
@@ -64,6 +90,7 @@ pub record Concludes (w : Whose) (why : Why) (before after : Moment) (held : Lis
   pub framed : held ++ received ≡ step_bytes w.service.setup.frames (served ++ option_to_list final) ++ rest
   pub last : List ℕ
   pub bytes : Goes (Exchanged received (answers w.service w.exported served ++ last)) before.link after.link
+  pub asks : Goes (AsksFrom w.service w.exported served held received) before.link after.link
   pub sent : LastSent (EndsSession why) (answers w.service w.exported (option_to_list final)) last
   pub ended : EndsSession why ≢ by_link → EndsSo w.service.setup.frames (EndsSession why) final rest
       (left_in after.link)
@@ -89,6 +116,7 @@ pub record HandsOn (w : Whose) (e : Event) (state : List ℕ) (before after : Mo
   pub rest : List ℕ
   pub framed : held ++ received ≡ step_bytes w.service.setup.frames (served ++ export_step front e message ∷ []) ++ rest
   pub bytes : Goes (Exchanged received (answers w.service w.exported served)) before.link after.link
+  pub asks : Goes (AsksFrom w.service w.exported served held received) before.link after.link
   pub named : NamesAccount w.service.setup e
   pub role : user_role w.service.setup e ≡ role_of e.session (user_at w.service.setup (place_of front e))
 
@@ -163,6 +191,7 @@ SpendsOn setup session (turns.HandsOver e) rights_old old rights_new new user =
 pub record Received (reader : Held) (turn : Turn) (held : List ℕ) (link_old link_new : Option Link)
     (faults_old faults_new : ℕ) : Type 0 where
   pub bytes : Receives reader.width turn reader.bytes held link_old link_new
+  pub asked : Goes IsAskedOnce link_old link_new
   pub reads : IsStillReading turn (length reader.bytes) (length held) reader.max
   pub proper : IsProperTurn turn
   pub fault : turn ≡ turns.Ends LinkFault → 0 < faults_new

@@ -1,8 +1,8 @@
 //! The setup of a file.
 
-ghost use Rattle.std.specs.Prelude.{◌≡◌, ◌≤◌, Err, IfOk};
-ghost use Rattle.outside.specs.Files.{SameFiles};
-ghost use Rattle.outside.specs.Told.{Goes, Rose};
+ghost use Rattle.std.specs.Prelude.{◌≡◌, ◌∷◌, [], Err, IfOk};
+ghost use Rattle.outside.specs.FilesNow.{OnlyReads, files_now};
+ghost use Rattle.outside.specs.Told.{Rose};
 ghost use Rattle.account_file.specs.declared.fault.SetupError.TheVariants.{Refused};
 ghost use Rattle.account_file.specs.Entries.{entries_of};
 ghost use Rattle.account_file.specs.Faults.{Answers, spot_fault};
@@ -63,9 +63,8 @@ pub fn read_setup_file<F: Files>(
     ensures setup { IfOk result (IsSetupIn (F.contents files.new) name.now) }
     ensures error { (error : SetupFileError) → result ≡ Err error → IsSetupError (F.contents files.new)
         name.now (Rose (F.read_faults files.old) (F.read_faults files.new)) error }
-    ensures kept { Goes SameFiles (F.contents files.old) (F.contents files.new) }
-    ensures read_faults { F.read_faults files.old ≤ F.read_faults files.new }
-    ensures replace_faults { F.replace_faults files.old ≤ F.replace_faults files.new }
+    ensures files { let now = files_now F.contents F.read_faults F.replace_faults F.touched in
+        OnlyReads (name.now ∷ []) (now files.old) (now files.new) }
 {
     let Some(bytes) = read_front(alloc, files, name, SETUP_MAX + 1)? else {
         return Err(SetupFileError::Missing);

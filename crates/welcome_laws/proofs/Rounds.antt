@@ -192,7 +192,7 @@ says_is role answers = refl
 
 module _ (role : Role) (session : ℕ) (replies said : List ℕ) where
   of_run : (end : ChildEnd) (after : Link)
-      → HasRun role session end (Some (record { left = replies; taken = []; sent = [] })) (Some after)
+      → HasRun role session end (Some (record { left = replies; taken = []; sent = []; receivings = Some [] })) (Some after)
       → end ≢ ends.LinkFault → said ≡ after.sent → Went role session [] replies said
   of_run end after run unfailed sent = by_end end run.ends_so unfailed where
     history : List Exchange

@@ -15,7 +15,8 @@ use Rattle.service_model.specs.Parts.{Part}
 pub record IsSaidWhole (role : Role) (session : ℕ) (replies said : List ℕ) : Type 0 where
   pub end : ChildEnd
   pub after : Link
-  pub run : HasRun role session end (Some (record { left = replies; taken = []; sent = [] })) (Some after)
+  pub run : HasRun role session end
+      (Some (record { left = replies; taken = []; sent = []; receivings = Some [] })) (Some after)
   pub unfailed : end ≢ ends.LinkFault
   pub sent : said ≡ after.sent
 

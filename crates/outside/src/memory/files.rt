@@ -7,19 +7,24 @@ ghost use Rattle.outside.specs.Told.{next_count};
 ghost use Rattle.outside.specs.Files.{MayBeReplaced, Replaced, SameFiles, bytes_read, piece_of};
 ghost use Rattle.outside.specs.Faults.{count_after};
 ghost use Rattle.outside.specs.Told.{Goes};
+ghost use Rattle.outside.specs.Touched.{HasRead, HasReplaced, MayHaveRead, MayHaveReplaced};
 
 use super::fail::{CallKind, Fail, find_failure};
 use crate::act::Failed;
 use crate::bytes::{Bytes, Word};
 use crate::files::Files;
+use crate::touched::FileNames;
 use std::alloc::{AllocError, Global};
 
-/// Files in memory. They tell what stands in them as long as memory is found for it.
+/// Files in memory. They tell what stands in them as long as memory is found for it, and so which of
+/// them were read and replaced.
 #[derive(Drop)]
 pub struct MemFiles {
     alloc: Global,
     pairs: Vec<(Word, Bytes)>,
     telling: bool,
+    touched: FileNames,
+    tells_touched: bool,
     fails: Vec<Fail>,
     reads: u64,
     replaces: u64,
@@ -35,7 +40,8 @@ fn pair_of(alloc: Global, name: &Word, bytes: &[u8]) -> Result<(Word, Bytes), Al
 }
 
 impl MemFiles {
-    ghost use Rattle.outside.specs.MemFiles.{contents_of, file_of, files_schedule, read_faults_of, replace_faults_of};
+    ghost use Rattle.outside.specs.MemFiles.{contents_of, file_of, files_schedule, read_faults_of};
+    ghost use Rattle.outside.specs.MemFiles.{replace_faults_of, touched_of};
 
     /// Files with these names and bytes; of two pairs with one name the first counts. Their calls
     /// fail exactly where `fails` lists them.
@@ -47,6 +53,7 @@ impl MemFiles {
         ensures contents { IfOk result (λ f. contents_of f ≡ Some (file_of pairs.now)) }
         ensures read_faults { IfOk result (λ f. read_faults_of f ≡ 0) }
         ensures replace_faults { IfOk result (λ f. replace_faults_of f ≡ 0) }
+        ensures touched { IfOk result (λ f. touched_of f ≡ Some (record { read = []; replaced = [] })) }
         ensures schedule { IfOk result (λ f. files_schedule f
             ≡ record { fails = fails.now; reads = 0; replaces = 0 }) }
     {
@@ -58,6 +65,8 @@ impl MemFiles {
             alloc,
             pairs: copies,
             telling: true,
+            touched: FileNames::none(alloc),
+            tells_touched: true,
             fails: Vec::from_slice(alloc, fails)?,
             reads: 0,
             replaces: 0,
@@ -121,13 +130,15 @@ fn place_of(pairs: &[(Word, Bytes)], name: &Word) -> Option<usize>
 
 impl Files for MemFiles {
     ghost use Rattle.outside.specs.MemFiles.{contents_of, files_schedule, read_failure, read_faults_of};
-    ghost use Rattle.outside.specs.MemFiles.{replace_failure, replace_faults_of};
+    ghost use Rattle.outside.specs.MemFiles.{replace_failure, replace_faults_of, touched_of};
 
     ghost contents = { contents_of };
 
     ghost read_faults = { read_faults_of };
 
     ghost replace_faults = { replace_faults_of };
+
+    ghost touched = { touched_of };
 
     /// Reads the bytes from the offset on. It fails exactly where its list says so.
     fn read(&mut self, name: &Word, offset: u64, buf: &mut [u8]) -> Result<Option<usize>, Failed>
@@ -138,6 +149,10 @@ impl Files for MemFiles {
         ensures counts { read_faults_of self.new ≡ count_after result (read_faults_of self.old) }
         ensures kept { read_faults_of self.old ≤ read_faults_of self.new }
         ensures others { replace_faults_of self.new ≡ replace_faults_of self.old }
+        ensures touched_ok { OnOk result (Goes (HasRead name.now) (touched_of self.old)
+            (touched_of self.new)) }
+        ensures touched_err { OnErr result (Goes (MayHaveRead name.now) (touched_of self.old)
+            (touched_of self.new)) }
 
         ensures listed { IsErr result ↔ IsSome (read_failure (files_schedule self.old)) }
         ensures tells { IsSome (contents_of self.old) → IsSome (contents_of self.new) }
@@ -146,6 +161,9 @@ impl Files for MemFiles {
           reads = next_count (files_schedule self.old).reads;
         } }
     {
+        if self.touched.note_read(name).is_err() {
+            self.tells_touched = false;
+        }
         self.reads = self.reads.saturating_add(1);
         if find_failure(&self.fails, CallKind::Read, self.reads).is_some() {
             self.read_faults = self.read_faults.saturating_add(1);
@@ -167,6 +185,10 @@ impl Files for MemFiles {
             ≡ count_after result (replace_faults_of self.old) }
         ensures kept { replace_faults_of self.old ≤ replace_faults_of self.new }
         ensures others { read_faults_of self.new ≡ read_faults_of self.old }
+        ensures touched_ok { OnOk result (Goes (HasReplaced name.now) (touched_of self.old)
+            (touched_of self.new)) }
+        ensures touched_err { OnErr result (Goes (MayHaveReplaced name.now) (touched_of self.old)
+            (touched_of self.new)) }
 
         ensures listed { IsErr result ↔ IsSome (replace_failure (files_schedule self.old)) }
         ensures unchanged { OnErr result (contents_of self.new ≡ contents_of self.old) }
@@ -174,6 +196,9 @@ impl Files for MemFiles {
           replaces = next_count (files_schedule self.old).replaces;
         } }
     {
+        if self.touched.note_replaced(name).is_err() {
+            self.tells_touched = false;
+        }
         self.replaces = self.replaces.saturating_add(1);
         if find_failure(&self.fails, CallKind::Replace, self.replaces).is_some() {
             self.replace_faults = self.replace_faults.saturating_add(1);

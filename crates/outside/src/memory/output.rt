@@ -1,4 +1,4 @@
-ghost use Rattle.std.specs.Prelude.{◌≡◌, [], None, Some};
+ghost use Rattle.std.specs.Prelude.{◌≡◌, [], length, None, Some};
 ghost use Rattle.outside.specs.Failures.{bytes_let_out};
 ghost use Rattle.outside.specs.Told.{Gains};
 
@@ -34,14 +34,16 @@ impl Output {
         }
     }
 
-    /// Lets bytes out: all of them, or a first part where the call fails.
-    pub(super) fn write(&mut self, bytes: &[u8], failure: Option<usize>)
-        ensures { Gains (told_bytes self.old) (bytes_let_out failure bytes.now)
+    /// Lets bytes out: all of them, or a first part where the call fails. How many.
+    pub(super) fn write(&mut self, bytes: &[u8], failure: Option<usize>) -> usize
+        ensures gains { Gains (told_bytes self.old) (bytes_let_out failure bytes.now)
             (told_bytes self.new) }
+        ensures many { result ≡ length (bytes_let_out failure bytes.now) }
     {
         let going = failure.map_or(bytes.len(), |sent| sent.min(bytes.len()));
         if self.bytes.extend_from_slice(&bytes[..going]).is_err() {
             self.telling = false;
         }
+        going
     }
 }

@@ -1,4 +1,5 @@
-ghost use Rattle.std.specs.Prelude.{◌≡◌, ◌↔◌, ◌≤◌, [], IfOk, IfSome, IsErr, IsSome, IsTrue, OnErr, OnOk, Some};
+ghost use Rattle.std.specs.Prelude.{◌≡◌, ◌↔◌, ◌≤◌, ℕ, [], ◌∷◌, length, IfOk, IfSome, IsErr, IsSome, IsTrue};
+ghost use Rattle.std.specs.Prelude.{OnErr, OnOk, Some};
 ghost use Rattle.outside.specs.Failures.{bytes_let_out};
 ghost use Rattle.outside.specs.Faults.{count_after};
 ghost use Rattle.outside.specs.Told.{Gains, GainsPart, next_count};
@@ -9,27 +10,31 @@ use crate::act::Failed;
 use crate::sink::Sink;
 use std::alloc::{AllocError, Global};
 
-/// A sink in memory. It tells what it holds as long as memory is found for it.
+/// A sink in memory. It tells what it holds, and the lengths of its appends, as long as memory is found
+/// for it.
 #[derive(Drop)]
 pub struct MemSink {
     output: Output,
+    lengths: Vec<usize>,
     fails: Vec<Fail>,
     appends: u64,
     faults: u64,
 }
 
 impl MemSink {
-    ghost use Rattle.outside.specs.MemSink.{faults_of, held_of, sink_schedule};
+    ghost use Rattle.outside.specs.MemSink.{faults_of, held_of, lengths_of, sink_schedule};
 
     /// An empty sink whose appends fail exactly where `fails` lists them.
     pub fn new(alloc: Global, fails: &[Fail]) -> Result<MemSink, AllocError>
         ensures held { IfOk result (λ s. held_of s ≡ Some []) }
+        ensures lengths { IfOk result (λ s. lengths_of s ≡ Some []) }
         ensures faults { IfOk result (λ s. faults_of s ≡ 0) }
         ensures schedule { IfOk result
             (λ s. sink_schedule s ≡ record { fails = fails.now; appends = 0 }) }
     {
         Ok(MemSink {
             output: Output::new(alloc),
+            lengths: Vec::new(alloc),
             fails: Vec::from_slice(alloc, fails)?,
             appends: 0,
             faults: 0,
@@ -52,9 +57,11 @@ impl MemSink {
 }
 
 impl Sink for MemSink {
-    ghost use Rattle.outside.specs.MemSink.{append_failure, faults_of, held_of, sink_schedule};
+    ghost use Rattle.outside.specs.MemSink.{append_failure, faults_of, held_of, lengths_of, sink_schedule};
 
     ghost held = { held_of };
+
+    ghost lengths = { lengths_of };
 
     ghost faults = { faults_of };
 
@@ -62,6 +69,10 @@ impl Sink for MemSink {
     fn append(&mut self, bytes: &[u8]) -> Result<(), Failed>
         ensures ok { OnOk result (Gains (held_of self.old) bytes.now (held_of self.new)) }
         ensures part { OnErr result (GainsPart (held_of self.old) bytes.now (held_of self.new)) }
+        ensures length_ok { OnOk result (Gains (lengths_of self.old) (length bytes.now ∷ [])
+            (lengths_of self.new)) }
+        ensures length_err { OnErr result
+            ((n : ℕ) × Gains (lengths_of self.old) (n ∷ []) (lengths_of self.new)) }
         ensures counts { faults_of self.new ≡ count_after result (faults_of self.old) }
         ensures kept { faults_of self.old ≤ faults_of self.new }
 
@@ -74,7 +85,10 @@ impl Sink for MemSink {
     {
         self.appends = self.appends.saturating_add(1);
         let failure = find_failure(&self.fails, CallKind::Append, self.appends);
-        self.output.write(bytes, failure);
+        let length = self.output.write(bytes, failure);
+        if self.lengths.push(length).is_err() {
+            self.output.telling = false;
+        }
         match failure {
             None => Ok(()),
             Some(_) => {

@@ -1,8 +1,9 @@
-ghost use Rattle.std.specs.Prelude.{◌≡◌, ◌↔◌, ◌<◌, ◌≤◌, [], All, drop, IfOk, IfSome, IsErr, IsSome, IsSomeAnd, IsTrue};
+ghost use Rattle.std.specs.Prelude.{◌≡◌, ◌↔◌, ◌<◌, ◌≤◌, [], ◌∷◌, ◌++◌, All, drop, IfOk, IfSome, IsErr, IsSome};
+ghost use Rattle.std.specs.Prelude.{IsSomeAnd, IsTrue};
 ghost use Rattle.std.specs.Prelude.{length, min, OnErr, OnOk, OnSome, Ok, Some};
 ghost use Rattle.outside.specs.Repeating.{items_after, next_item};
 ghost use Rattle.outside.specs.Failures.{bytes_let_out};
-ghost use Rattle.outside.specs.Link.{Exchanged, SendsPart, received_bytes};
+ghost use Rattle.outside.specs.Link.{Exchanged, IsAskedOnce, IsUnasked, SendsPart, received_bytes};
 ghost use Rattle.outside.specs.Faults.{count_after};
 ghost use Rattle.outside.specs.Told.{Goes, next_count};
 ghost use Rattle.std.proofs.Props.{props};
@@ -12,10 +13,12 @@ use super::output::Output;
 use super::repeating::Repeating;
 use crate::act::{Failed, Role, Talk};
 use crate::bytes::Bytes;
+use crate::receiving::{Receiving, Receivings};
 use crate::stream::Stream;
 use std::alloc::{AllocError, Global};
 
-/// A stream in memory. It tells what passes as long as memory is found for the bytes sent to it.
+/// A stream in memory. It tells what passes as long as memory is found for the bytes sent to it and
+/// for the receivings asked of it.
 #[derive(Drop)]
 pub struct MemStream {
     role: Role,
@@ -23,6 +26,7 @@ pub struct MemStream {
     taken: usize,
     cuts: Repeating<usize>,
     output: Output,
+    receivings: Receivings,
     fails: Vec<Fail>,
     recvs: u64,
     sends: u64,
@@ -38,21 +42,55 @@ pub(super) struct Closed {
     pub(super) unread: Bytes,
 }
 
-/// Copies of the input and the cuts of a stream.
-fn copies(
-    alloc: Global,
-    input: &[u8],
-    cuts: &[usize],
-) -> Result<(Vec<u8>, Repeating<usize>), AllocError>
-    ensures input { IfOk result (λ made. made.0.items ≡ input.now) }
-    ensures cuts { IfOk result (λ made. made.1 ≡ cuts.now) }
+/// What a stream has to send, and the lengths of the pieces in which it gives it.
+#[derive(Drop)]
+struct Input {
+    bytes: Vec<u8>,
+    cuts: Repeating<usize>,
+}
+
+impl Input {
+    /// Copies of these bytes and cuts.
+    fn of(alloc: Global, bytes: &[u8], cuts: &[usize]) -> Result<Input, AllocError>
+        ensures bytes { IfOk result (λ input. input.bytes.items ≡ bytes.now) }
+        ensures cuts { IfOk result (λ input. input.cuts ≡ cuts.now) }
+    {
+        Ok(Input {
+            bytes: Vec::from_slice(alloc, bytes)?,
+            cuts: Repeating::of(alloc, cuts)?,
+        })
+    }
+
+    /// Nothing to send.
+    fn none(alloc: Global) -> Input
+        ensures { result.cuts ≡ [] }
+    {
+        Input {
+            bytes: Vec::new(alloc),
+            cuts: Repeating::none(alloc),
+        }
+    }
+}
+
+/// Notes that a receiving is asked of a stream that has taken so many bytes. Nothing is told any more
+/// where no memory is found for that.
+fn note_receiving(receivings: &mut Receivings, output: &mut Output, taken: usize)
+    ensures noted { IsTrue output.new.telling → receivings.new
+        ≡ receivings.old ++ record { taken = taken; sent = length output.old.bytes.items } ∷ [] }
+    ensures bytes { output.new.bytes ≡ output.old.bytes }
+    ensures telling { IsTrue output.new.telling → IsTrue output.old.telling }
 {
-    Ok((Vec::from_slice(alloc, input)?, Repeating::of(alloc, cuts)?))
+    let receiving = Receiving {
+        taken,
+        sent: output.bytes.len(),
+    };
+    if receivings.push(receiving).is_err() {
+        output.telling = false;
+    }
 }
 
 impl MemStream {
-    ghost use Rattle.outside.specs.Link.{Link};
-    ghost use Rattle.outside.specs.MemStream.{IsClosed, faults_of, link_of, role_of, stream_schedule};
+    ghost use Rattle.outside.specs.MemStream.{IsClosed, faults_of, link_of, role_of, stream_schedule, unused_link};
 
     /// A stream that gives `input` in pieces of the lengths `cuts`, the last of which repeats. Its
     /// calls fail exactly where `fails` lists them.
@@ -65,16 +103,16 @@ impl MemStream {
         requires some_cut { 0 < length cuts.now }
         requires each_cut { All (λ c. 1 ≤ c) cuts.now }
         ensures link { IfOk result
-            (λ s. link_of s ≡ Some (record { left = input.now; taken = []; sent = [] })) }
+            (λ s. link_of s ≡ Some (unused_link input.now (Some []))) }
         ensures role { IfOk result (λ s. role_of s ≡ Role.Pre 0) }
         ensures faults { IfOk result (λ s. faults_of s ≡ 0) }
         ensures schedule { IfOk result (λ s. stream_schedule s
             ≡ record { fails = fails.now; cuts = cuts.now; recvs = 0; sends = 0 }) }
     {
-        let (input, cuts) = copies(alloc, input, cuts)?;
+        let input = Input::of(alloc, input, cuts)?;
         let fails = Vec::from_slice(alloc, fails)?;
         let role = Role::Pre { session: 0 };
-        Ok(MemStream::with(role, input, cuts, Output::new(alloc), fails))
+        Ok(MemStream::with(alloc, role, input, Output::new(alloc), fails))
     }
 
     /// The stream to a child of this role, which has `input` to send. It doesn't tell where no
@@ -89,53 +127,44 @@ impl MemStream {
         requires some_cut { 0 < length cuts.now }
         requires each_cut { All (λ c. 1 ≤ c) cuts.now }
         ensures link { IfSome (link_of result)
-            (λ l. l ≡ record { left = input.now; taken = []; sent = [] }) }
+            (λ l. l ≡ unused_link input.now (Some [])) }
         ensures role { role_of result ≡ role }
         ensures faults { faults_of result ≡ 0 }
         ensures fails { (stream_schedule result).fails ≡ fails.items }
         ensures schedule { OnSome (link_of result) (stream_schedule result
             ≡ record { fails = fails.items; cuts = cuts.now; recvs = 0; sends = 0 }) }
     {
-        match copies(alloc, input, cuts) {
-            Ok((input, cuts)) => MemStream::with(role, input, cuts, Output::new(alloc), fails),
+        match Input::of(alloc, input, cuts) {
+            Ok(input) => MemStream::with(alloc, role, input, Output::new(alloc), fails),
             Err(AllocError) => {
-                let input = Vec::new(alloc);
-                MemStream::with(
-                    role,
-                    input,
-                    Repeating::none(alloc),
-                    Output::silent(alloc),
-                    fails,
-                )
+                let input = Input::none(alloc);
+                MemStream::with(alloc, role, input, Output::silent(alloc), fails)
             }
         }
     }
 
-    fn with(
-        role: Role,
-        input: Vec<u8>,
-        cuts: Repeating<usize>,
-        output: Output,
-        fails: Vec<Fail>,
-    ) -> MemStream
-        requires some_cut { IsTrue output.telling → 0 < length cuts }
-        requires each_cut { All (λ c. 1 ≤ c) cuts }
+    fn with(alloc: Global, role: Role, input: Input, output: Output, fails: Vec<Fail>) -> MemStream
+        requires some_cut { IsTrue output.telling → 0 < length input.cuts }
+        requires each_cut { All (λ c. 1 ≤ c) input.cuts }
         ensures role { role_of result ≡ role }
-        ensures input { result.input ≡ input }
+        ensures input { result.input ≡ input.bytes }
         ensures taken { result.taken ≡ 0 }
-        ensures cuts { result.cuts ≡ cuts }
+        ensures cuts { result.cuts ≡ input.cuts }
         ensures output { result.output ≡ output }
+        ensures receivings { result.receivings ≡ [] }
         ensures fails { result.fails ≡ fails }
         ensures recvs { result.recvs ≡ 0 }
         ensures sends { result.sends ≡ 0 }
         ensures faults { faults_of result ≡ 0 }
     {
+        let Input { bytes, cuts } = input;
         MemStream {
             role,
-            input,
+            input: bytes,
             taken: 0,
             cuts,
             output,
+            receivings: Receivings::none(alloc),
             fails,
             recvs: 0,
             sends: 0,
@@ -154,6 +183,7 @@ impl MemStream {
             taken,
             cuts: _,
             output,
+            receivings,
             fails: _,
             recvs: _,
             sends: _,
@@ -168,6 +198,7 @@ impl MemStream {
                 role,
                 taken: Bytes::from(input),
                 sent: Bytes::from(output.bytes),
+                receivings: Some(receivings),
             },
             unread: Bytes::from(left),
         })
@@ -219,6 +250,7 @@ impl Stream for MemStream {
         ensures bound { IfOk result (λ n. n ≤ length buf.old) }
         ensures link { Goes (Exchanged (received_bytes result buf.new) []) (link_of self.old)
             (link_of self.new) }
+        ensures asked { Goes IsAskedOnce (link_of self.old) (link_of self.new) }
         ensures end { result ≡ Ok 0 → IfSome (link_of self.new) (λ l. l.left ≡ []) }
         ensures counts { faults_of self.new ≡ count_after result (faults_of self.old) }
         ensures kept { faults_of self.old ≤ faults_of self.new }
@@ -239,6 +271,7 @@ impl Stream for MemStream {
               recvs = next_count (stream_schedule self.old).recvs;
             }) }
     {
+        note_receiving(&mut self.receivings, &mut self.output, self.taken);
         self.recvs = self.recvs.saturating_add(1);
         if find_failure(&self.fails, CallKind::Recv, self.recvs).is_some() {
             self.faults = self.faults.saturating_add(1);
@@ -257,6 +290,7 @@ impl Stream for MemStream {
         ensures ok { OnOk result
             (Goes (Exchanged [] bytes.now) (link_of self.old) (link_of self.new)) }
         ensures part { OnErr result (SendsPart bytes.now (link_of self.old) (link_of self.new)) }
+        ensures unasked { Goes IsUnasked (link_of self.old) (link_of self.new) }
         ensures counts { faults_of self.new ≡ count_after result (faults_of self.old) }
         ensures kept { faults_of self.old ≤ faults_of self.new }
         ensures role { role_of self.new ≡ role_of self.old }

@@ -1,9 +1,12 @@
-use Rattle.std.proofs.Common.{◌≡◌, Result, Ok, Err, IfOk, IfSome, sym, subst, ◌∙◌, refl}
+use Rattle.std.proofs.Common.{◌≡◌, ◌∷◌, [], Result, Ok, Err, IfOk, IfSome, sym, subst, ◌∙◌, refl}
 use Rattle.std.proofs.lemmas.Result.{err_from_is_err_and}
-use Rattle.file_front.proofs.FrontLemmas.{SameFiles-then}
+use Rattle.outside.specs.FilesNow.{files_now}
+use Rattle.outside.proofs.OnlyReading.{reads_both, reads_wider}
+use Rattle.setup_reading.proofs.Touching.{all_left}
 use Rattle.audit_check.specs.declared.answer.Audit.{Audit}
 use Rattle.audit_mode.specs.declared.error.AuditError.{AuditError}
 use Rattle.audit_mode.specs.Commands.{command_parts}
+use Rattle.audit_mode.specs.Words.{names_of}
 use Rattle.audit_mode.specs.Outcome.{IsAnswered, IsAnswerOf, IsFileError, error_of_setup}
 use Rattle.audit_mode.proofs.AuditLemmas.{IsAnswered-setup, IsFileError-log, IsFileError-setup}
 use Rattle.audit_mode.proofs.run.audit_files.Goals as goal
@@ -22,12 +25,20 @@ returns-clause-answer g c = go c.audit_log.result c.audit_log.ensures.answer whe
   go : (result : Result Audit AuditError) → IfOk result (λ answer. IfSome (g.F.Files.contents c.audit_log.new.files) (λ there. IsAnswerOf c.in_ok-setup.setup (there c.args.command.now.log.now) answer)) → IfOk result (IsAnswered (g.F.Files.contents c.audit_log.new.files) (command_parts c.args.command.now))
   go (Err error) said = tt
   go (Ok answer) said =
-      IsAnswered-setup (g.F.Files.contents c.read_setup_file.new.files) (g.F.Files.contents c.audit_log.new.files) (command_parts c.args.command.now) c.in_ok-setup.setup answer c.audit_log.ensures.kept c.in_ok-setup.ensures.setup said
+      IsAnswered-setup (g.F.Files.contents c.read_setup_file.new.files) (g.F.Files.contents c.audit_log.new.files) (command_parts c.args.command.now) c.in_ok-setup.setup answer c.audit_log.ensures.files.kept c.in_ok-setup.ensures.setup said
 
 pub returns-clause-error : goal.returns-clause-error
 returns-clause-error g c = λ error is.
-    IsFileError-log (g.F.Files.contents c.read_setup_file.new.files) (g.F.Files.contents c.audit_log.new.files) (command_parts c.args.command.now) c.in_ok-setup.setup _ _ _ error c.audit_log.ensures.kept c.in_ok-setup.ensures.setup c.in_ok-setup.ensures.read_faults (c.audit_log.ensures.error error is)
+    IsFileError-log (g.F.Files.contents c.read_setup_file.new.files) (g.F.Files.contents c.audit_log.new.files) (command_parts c.args.command.now) c.in_ok-setup.setup _ _ _ error c.audit_log.ensures.files.kept c.in_ok-setup.ensures.setup c.in_ok-setup.ensures.files.read_faults (c.audit_log.ensures.error error is)
 
-pub returns-clause-kept : goal.returns-clause-kept
-returns-clause-kept g c =
-    SameFiles-then (g.F.Files.contents c.args.files.now) (g.F.Files.contents c.read_setup_file.new.files) (g.F.Files.contents c.audit_log.new.files) c.in_ok-setup.ensures.kept c.audit_log.ensures.kept
+pub returns-in_err-setup-clause-files : goal.returns-in_err-setup-clause-files
+returns-in_err-setup-clause-files g c =
+    let now = files_now g.F.Files.contents g.F.Files.read_faults g.F.Files.replace_faults g.F.Files.touched in
+    let parts = command_parts c.args.command.now in
+    reads_wider (parts.setup ∷ []) (names_of parts) (all_left (parts.setup ∷ []) (parts.log ∷ [])) (now c.args.files.now) (now c.read_setup_file.new.files) c.in_err-setup.ensures.files
+
+pub returns-clause-files : goal.returns-clause-files
+returns-clause-files g c =
+    let now = files_now g.F.Files.contents g.F.Files.read_faults g.F.Files.replace_faults g.F.Files.touched in
+    let parts = command_parts c.args.command.now in
+    reads_both (parts.setup ∷ []) (parts.log ∷ []) (now c.args.files.now) (now c.read_setup_file.new.files) (now c.audit_log.new.files) c.in_ok-setup.ensures.files c.audit_log.ensures.files

@@ -1,4 +1,4 @@
-use Rattle.std.proofs.Common.{◌≡◌, ℕ, true, List, [], Option, Some, sym, ap, subst, ◌∙◌}
+use Rattle.std.proofs.Common.{◌≡◌, ℕ, true, List, [], Option, None, Some, sym, ap, subst, ◌∙◌}
 use Rattle.std.specs.List.{list_all}
 use Rattle.monitor_book.specs.declared.opened.Opened.{Opened}
 use Rattle.monitor_run.specs.Headline.{RunPromises}
@@ -18,8 +18,8 @@ returns-then-tell_whole g c =
     let service : Service = service_by c.in_ok-house.house.setup c.in_ok-house.house.dictionary in
     let ran = c.run-journal.result in
     let same : c.in-Ok.prepared.service ≡ service = c.in-Ok.ensures.service in
-    let opened : Service → Option (List ℕ) → Option Opened = λ s held. Some (record { setup = s.setup; held = held; faults = 0 }) in
-    let promises = c.run-journal.ensures.promises (Some []) 0 (c.in-Ok.ensures.opened ∙ ap (opened service) c.in_ok-log.ensures.held ∙ ap (λ s. opened s (Some [])) (sym same)) in
+    let opened : Service → Option (List ℕ) → Option Opened = λ s bytes. Some (record { setup = s.setup; held = record { bytes = bytes; lengths = None }; faults = 0 }) in
+    let promises = c.run-journal.ensures.promises (record { bytes = Some []; lengths = None }) 0 (c.in-Ok.ensures.opened ∙ ap (opened service) c.in_ok-log.ensures.held ∙ ap (λ s. opened s (Some [])) (sym same)) in
     let whole : list_all (λ post. tells_whole (scene_of post)) ran.posts.items ≡ true = ap (list_all (λ post. tells_whole (scene_of post))) (sym c.deref.ensures.value) ∙ sym c.tell_whole.ensures ∙ c.if-tell_whole.true in
     drilled c.args.n service ran.accept_failed (held_of ran.log) ran.journal.items c.in_ok-posts.posts.items ran.posts.items c.in_ok-house.ensures c.in_ok-posts.ensures.count c.in_ok-posts.ensures.each c.run-journal.ensures.plans whole (c.tells.ensures.0 c.if-tells.true)
-    (subst (λ s. RunPromises s ran.accept_failed ran.journal.items ran.posts.items scene_of faults_of (Some []) (held_of ran.log) 0 0) same promises)
+    (subst (λ s. RunPromises s ran.accept_failed ran.journal.items ran.posts.items scene_of faults_of (record { bytes = Some []; lengths = None }) (record { bytes = held_of ran.log; lengths = None }) 0 0) same promises)

@@ -38,3 +38,6 @@ returns-clause-drill g c = c.run_command.ensures.whole.drill
 
 pub returns-clause-logged : goal.returns-clause-logged
 returns-clause-logged g c = c.run_command.ensures.logged
+
+pub returns-clause-touches : goal.returns-clause-touches
+returns-clause-touches g c = c.run_command.ensures.whole.touches

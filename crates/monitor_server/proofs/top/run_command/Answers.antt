@@ -8,11 +8,11 @@ use Rattle.monitor_server.proofs.top.run_command.Goals as goal
 
 pub returns-in-Ok-Serve-clause-whole : goal.returns-in-Ok-Serve-clause-whole
 returns-in-Ok-Serve-clause-whole g c =
-    whole-served (source_of c.in-Ok-Serve.command) (subst (λ command. IsReading c.args.words.now (Ok command)) c.in-Ok-Serve.field-0-is c.in-Ok-Serve.ensures) c.serve_setup.ensures.serve c.serve_setup.ensures.plain c.serve_setup.ensures.ends
+    whole-served (source_of c.in-Ok-Serve.command) (subst (λ command. IsReading c.args.words.now (Ok command)) c.in-Ok-Serve.field-0-is c.in-Ok-Serve.ensures) c.serve_setup.ensures.serve c.serve_setup.ensures.plain c.serve_setup.ensures.ends c.serve_setup.ensures.touches
 
 pub returns-in-Ok-Alone-clause-whole : goal.returns-in-Ok-Alone-clause-whole
 returns-in-Ok-Alone-clause-whole g c =
-    whole-alone c.in-Ok-Alone.command (subst (λ command. IsReading c.args.words.now (Ok command)) c.in-Ok-Alone.field-0-is c.in-Ok-Alone.ensures) c.answer_within.ensures.ran c.answer_within.ensures.spares c.answer_within.ensures.unused
+    whole-alone c.in-Ok-Alone.command (subst (λ command. IsReading c.args.words.now (Ok command)) c.in-Ok-Alone.field-0-is c.in-Ok-Alone.ensures) c.answer_within.ensures.ran c.answer_within.ensures.spares c.answer_within.ensures.unused c.answer_within.ensures.touches
 
 -- the number is that of the words, so it is in its range
 pub play_drill-requires-clause-low : goal.play_drill-requires-clause-low

@@ -1,5 +1,10 @@
-use Rattle.std.proofs.Common.{◌≡◌, Err, ap, sym, subst, ◌∙◌, refl}
+use Rattle.std.proofs.Common.{◌≡◌, ◌∷◌, [], Err, ap, sym, subst, ◌∙◌, refl}
 use Rattle.std.proofs.lemmas.Result.{err_from_is_err_and}
+use Rattle.outside.specs.FilesNow.{files_now}
+use Rattle.outside.proofs.OnlyReading.{reads_both, reads_wider}
+use Rattle.setup_reading.proofs.Touching.{all_left}
+use Rattle.recover_mode.specs.Commands.{command_parts}
+use Rattle.recover_mode.specs.Words.{names_of}
 use Rattle.recover_mode.specs.Bases.{IsFileError}
 use Rattle.recover_mode.specs.Errors.{error_of_front, error_of_setup}
 use Rattle.recover_mode.proofs.ReadLemmas.{IsFileError-log, IsFileError-setup}
@@ -22,4 +27,22 @@ returns-in_err-image-clause-error g c = λ error is.
     let contents = g.F.Files.contents c.read_image.new.files in
     let faults = g.F.Files.read_faults in
     let name = c.args.command.now.setup.now in
-    subst (IsFileError contents name _) same (IsFileError-log contents name (faults c.args.files.now) (faults c.read_setup_file.new.files) (faults c.read_image.new.files) handed c.in_ok-setup.ensures.read_faults (λ failed. c.in_err-image.ensures.failed (ap Err failed)))
+    subst (IsFileError contents name _) same (IsFileError-log contents name (faults c.args.files.now) (faults c.read_setup_file.new.files) (faults c.read_image.new.files) handed c.in_ok-setup.ensures.files.read_faults (λ failed. c.in_err-image.ensures.failed (ap Err failed)))
+
+pub returns-in_err-setup-clause-files : goal.returns-in_err-setup-clause-files
+returns-in_err-setup-clause-files g c =
+    let now = files_now g.F.Files.contents g.F.Files.read_faults g.F.Files.replace_faults g.F.Files.touched in
+    let parts = command_parts c.args.command.now in
+    reads_wider (parts.setup ∷ []) (names_of parts) (all_left (parts.setup ∷ []) (parts.log ∷ [])) (now c.args.files.now) (now c.read_setup_file.new.files) c.in_err-setup.ensures.files
+
+pub returns-in_err-image-clause-files : goal.returns-in_err-image-clause-files
+returns-in_err-image-clause-files g c =
+    let now = files_now g.F.Files.contents g.F.Files.read_faults g.F.Files.replace_faults g.F.Files.touched in
+    let parts = command_parts c.args.command.now in
+    reads_both (parts.setup ∷ []) (parts.log ∷ []) (now c.args.files.now) (now c.read_setup_file.new.files) (now c.read_image.new.files) c.in_ok-setup.ensures.files c.in_err-image.ensures.files
+
+pub returns-clause-files : goal.returns-clause-files
+returns-clause-files g c =
+    let now = files_now g.F.Files.contents g.F.Files.read_faults g.F.Files.replace_faults g.F.Files.touched in
+    let parts = command_parts c.args.command.now in
+    reads_both (parts.setup ∷ []) (parts.log ∷ []) (now c.args.files.now) (now c.read_setup_file.new.files) (now c.read_image.new.files) c.in_ok-setup.ensures.files c.in_ok-image.ensures.files

@@ -1,6 +1,8 @@
-use Rattle.std.proofs.Common.{◌≡◌, Err, Ok, sym, subst, ap, ◌∙◌, refl}
+use Rattle.std.proofs.Common.{◌≡◌, ◌∷◌, [], Err, Ok, sym, subst, ap, ◌∙◌, refl}
 use Rattle.std.proofs.lemmas.Result.{err_from_is_err_and}
+use Rattle.outside.specs.FilesNow.{files_now}
 use Rattle.outside.specs.Told.{Rose}
+use Rattle.setup_reading.proofs.Touching.{reads_list, reads_only}
 use Rattle.file_front.specs.Lists.{IsJudgedSo, IsListFault}
 use Rattle.renew_mode.specs.Bases.{IsFileError}
 use Rattle.renew_mode.specs.Errors.{error_of_list, error_of_setup}
@@ -25,7 +27,7 @@ returns-in_err-dictionary-clause-error g c = λ error is.
     let named = c.as_str.ensures ∙ ap (λ s. s.words) c.parts.ensures.value in
     let faults = g.F.Files.read_faults in
     let unread = subst (λ name. IsListFault contents name (Rose (faults c.read_setup_file.new.files) (faults c.read_list.new.files)) handed) named (c.in_err-dictionary.ensures.fault handed refl) in
-    subst (IsFileError contents c.args.name.now _) same (IsFileError-list (g.F.Files.contents c.read_setup_file.new.files) contents c.args.name.now setup _ _ _ handed c.in_err-dictionary.ensures.kept c.in_ok-setup.ensures.setup c.in_ok-setup.ensures.read_faults unread)
+    subst (IsFileError contents c.args.name.now _) same (IsFileError-list (g.F.Files.contents c.read_setup_file.new.files) contents c.args.name.now setup _ _ _ handed c.in_err-dictionary.ensures.files.kept c.in_ok-setup.ensures.setup c.in_ok-setup.ensures.files.read_faults unread)
 
 pub returns-clause-basis : goal.returns-clause-basis
 returns-clause-basis g c =
@@ -34,4 +36,22 @@ returns-clause-basis g c =
     let dictionary = c.in_ok-dictionary.dictionary in
     let named = c.as_str.ensures ∙ ap (λ s. s.words) c.parts.ensures.value in
     let listed = subst (λ name. IsJudgedSo contents name (Ok dictionary)) named c.in_ok-dictionary.ensures.words in
-    HasBasis-read (g.F.Files.contents c.read_setup_file.new.files) contents c.args.name.now (record { setup = setup; dictionary = dictionary }) c.in_ok-dictionary.ensures.kept c.in_ok-setup.ensures.setup listed
+    HasBasis-read (g.F.Files.contents c.read_setup_file.new.files) contents c.args.name.now (record { setup = setup; dictionary = dictionary }) c.in_ok-dictionary.ensures.files.kept c.in_ok-setup.ensures.setup listed
+
+pub returns-in_err-setup-clause-files : goal.returns-in_err-setup-clause-files
+returns-in_err-setup-clause-files g c =
+    let now = files_now g.F.Files.contents g.F.Files.read_faults g.F.Files.replace_faults g.F.Files.touched in
+    let names = c.args.name.now ∷ [] in
+    reads_only names names (now c.args.files.now) (now c.read_setup_file.new.files) c.in_err-setup.ensures.files
+
+pub returns-in_err-dictionary-clause-files : goal.returns-in_err-dictionary-clause-files
+returns-in_err-dictionary-clause-files g c =
+    let now = files_now g.F.Files.contents g.F.Files.read_faults g.F.Files.replace_faults g.F.Files.touched in
+    let named = c.as_str.ensures ∙ ap (λ s. s.words) c.parts.ensures.value in
+    reads_list c.args.name.now c.in_ok-setup.setup c.as_str.result.now (now c.args.files.now) (now c.read_setup_file.new.files) (now c.read_list.new.files) c.in_ok-setup.ensures.files c.in_ok-setup.ensures.setup named c.in_err-dictionary.ensures.files
+
+pub returns-clause-files : goal.returns-clause-files
+returns-clause-files g c =
+    let now = files_now g.F.Files.contents g.F.Files.read_faults g.F.Files.replace_faults g.F.Files.touched in
+    let named = c.as_str.ensures ∙ ap (λ s. s.words) c.parts.ensures.value in
+    reads_list c.args.name.now c.in_ok-setup.setup c.as_str.result.now (now c.args.files.now) (now c.read_setup_file.new.files) (now c.read_list.new.files) c.in_ok-setup.ensures.files c.in_ok-setup.ensures.setup named c.in_ok-dictionary.ensures.files

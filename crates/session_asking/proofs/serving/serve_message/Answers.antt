@@ -11,6 +11,7 @@ use Rattle.session_asking.proofs.Answering.{IsAsked, IsDone, known_before, own_s
 use Rattle.session_asking.proofs.Knowing.{small_value}
 use Rattle.session_asking.proofs.Served.{handed_with, handed_state, has_exported, is_asked, leaves_after, served_lost, served_part, served_whole, still_open, turn_proper, turn_stays, turn_unfaulted, unlogged}
 use Rattle.request_catalogue.specs.Widths.{frame_max}
+use Rattle.session_asking.proofs.Links.{unasked_none}
 use Rattle.session_asking.proofs.Done.{has_room, made_short}
 use Rattle.session_asking.proofs.serving.serve_message.Goals as goal
 
@@ -36,6 +37,7 @@ returns-then-is_lost-clause-answered g c =
       serves = served_lost w message read.result ask.result user old new e s t is k (sym c.is_lost.ensures ∙ c.if-is_lost.true);
       leaves = still_open service.setup w.session ask.result user rights (g.A.Turns.at c.ask-event.new.self).rights old new e is.joins may.served ask.ensures.request c.ask-event.ensures.rights;
       rights = c.ask-event.ensures.rights;
+      unasked = unasked_none k;
       replied = record { handed = λ event same. absurd cc; kept = λ ne. refl };
       ends = record { proper = refl; fault = λ same. absurd cc; calm = λ ne. refl; once = λ event same. absurd cc };
       stays = record {
@@ -73,6 +75,7 @@ returns-then-is_export-clause-answered g c =
       serves = has_exported w message read.result ask.result user old new e s t is k exported;
       leaves = handed_with service.setup w.session ask.result user rights (g.A.Turns.at c.ask-event.new.self).rights old new e is.joins may.served (own_session w message read.result ask.result user old new e s t is) ask.ensures.request ask.ensures.proper c.ask-event.ensures.rights exported;
       rights = c.ask-event.ensures.rights;
+      unasked = unasked_none k;
       replied = record { handed = λ event same. body; kept = λ ne. absurd (ne e refl) };
       ends = record {
         proper = tt;
@@ -177,6 +180,7 @@ returns-in-Ok-clause-answered g c =
       serves = served_whole w message read.result ask.result user old new e s t is c.perform-outcome.result piece last answer reply u k l c.turn_of.result done c.in-Ok.ensures.ok short follows;
       leaves = leaves_after service.setup w.session ask.result user c.noted-live.result rights (g.A.Turns.at c.ask-event.new.self).rights old new e c.turn_of.result is.joins may.served known own ask.ensures.request ask.ensures.proper c.ask-event.ensures.rights unhanded c.noted-live.ensures follows;
       rights = c.ask-event.ensures.rights;
+      unasked = c.send.ensures.unasked;
       replied = record { handed = λ event same. turn_stays e event c.turn_of.result follows same; kept = λ ne. refl };
       ends = record {
         proper = turn_proper e c.turn_of.result follows;
@@ -231,6 +235,7 @@ returns-in-Err-clause-answered g c =
       serves = served_part w message read.result ask.result user old new e s t is c.perform-outcome.result piece last answer reply u k l c.in-Err.ensures.part.0 done c.in-Err.ensures.part.1;
       leaves = still_open service.setup w.session ask.result user rights (g.A.Turns.at c.ask-event.new.self).rights old new e is.joins may.served ask.ensures.request c.ask-event.ensures.rights;
       rights = c.ask-event.ensures.rights;
+      unasked = c.send.ensures.unasked;
       replied = record { handed = λ event same. absurd cc; kept = λ ne. refl };
       ends = record { proper = refl; fault = λ same. search rules; calm = λ ne. absurd (ne refl); once = λ event same. absurd cc };
       stays = record {

@@ -1,5 +1,6 @@
 use Rattle.std.proofs.Common.{◌∙◌, ◌++◌, length, ap, subst, sym, refl, arith}
 use Rattle.std.proofs.lemmas.List.{length-append}
+use Rattle.imsg_frame.specs.Cut.{IsPartialFront}
 use Rattle.imsg_frame.specs.Held.{Held}
 use Rattle.imsg_frame.specs.Message.{IsMessage, message_of, spelling_of}
 use Rattle.outside.proofs.Counts.{NoneFell-none}
@@ -51,7 +52,7 @@ returns-in-Frame-clause-done g c =
     let message = message_of c.in_front-message.result in
     let framed = taken ∙ ap (λ m. spelling_of setup.frames m ++ new.bytes) (sym told) ∙ ap (λ b. spelling_of setup.frames message ++ b) (sym lent) in
     record {
-      taken = turn_message (whose_of before) message served.result after.desk.exported (moment_of before) (moment_of after) reader.bytes _ framed answered.replied answered.serves;
+      taken = turn_message (whose_of before) message served.result after.desk.exported (moment_of before) (moment_of after) reader.bytes _ framed answered.replied answered.serves answered.unasked;
       leaves = record {
         spends = message_spends setup before.live.session served.result before.seat.rights after.seat.rights before.seat.seen after.seat.seen before.live.user after.live.user c.requires.served.served answered.leaves answered.rights;
         exported = answered.replied.kept;
@@ -82,8 +83,10 @@ returns-in-NotYet-clause-done g c =
     let l = g.L.LiveChild.link received.new.child in
     let same = nothing_taken reader c.next.new.self c.next.result c.in-NotYet.is c.next.ensures.after in
     let told = subst (λ r. Receives r.width received.result r.bytes new.bytes k l) same is.bytes in
+    let front = partial_front setup.frames reader c.next.new.self c.next.new.self.given c.next.result c.in-NotYet.is same fits c.next.ensures.answer in
+    let partial = subst (λ width. IsPartialFront width (frame_max width) reader.bytes) fits.right (subst (λ (r : Held). IsPartialFront r.width (frame_max r.width) r.bytes) same front) in
     record {
-      taken = turn_received (whose_of before) received.result before.desk.exported before.seat.seen before.scene k l reader.bytes new.bytes
+      taken = turn_received (whose_of before) received.result before.desk.exported before.seat.seen before.scene k l reader.bytes new.bytes partial is.asked
           (subst (λ width. Receives width received.result reader.bytes new.bytes k l) fits.right told);
       leaves = record {
         spends = received_spends c.next.new.self.width setup before.live.session received.result before.seat.rights before.seat.seen before.live.user c.next.new.self.bytes new.bytes k l is.bytes c.requires.served.served;

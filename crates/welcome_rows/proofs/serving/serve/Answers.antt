@@ -1,8 +1,11 @@
 use Rattle.std.proofs.Common.{ap, subst, ◌∙◌, ◌≡◌, sym, Option, Some}
+use Rattle.monitor_book.specs.declared.opened.Held.{Held}
 use Rattle.monitor_book.specs.declared.opened.Opened.{Opened}
+use Rattle.monitor_book.specs.Lines.{held_by}
 use Rattle.monitor_run.specs.Headline.{RunPromises}
 use Rattle.outside.specs.MemPost.{faults_of, scene_of}
-use Rattle.outside.specs.MemSink.{faults_of as log_faults, held_of}
+use Rattle.outside.specs.declared.memory.sink.MemSink.{MemSink}
+use Rattle.outside.specs.MemSink.{faults_of as log_faults, held_of, lengths_of}
 use Rattle.service_model.specs.Service.{Service}
 use Rattle.welcome_rows.specs.Shown.{service_by}
 use Rattle.welcome_rows.proofs.Posts.{all_fresh, plans_kept}
@@ -18,17 +21,18 @@ returns g c =
     let ran = c.run-journal.result in
     let log = c.in_ok-log.log in
     let same : c.in-Ok.prepared.service ≡ service = c.in-Ok.ensures.service in
+    let held : MemSink → Held = held_by held_of lengths_of in
     let opened : Service → Option Opened = λ s. Some (record {
       setup = s.setup;
-      held = held_of log;
+      held = held log;
       faults =
           log_faults log;
     }) in
-    let promises = c.run-journal.ensures.promises (held_of log) (log_faults log)
+    let promises = c.run-journal.ensures.promises (held log) (log_faults log)
     (c.in-Ok.ensures.opened ∙ ap opened (sym same)) in
     let kept = subst (λ (s : Service). RunPromises s ran.accept_failed ran.journal.items ran.posts.items scene_of
     faults_of
-    (held_of log) (held_of ran.log) (log_faults log) (log_faults ran.log)) same promises in
+    (held log) (held ran.log) (log_faults log) (log_faults ran.log)) same promises in
     record {
       in_range = c.workers.ensures.in_range;
       legal = kept.legal;
