@@ -108,19 +108,25 @@ const OTHER_DECOY: &str = "3 w0 s1 reply deny 15 0
 3 w0 s1 reply permit 7965e05436f5029f
 2 w0 s1 challenge lo 1000 permit 10413";
 
+/// The grant `notes` of mode 3.
+fn notes(alloc: Global) -> Result<Grants, Fail> {
+    let name = Label::of(b"notes").ok_or("a label")?;
+    Ok(Grants::of(vec![in alloc; Grant { name, mode: 3 }]?))
+}
+
+/// A name and a number, the algorithm and the password.
+type User = (&'static str, u32, Algo, u64);
+
+/// `bob` by SHA-1 and `alice` by MD5. Their stored passwords are those of `This is a test.` with the seed
+/// `test` and the number 1 (RFC 2289, appendix C).
+const USERS: &[User] = &[
+    ("bob", 1_001, Algo::Sha1, 0x63D9_3663_9734_385B),
+    ("alice", 1_000, Algo::Md5, 0x7965_E054_36F5_029F),
+];
+
 /// The account of a user with the sequence 1 and the grant `notes` of mode 3.
-fn account(
-    alloc: Global,
-    name: &str,
-    uid: u32,
-    algo: Algo,
-    password: u64,
-) -> Result<Account, Fail> {
-    let mut grants = Vec::new(alloc);
-    grants.push(Grant {
-        name: Label::of(b"notes").ok_or("a label")?,
-        mode: 3,
-    })?;
+fn account_of(alloc: Global, user: &User) -> Result<Account, Fail> {
+    let (name, uid, algo, password) = *user;
     Ok(Account {
         name: Name::of(name.as_bytes()).ok_or("a name")?,
         uid,
@@ -129,33 +135,38 @@ fn account(
         sequence: 1,
         password,
         enabled: true,
-        grants: Grants::of(grants),
+        grants: notes(alloc)?,
     })
 }
 
-/// A setup of two workers with the salt `hel` and these accounts, by the parts of another.
-fn setup_with(alloc: Global, parts: &SetupParts, accounts: Accounts) -> Result<Setup, Fail> {
+/// The accounts of both.
+fn accounts_of(alloc: Global) -> Result<Accounts, Fail> {
+    let mut items = Vec::new(alloc);
+    for user in USERS {
+        items.push(account_of(alloc, user)?)?;
+    }
+    Ok(Accounts::of(items))
+}
+
+/// The parts of a setup of both, else those of another.
+fn parts_of(alloc: Global, parts: &SetupParts) -> Result<SetupParts, Fail> {
+    let accounts = accounts_of(alloc)?;
+    Ok(parts_with(alloc, parts, accounts)?)
+}
+
+/// A setup of both for two workers with the salt `hel`, by the parts of another.
+fn setup_by(alloc: Global, parts: &SetupParts) -> Result<Setup, Fail> {
     let salt = Seed::of(b"hel").ok_or("a seed")?;
-    let mut parts = parts_with(alloc, parts, accounts)?;
+    let mut parts = parts_of(alloc, parts)?;
     parts.salt = salt;
     parts.workers = 2;
     parts.connections = 4;
     Ok(Setup::of(parts).ok().ok_or("in range")?)
 }
 
-/// A setup of two workers with these accounts.
-fn setup_of(alloc: Global, accounts: Vec<Account>) -> Result<Setup, Fail> {
-    let plain = Setup::plain(alloc)?;
-    setup_with(alloc, plain.parts(), Accounts::of(accounts))
-}
-
-/// With `bob` by SHA-1 and `alice` by MD5. Their stored passwords are those of `This is a test.` with the
-/// seed `test` and the number 1 (RFC 2289, appendix C).
+/// A setup of both for two workers.
 fn two_workers(alloc: Global) -> Result<Setup, Fail> {
-    let mut accounts = Vec::new(alloc);
-    accounts.push(account(alloc, "bob", 1001, Algo::Sha1, 0x63D9_3663_9734_385B)?)?;
-    accounts.push(account(alloc, "alice", 1000, Algo::Md5, 0x7965_E054_36F5_029F)?)?;
-    setup_of(alloc, accounts)
+    setup_by(alloc, Setup::plain(alloc)?.parts())
 }
 
 /// The text with another line in the place of one, or without it where the other is empty.
@@ -240,29 +251,40 @@ fn no(line: u32, why: AuditWhy) -> Audit {
     Audit::No { line, why }
 }
 
+/// Whole logs, and how many events they have.
+const WHOLE: &[(&str, u32)] = &[
+    (LOGIN, 21),
+    ("", 0),
+    (TAKEOVER, 7),
+    (TAKEOVER_LATE, 7),
+    (BANNERS, 7),
+    (DENIALS, 9),
+    (DECOY, 5),
+];
+
 /// Whether each whole log is answered yes.
 fn are_whole(alloc: Global, setup: &Setup) -> bool {
-    says(alloc, setup, LOGIN, yes(21))
-        && says(alloc, setup, "", yes(0))
-        && says(alloc, setup, TAKEOVER, yes(7))
-        && says(alloc, setup, TAKEOVER_LATE, yes(7))
-        && says(alloc, setup, BANNERS, yes(7))
-        && says(alloc, setup, DENIALS, yes(9))
-        && says(alloc, setup, DECOY, yes(5))
+    for (text, events) in WHOLE {
+        if !says(alloc, setup, text, yes(*events)) {
+            return false;
+        }
+    }
+    true
 }
 
-#[test]
-fn whole_logs(rt: HostRuntime) -> Result<(), Fail> {
-    let setup = two_workers(rt.alloc())?;
-    assert!(rt; are_whole(rt.alloc(), &setup));
-    Ok(())
+/// Whether a log that stops within a line is refused.
+fn is_cut(alloc: Global, setup: &Setup) -> bool {
+    says(alloc, setup, CUT, no(3, AuditWhy::Text))
+}
+
+/// Whether it is by the plain setup.
+fn is_cut_plainly(alloc: Global) -> Result<bool, AllocError> {
+    Ok(is_cut(alloc, &Setup::plain(alloc)?))
 }
 
 #[test]
 fn a_log_that_stops_within_a_line(rt: HostRuntime) -> Result<(), Fail> {
-    let alloc = rt.alloc();
-    let plain = Setup::plain(alloc)?;
-    assert!(rt; says(alloc, &plain, CUT, no(3, AuditWhy::Text)));
+    assert!(rt; is_cut_plainly(rt.alloc())?);
     Ok(())
 }
 
@@ -275,25 +297,61 @@ fn are_no_lines(alloc: Global, setup: &Setup) -> bool {
         && refuses(alloc, setup, LOGIN, count_at(2, "1 w0 s1 banner permit"))
 }
 
-#[test]
-fn what_is_no_line(rt: HostRuntime) -> Result<(), Fail> {
-    let setup = two_workers(rt.alloc())?;
-    assert!(rt; are_no_lines(rt.alloc(), &setup));
-    Ok(())
-}
+/// Logs, and lines that the policy does not give in them.
+const NOT_GIVEN: &[(&str, &str)] = &[
+    (LOGIN, OTHER_LOGIN),
+    (BANNERS, "6 w0 s2 banner permit"),
+    (TAKEOVER, OTHER_TAKEOVER),
+    (DENIALS, OTHER_DENIALS),
+    (DECOY, OTHER_DECOY),
+];
 
 /// Whether what the policy does not give is refused.
 fn are_not_given(alloc: Global, setup: &Setup) -> bool {
-    refuses_each(alloc, setup, LOGIN, OTHER_LOGIN)
-        && refuses_each(alloc, setup, BANNERS, "6 w0 s2 banner permit")
-        && refuses_each(alloc, setup, TAKEOVER, OTHER_TAKEOVER)
-        && refuses_each(alloc, setup, DENIALS, OTHER_DENIALS)
-        && refuses_each(alloc, setup, DECOY, OTHER_DECOY)
+    for (text, lines) in NOT_GIVEN {
+        if !refuses_each(alloc, setup, text, lines) {
+            return false;
+        }
+    }
+    true
+}
+
+/// What is asked over the setup of two workers.
+#[derive(Clone, Copy)]
+enum Asked {
+    WholeLogs,
+    NoLines,
+    OtherEvents,
+}
+
+/// Whether what is asked is so over a setup.
+fn is_so_over(alloc: Global, setup: &Setup, asked: Asked) -> bool {
+    match asked {
+        Asked::WholeLogs => are_whole(alloc, setup),
+        Asked::NoLines => are_no_lines(alloc, setup),
+        Asked::OtherEvents => are_not_given(alloc, setup),
+    }
+}
+
+/// Whether it is so over the setup of two workers.
+fn is_so(alloc: Global, asked: Asked) -> Result<bool, Fail> {
+    Ok(is_so_over(alloc, &two_workers(alloc)?, asked))
+}
+
+#[test]
+fn whole_logs(rt: HostRuntime) -> Result<(), Fail> {
+    assert!(rt; is_so(rt.alloc(), Asked::WholeLogs)?);
+    Ok(())
+}
+
+#[test]
+fn what_is_no_line(rt: HostRuntime) -> Result<(), Fail> {
+    assert!(rt; is_so(rt.alloc(), Asked::NoLines)?);
+    Ok(())
 }
 
 #[test]
 fn what_the_policy_does_not_give(rt: HostRuntime) -> Result<(), Fail> {
-    let setup = two_workers(rt.alloc())?;
-    assert!(rt; are_not_given(rt.alloc(), &setup));
+    assert!(rt; is_so(rt.alloc(), Asked::OtherEvents)?);
     Ok(())
 }

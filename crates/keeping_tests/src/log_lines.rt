@@ -4,47 +4,68 @@ use request_catalogue::{Label, Name, Note};
 use std::test::*;
 
 /// Whether a text is refused with the fault.
-fn is_refused(text: &[u8], fault: LineFault) -> bool {
-    read_line(text).err() == Some(fault)
+fn is_refused(text: &str, fault: LineFault) -> bool {
+    read_line(text.as_bytes()).err() == Some(fault)
 }
+
+/// A line, and its fault.
+type Refused = (&'static str, LineFault);
+
+const FIRST_FAULTS: &[Refused] = &[
+    ("x w0 s1 open permit\n", LineFault::Number),
+    ("1 w0 s1 opens permit\n", LineFault::Word),
+    ("1 w0 s1 banner deny 23 1\n", LineFault::Rule),
+    ("1 w0 s1 note 6 permit\n", LineFault::Hex),
+    ("1 w0 s1 open permit \n", LineFault::End),
+];
 
 #[test]
 fn the_first_fault_of_a_line(rt: HostRuntime) -> Result<(), Fail> {
-    assert!(rt; is_refused(b"x w0 s1 open permit\n", LineFault::Number));
-    assert!(rt; is_refused(b"1 w0 s1 opens permit\n", LineFault::Word));
-    assert!(rt; is_refused(b"1 w0 s1 banner deny 23 1\n", LineFault::Rule));
-    assert!(rt; is_refused(b"1 w0 s1 note 6 permit\n", LineFault::Hex));
-    assert!(rt; is_refused(b"1 w0 s1 open permit \n", LineFault::End));
+    for (text, fault) in FIRST_FAULTS {
+        assert!(rt; is_refused(text, *fault), "{text}");
+    }
     Ok(())
 }
+
+const NUMBERS_AND_WORDS: &[Refused] = &[
+    ("", LineFault::Number),
+    ("01 w0 s1 open permit\n", LineFault::Number),
+    ("12x w0 s1 open permit\n", LineFault::Number),
+    ("4294967296 w0 s1 open permit\n", LineFault::Number),
+    ("1 w s1 open permit\n", LineFault::Number),
+    ("1 0 s1 open permit\n", LineFault::Word),
+    ("1 w0 w1 open permit\n", LineFault::Word),
+    ("1  w0 s1 open permit\n", LineFault::Word),
+    ("1 w0 s1 challenge Bob 1 permit 0\n", LineFault::Word),
+    ("1 w0 s1 open permitx\n", LineFault::Word),
+];
 
 #[test]
 fn faults_of_numbers_and_words(rt: HostRuntime) -> Result<(), Fail> {
-    assert!(rt; is_refused(b"", LineFault::Number));
-    assert!(rt; is_refused(b"01 w0 s1 open permit\n", LineFault::Number));
-    assert!(rt; is_refused(b"12x w0 s1 open permit\n", LineFault::Number));
-    assert!(rt; is_refused(b"4294967296 w0 s1 open permit\n", LineFault::Number));
-    assert!(rt; is_refused(b"1 w s1 open permit\n", LineFault::Number));
-    assert!(rt; is_refused(b"1 0 s1 open permit\n", LineFault::Word));
-    assert!(rt; is_refused(b"1 w0 w1 open permit\n", LineFault::Word));
-    assert!(rt; is_refused(b"1  w0 s1 open permit\n", LineFault::Word));
-    assert!(rt; is_refused(b"1 w0 s1 challenge Bob 1 permit 0\n", LineFault::Word));
-    assert!(rt; is_refused(b"1 w0 s1 open permitx\n", LineFault::Word));
+    for (text, fault) in NUMBERS_AND_WORDS {
+        assert!(rt; is_refused(text, *fault), "{text}");
+    }
     Ok(())
 }
 
+const RULES_AND_DIGITS: &[Refused] = &[
+    ("1 w0 s1 banner deny 0 1\n", LineFault::Rule),
+    ("1 w0 s1 banner deny 300 1\n", LineFault::Number),
+    ("1 w0 s1 bad 6 1 deny 6 1\n", LineFault::Rule),
+    ("1 w0 s1 end violation 8 permit\n", LineFault::Rule),
+    ("1 w0 s1 note 6A permit\n", LineFault::Hex),
+    ("1 w0 s1 grant 1 20 permit 1\n", LineFault::Hex),
+    ("1 w0 s1 reply permit 9e876134d90499\n", LineFault::Hex),
+    ("1 w0 s1 open permit", LineFault::End),
+    ("1 w0 s1 open permit\n\n", LineFault::End),
+    ("1 w0 s1 banner permit 0\n", LineFault::End),
+];
+
 #[test]
 fn faults_of_rules_and_digits(rt: HostRuntime) -> Result<(), Fail> {
-    assert!(rt; is_refused(b"1 w0 s1 banner deny 0 1\n", LineFault::Rule));
-    assert!(rt; is_refused(b"1 w0 s1 banner deny 300 1\n", LineFault::Number));
-    assert!(rt; is_refused(b"1 w0 s1 bad 6 1 deny 6 1\n", LineFault::Rule));
-    assert!(rt; is_refused(b"1 w0 s1 end violation 8 permit\n", LineFault::Rule));
-    assert!(rt; is_refused(b"1 w0 s1 note 6A permit\n", LineFault::Hex));
-    assert!(rt; is_refused(b"1 w0 s1 grant 1 20 permit 1\n", LineFault::Hex));
-    assert!(rt; is_refused(b"1 w0 s1 reply permit 9e876134d90499\n", LineFault::Hex));
-    assert!(rt; is_refused(b"1 w0 s1 open permit", LineFault::End));
-    assert!(rt; is_refused(b"1 w0 s1 open permit\n\n", LineFault::End));
-    assert!(rt; is_refused(b"1 w0 s1 banner permit 0\n", LineFault::End));
+    for (text, fault) in RULES_AND_DIGITS {
+        assert!(rt; is_refused(text, *fault), "{text}");
+    }
     Ok(())
 }
 
@@ -72,63 +93,93 @@ fn event(ask: Ask, decision: Decision) -> Event {
     }
 }
 
-#[test]
-fn lines_written_and_read(rt: HostRuntime) -> Result<(), Fail> {
-    let opened = event(Ask::Begin, Decision::Permit { value: 4 });
-    assert!(rt; is_line(b"7 w2 s4 open permit\n", LoggedAsk::Begin, &opened));
-    let reply = Ask::Reply {
-        words: None,
-        hex: None,
-    };
-    let value = 0x9E87_6134_D904_99DD;
-    let taken = event(reply, Decision::Permit { value });
-    assert!(rt;
-        is_line(
-            b"7 w2 s4 reply permit 9e876134d90499dd\n",
-            LoggedAsk::Reply,
-            &taken
-        )
-    );
-    let denied = event(
-        reply,
+/// A reply without its readings.
+const REPLY: Ask = Ask::Reply {
+    words: None,
+    hex: None,
+};
+
+const BAD_FRAME: Why = Why::BadFrame { len: 16_385 };
+
+/// Lines, what they say, and the asks and decisions of which they are written.
+const LINES: [(&str, LoggedAsk, Ask, Decision); 4] = [
+    (
+        "7 w2 s4 open permit\n",
+        LoggedAsk::Begin,
+        Ask::Begin,
+        Decision::Permit { value: 4 },
+    ),
+    (
+        "7 w2 s4 reply permit 9e876134d90499dd\n",
+        LoggedAsk::Reply,
+        REPLY,
+        Decision::Permit {
+            value: 0x9E87_6134_D904_99DD,
+        },
+    ),
+    (
+        "7 w2 s4 reply deny 13 2\n",
+        LoggedAsk::Reply,
+        REPLY,
         Decision::Deny {
             rule: 13,
             detail: 2,
         },
-    );
-    assert!(rt; is_line(b"7 w2 s4 reply deny 13 2\n", LoggedAsk::Reply, &denied));
-    let why = Why::BadFrame { len: 16_385 };
-    let ended = event(Ask::End { why }, Decision::Permit { value: 0 });
-    assert!(rt;
-        is_line(
-            b"7 w2 s4 end bad-frame 16385 permit\n",
-            LoggedAsk::End { why },
-            &ended
-        )
-    );
+    ),
+    (
+        "7 w2 s4 end bad-frame 16385 permit\n",
+        LoggedAsk::End { why: BAD_FRAME },
+        Ask::End { why: BAD_FRAME },
+        Decision::Permit { value: 0 },
+    ),
+];
+
+#[test]
+fn lines_written_and_read(rt: HostRuntime) -> Result<(), Fail> {
+    for (text, what, ask, decision) in LINES {
+        assert!(rt;
+            is_line(text.as_bytes(), what, &event(ask, decision)),
+            "{text}"
+        );
+    }
     Ok(())
+}
+
+/// Whether a challenge of alice is written so, and read.
+fn is_challenge(text: &[u8]) -> bool {
+    let Some(user) = Name::of(b"alice") else {
+        return false;
+    };
+    let asked = Ask::Challenge { user, now: 1_000 };
+    let what = LoggedAsk::Challenge { user, now: 1_000 };
+    is_line(text, what, &event(asked, Decision::Permit { value: 0 }))
+}
+
+/// Whether an opening of the file `notes` is.
+fn is_opening(text: &[u8]) -> bool {
+    let Some(name) = Label::of(b"notes") else {
+        return false;
+    };
+    let asked = Ask::OpenFile { mode: 1, name };
+    let what = LoggedAsk::OpenFile { mode: 1, name };
+    is_line(text, what, &event(asked, Decision::Permit { value: 1 }))
+}
+
+/// Whether a denied note is.
+fn is_note(text: &[u8]) -> bool {
+    let Some(note) = Note::of(b"a") else {
+        return false;
+    };
+    let what = LoggedAsk::Note { text: note };
+    let denied = Decision::Deny { rule: 1, detail: 8 };
+    is_line(text, what, &event(Ask::Note { text: note }, denied))
 }
 
 #[test]
 fn lines_with_texts(rt: HostRuntime) -> Result<(), Fail> {
-    let user = Name::of(b"alice").ok_or("a name")?;
-    let asked = event(
-        Ask::Challenge { user, now: 1_000 },
-        Decision::Permit { value: 0 },
-    );
-    let what = LoggedAsk::Challenge { user, now: 1_000 };
-    assert!(rt; is_line(b"7 w2 s4 challenge alice 1000 permit 0\n", what, &asked));
-    let name = Label::of(b"notes").ok_or("a label")?;
-    let opened = event(
-        Ask::OpenFile { mode: 1, name },
-        Decision::Permit { value: 1 },
-    );
-    let what = LoggedAsk::OpenFile { mode: 1, name };
-    assert!(rt; is_line(b"7 w2 s4 grant 1 6e6f746573 permit 1\n", what, &opened));
-    let text = Note::of(b"a").ok_or("a note")?;
-    let noted = event(Ask::Note { text }, Decision::Deny { rule: 1, detail: 8 });
-    let what = LoggedAsk::Note { text };
-    assert!(rt; is_line(b"7 w2 s4 note 61 deny 1 8\n", what, &noted));
+    assert!(rt; is_challenge(b"7 w2 s4 challenge alice 1000 permit 0\n"));
+    assert!(rt; is_opening(b"7 w2 s4 grant 1 6e6f746573 permit 1\n"));
+    assert!(rt; is_note(b"7 w2 s4 note 61 deny 1 8\n"));
     Ok(())
 }
 
@@ -168,10 +219,7 @@ fn ask_of(what: LoggedAsk) -> Ask {
         LoggedAsk::Begin => Ask::Begin,
         LoggedAsk::Banner => Ask::Banner,
         LoggedAsk::Challenge { user, now } => Ask::Challenge { user, now },
-        LoggedAsk::Reply => Ask::Reply {
-            words: None,
-            hex: None,
-        },
+        LoggedAsk::Reply => REPLY,
         LoggedAsk::Abandon => Ask::Abandon,
         LoggedAsk::Export { len } => Ask::Export { len },
         LoggedAsk::Import => Ask::Import,
@@ -204,11 +252,9 @@ fn ask_of(what: LoggedAsk) -> Ask {
 }
 
 /// Whether a line is read, and the event that it says is written so.
-fn is_written_again(rt: &HostRuntime, text: &str) -> Result<bool, Fail> {
-    let mut whole = String::from_str(rt.alloc(), text)?;
-    whole.push_str("\n")?;
-    let Ok(logged) = read_line(whole.as_bytes()) else {
-        return Ok(false);
+fn is_written_again(text: &[u8]) -> bool {
+    let Ok(logged) = read_line(text) else {
+        return false;
     };
     let event = Event {
         worker: logged.worker,
@@ -218,13 +264,13 @@ fn is_written_again(rt: &HostRuntime, text: &str) -> Result<bool, Fail> {
     };
     let mut out = [0; 256];
     let len = line(logged.number, &event, &mut out);
-    Ok(&out[..len] == whole.as_bytes())
+    &out[..len] == text
 }
 
 #[test]
 fn logs_read_and_written_again(rt: HostRuntime) -> Result<(), Fail> {
-    for line in LOGS.lines() {
-        assert!(rt; is_written_again(&rt, line)?, "of {line}");
+    for line in LOGS.split_inclusive('\n') {
+        assert!(rt; is_written_again(line.as_bytes()), "of {line}");
     }
     Ok(())
 }

@@ -70,39 +70,8 @@ const ENDLESS: &str = "1 w0 s1 challenge bob 1000 permit 0
 2 w0 s1 reply permit bb9e6ae1979d8ff4
 3 w0 s1 end";
 
-/// An account without grants.
-fn account(
-    alloc: Global,
-    name: &str,
-    uid: u32,
-    algo: Algo,
-    chain: (u16, u64),
-) -> Result<Account, Fail> {
-    Ok(Account {
-        name: Name::of(name.as_bytes()).ok_or("a name")?,
-        uid,
-        algo,
-        seed: Seed::of(b"test").ok_or("a seed")?,
-        sequence: chain.0,
-        password: chain.1,
-        enabled: true,
-        grants: Grants::of(Vec::new(alloc)),
-    })
-}
-
-/// A setup of these accounts, by the parts of another.
-fn setup_with(alloc: Global, parts: &SetupParts, accounts: Accounts) -> Result<Setup, Fail> {
-    let mut parts = parts_with(alloc, parts, accounts)?;
-    parts.workers = 2;
-    parts.connections = 4;
-    Ok(Setup::of(parts).ok().ok_or("in range")?)
-}
-
-/// A setup of these accounts.
-fn setup_of(alloc: Global, accounts: Vec<Account>) -> Result<Setup, Fail> {
-    let plain = Setup::plain(alloc)?;
-    setup_with(alloc, plain.parts(), Accounts::of(accounts))
-}
+/// A name and a number, the algorithm, and the place and the password of the chain.
+type User = (&'static str, u32, Algo, (u16, u64));
 
 /// The password 1 of `This is a test.` with the seed `test` by SHA-1, and the one before it (RFC 2289,
 /// appendix C); by MD5 they are alice's.
@@ -110,12 +79,51 @@ const STORED: u64 = 0x63D9_3663_9734_385B;
 
 const LAST: u64 = 0xBB9E_6AE1_979D_8FF4;
 
-/// With bob at this sequence and password, and alice at the number 1 of her chain.
-fn with_bob(alloc: Global, sequence: u16, password: u64) -> Result<Setup, Fail> {
-    let mut accounts = Vec::new(alloc);
-    accounts.push(account(alloc, "bob", 1001, Algo::Sha1, (sequence, password))?)?;
-    accounts.push(account(alloc, "alice", 1000, Algo::Md5, (1, 0x7965_E054_36F5_029F))?)?;
-    setup_of(alloc, accounts)
+/// Alice, at the number 1 of her chain.
+const ALICE: User = ("alice", 1_000, Algo::Md5, (1, 0x7965_E054_36F5_029F));
+
+/// A user's account without grants.
+fn account_of(alloc: Global, user: &User) -> Result<Account, Fail> {
+    let (name, uid, algo, (sequence, password)) = *user;
+    Ok(Account {
+        name: Name::of(name.as_bytes()).ok_or("a name")?,
+        uid,
+        algo,
+        seed: Seed::of(b"test").ok_or("a seed")?,
+        sequence,
+        password,
+        enabled: true,
+        grants: Grants::of(Vec::new(alloc)),
+    })
+}
+
+/// The accounts of these users.
+fn accounts_of(alloc: Global, users: &[User]) -> Result<Accounts, Fail> {
+    let mut items = Vec::new(alloc);
+    for user in users {
+        items.push(account_of(alloc, user)?)?;
+    }
+    Ok(Accounts::of(items))
+}
+
+/// The parts of a setup of alice and bob, whose chain is at this place and password, else those of another.
+fn parts_of(alloc: Global, parts: &SetupParts, chain: (u16, u64)) -> Result<SetupParts, Fail> {
+    let bob = ("bob", 1_001, Algo::Sha1, chain);
+    let accounts = accounts_of(alloc, &[bob, ALICE])?;
+    Ok(parts_with(alloc, parts, accounts)?)
+}
+
+/// A setup of both for two workers, by the parts of another.
+fn setup_by(alloc: Global, parts: &SetupParts, chain: (u16, u64)) -> Result<Setup, Fail> {
+    let mut parts = parts_of(alloc, parts, chain)?;
+    parts.workers = 2;
+    parts.connections = 4;
+    Ok(Setup::of(parts).ok().ok_or("in range")?)
+}
+
+/// A setup of both for two workers.
+fn with_bob(alloc: Global, chain: (u16, u64)) -> Result<Setup, Fail> {
+    setup_by(alloc, Setup::plain(alloc)?.parts(), chain)
 }
 
 /// Appends an opened record.
@@ -158,9 +166,9 @@ fn stands(ledger: &Ledger, back: Back) -> bool {
     current.sequence == back.sequence && current.password == back.password
 }
 
-/// Whether an image brings this back.
-fn gives(alloc: Global, setup: &Setup, image: &[u8], back: Back) -> bool {
-    match recover(alloc, setup, image) {
+/// Whether a recovery brought this back.
+fn is_back(recovered: &Result<Recovered, RecoverError>, back: Back) -> bool {
+    match recovered {
         Ok(r) => {
             r.lines == back.lines
                 && r.accepted == back.accepted
@@ -171,46 +179,71 @@ fn gives(alloc: Global, setup: &Setup, image: &[u8], back: Back) -> bool {
     }
 }
 
-/// Whether a log brings this back.
-fn brings(alloc: Global, setup: &Setup, text: &str, back: Back) -> bool {
-    match image_of(alloc, text) {
-        Ok(image) => gives(alloc, setup, image.as_slice(), back),
+/// Whether a recovery ended by this error.
+fn is_error(recovered: &Result<Recovered, RecoverError>, error: RecoverError) -> bool {
+    match recovered {
+        Ok(_) => false,
+        Err(given) => *given == error,
+    }
+}
+
+/// Whether a recovery brought nothing back.
+fn is_nothing(recovered: &Result<Recovered, RecoverError>) -> bool {
+    match recovered {
+        Ok(r) => r.lines == 0 && r.accepted == 0 && !r.already,
         Err(_) => false,
     }
 }
 
-/// Whether an image is answered by this error.
-fn fails(alloc: Global, setup: &Setup, image: &[u8], error: RecoverError) -> bool {
-    match recover(alloc, setup, image) {
-        Ok(_) => false,
-        Err(given) => given == error,
+/// What a recovery has to come to.
+#[derive(Clone, Copy)]
+enum Want {
+    Back(Back),
+    Nothing,
+    Error(RecoverError),
+}
+
+/// Whether it came to that.
+fn is_wanted(recovered: &Result<Recovered, RecoverError>, want: Want) -> bool {
+    match want {
+        Want::Back(back) => is_back(recovered, back),
+        Want::Nothing => is_nothing(recovered),
+        Want::Error(error) => is_error(recovered, error),
     }
+}
+
+/// Whether the recovery from an image comes to that.
+fn comes_to(alloc: Global, setup: &Setup, image: &[u8], want: Want) -> bool {
+    is_wanted(&recover(alloc, setup, image), want)
+}
+
+/// Whether the recovery from a log comes to that.
+fn log_comes_to(alloc: Global, setup: &Setup, text: &str, want: Want) -> bool {
+    match image_of(alloc, text) {
+        Ok(image) => comes_to(alloc, setup, image.as_slice(), want),
+        Err(_) => false,
+    }
+}
+
+/// Whether a log brings this back.
+fn brings(alloc: Global, setup: &Setup, text: &str, back: Back) -> bool {
+    log_comes_to(alloc, setup, text, Want::Back(back))
 }
 
 /// Whether the first fault of a log is in this place.
 fn is_first(alloc: Global, setup: &Setup, text: &str, number: u32) -> bool {
-    match image_of(alloc, text) {
-        Ok(image) => fails(
-            alloc,
-            setup,
-            image.as_slice(),
-            RecoverError::Line { number },
-        ),
-        Err(_) => false,
-    }
+    let error = RecoverError::Line { number };
+    log_comes_to(alloc, setup, text, Want::Error(error))
 }
 
 /// Whether an image is that of no log.
 fn is_no_log(alloc: Global, setup: &Setup, image: &[u8]) -> bool {
-    fails(alloc, setup, image, RecoverError::NoLog)
+    comes_to(alloc, setup, image, Want::Error(RecoverError::NoLog))
 }
 
 /// Whether an image has no lines.
 fn is_empty(alloc: Global, setup: &Setup, image: &[u8]) -> bool {
-    match recover(alloc, setup, image) {
-        Ok(r) => r.lines == 0 && r.accepted == 0 && !r.already,
-        Err(_) => false,
-    }
+    comes_to(alloc, setup, image, Want::Nothing)
 }
 
 /// What so many lines bring back of bob's login.
@@ -230,13 +263,6 @@ fn are_brought_back(alloc: Global, setup: &Setup) -> bool {
         && brings(alloc, setup, TWO, with_login(10, 2, false))
 }
 
-#[test]
-fn logins_are_brought_back(rt: HostRuntime) -> Result<(), Fail> {
-    let setup = with_bob(rt.alloc(), 1, STORED)?;
-    assert!(rt; are_brought_back(rt.alloc(), &setup));
-    Ok(())
-}
-
 /// Whether what the setup has already counts as accepted.
 fn stay(alloc: Global, setup: &Setup) -> bool {
     brings(alloc, setup, LOGIN, with_login(7, 1, true))
@@ -245,45 +271,97 @@ fn stay(alloc: Global, setup: &Setup) -> bool {
         && is_first(alloc, setup, ENDLESS, 3)
 }
 
-#[test]
-fn a_setup_that_has_the_login_stays(rt: HostRuntime) -> Result<(), Fail> {
-    let setup = with_bob(rt.alloc(), 0, LAST)?;
-    assert!(rt; stay(rt.alloc(), &setup));
-    Ok(())
+/// Images that are no logs.
+const NO_LOGS: &[&[u8]] = &[
+    b"OTJ2\x00",
+    b"OTJ1",
+    b"OTJ1\x01\x00",
+    b"OTJ1\x01\x02\x00\x0a",
+    b"OTJ1\x01\x02\x00\x0a\x0a",
+];
+
+/// Whether all of them are none.
+fn are_no_logs(alloc: Global, setup: &Setup) -> bool {
+    for image in NO_LOGS {
+        if !is_no_log(alloc, setup, image) {
+            return false;
+        }
+    }
+    true
 }
 
 /// Whether these images are no logs, or have no lines.
 fn have_no_records(alloc: Global, setup: &Setup) -> bool {
-    is_no_log(alloc, setup, b"OTJ2\x00")
-        && is_no_log(alloc, setup, b"OTJ1")
-        && is_no_log(alloc, setup, b"OTJ1\x01\x00")
-        && is_no_log(alloc, setup, b"OTJ1\x01\x02\x00\x0a")
-        && is_no_log(alloc, setup, b"OTJ1\x01\x02\x00\x0a\x0a")
+    are_no_logs(alloc, setup)
         && is_empty(alloc, setup, b"OTJ1\x00")
         && is_empty(alloc, setup, b"OTJ1\xff\x01\x01")
 }
 
-#[test]
-fn images_without_records(rt: HostRuntime) -> Result<(), Fail> {
-    let setup = with_bob(rt.alloc(), 1, STORED)?;
-    assert!(rt; have_no_records(rt.alloc(), &setup));
-    Ok(())
-}
+/// Logs, and where each has its first fault.
+const FAULTY: &[(&str, u32)] = &[
+    (UNREAD, 3),
+    (MISCOUNTED, 2),
+    (WRONG, 3),
+    (DECOYED, 3),
+    (ELSEWHERE, 4),
+    (NOBODY, 4),
+    (TWICE, 4),
+];
 
 /// Whether each log has its first fault where it says.
 fn are_faulty(alloc: Global, setup: &Setup) -> bool {
-    is_first(alloc, setup, UNREAD, 3)
-        && is_first(alloc, setup, MISCOUNTED, 2)
-        && is_first(alloc, setup, WRONG, 3)
-        && is_first(alloc, setup, DECOYED, 3)
-        && is_first(alloc, setup, ELSEWHERE, 4)
-        && is_first(alloc, setup, NOBODY, 4)
-        && is_first(alloc, setup, TWICE, 4)
+    for (text, number) in FAULTY {
+        if !is_first(alloc, setup, text, *number) {
+            return false;
+        }
+    }
+    true
+}
+
+/// What is asked over a setup.
+#[derive(Clone, Copy)]
+enum Asked {
+    Logins,
+    Already,
+    Images,
+    Faults,
+}
+
+/// Whether what is asked is so over a setup.
+fn is_so_over(alloc: Global, setup: &Setup, asked: Asked) -> bool {
+    match asked {
+        Asked::Logins => are_brought_back(alloc, setup),
+        Asked::Already => stay(alloc, setup),
+        Asked::Images => have_no_records(alloc, setup),
+        Asked::Faults => are_faulty(alloc, setup),
+    }
+}
+
+/// Whether it is so with bob's chain at this place and password.
+fn is_so(alloc: Global, chain: (u16, u64), asked: Asked) -> Result<bool, Fail> {
+    Ok(is_so_over(alloc, &with_bob(alloc, chain)?, asked))
+}
+
+#[test]
+fn logins_are_brought_back(rt: HostRuntime) -> Result<(), Fail> {
+    assert!(rt; is_so(rt.alloc(), (1, STORED), Asked::Logins)?);
+    Ok(())
+}
+
+#[test]
+fn a_setup_that_has_the_login_stays(rt: HostRuntime) -> Result<(), Fail> {
+    assert!(rt; is_so(rt.alloc(), (0, LAST), Asked::Already)?);
+    Ok(())
+}
+
+#[test]
+fn images_without_records(rt: HostRuntime) -> Result<(), Fail> {
+    assert!(rt; is_so(rt.alloc(), (1, STORED), Asked::Images)?);
+    Ok(())
 }
 
 #[test]
 fn first_faults(rt: HostRuntime) -> Result<(), Fail> {
-    let setup = with_bob(rt.alloc(), 1, STORED)?;
-    assert!(rt; are_faulty(rt.alloc(), &setup));
+    assert!(rt; is_so(rt.alloc(), (1, STORED), Asked::Faults)?);
     Ok(())
 }

@@ -1,8 +1,9 @@
+use crate::files::{NONE, files_of};
 use account_file::{SetupFault, SetupKey, SetupRule};
 use audit_check::{Audit, AuditWhy};
 use audit_mode::*;
 use durable_log::{JournalLog, MemDisk};
-use outside::{Bytes, CallKind, Fail, MemFiles, MemStream, Sink, Word};
+use outside::{CallKind, Fail, MemFiles, MemStream, Sink};
 use std::alloc::{AllocError, Global};
 use std::test::Fail as Fault;
 
@@ -107,74 +108,113 @@ const TAKEOVER_LATE: &str = "1 w0 s1 open permit
 /// What stops within its third line.
 const CUT: &str = "1 w0 s1 open permit\n2 w0 s1 write 0 0 2 permit\n3 w0 ";
 
-/// What a file holds where it isn't there.
-const NONE: &str = "none";
-
 /// The durable log without a record.
 const FRESH: [u8; 5] = *b"OTJ1\x00";
 
-/// A file of these bytes, of another name where it isn't there.
-fn file(alloc: Global, name: &str, bytes: &[u8]) -> Result<(Word, Bytes), AllocError> {
-    let there = bytes != NONE.as_bytes();
-    let word = Word::of(alloc, if there { name } else { NONE }.as_bytes())?;
-    Ok((word, Bytes::of(alloc, bytes)?))
+/// What the mode has to come to: a status, or an error.
+#[derive(Clone, Copy)]
+enum Outcome {
+    Status(u8),
+    Error(AuditError),
 }
 
-/// What came of the mode over the files `setup` and `log`, and what it sent.
-fn audited(
-    alloc: Global,
-    setup: &str,
-    log: &[u8],
-    fails: &[Fail],
-) -> Result<(Result<Audit, AuditError>, Bytes), AllocError> {
-    let setup = file(alloc, "setup", setup.as_bytes())?;
-    let pairs = vec![in alloc; setup, file(alloc, "log", log)?]?;
-    let mut files = MemFiles::new(alloc, pairs.as_slice(), fails)?;
-    let mut ends = MemStream::new(alloc, b"", &[1], fails)?;
+/// Whether it came to that.
+fn is_outcome(outcome: Result<Audit, AuditError>, want: Outcome) -> bool {
+    match want {
+        Outcome::Status(want) => status(outcome) == want,
+        Outcome::Error(error) => outcome == Err(error),
+    }
+}
+
+/// What the mode has to come to, and what it has to send.
+#[derive(Clone, Copy)]
+struct Told<'a> {
+    outcome: Outcome,
+    sent: &'a str,
+}
+
+/// Whether the mode over the files `setup` and `log` and these ends comes to that.
+fn is_told(alloc: Global, files: &mut MemFiles, ends: &mut MemStream, told: &Told<'_>) -> bool {
     let command = AuditCommand {
         setup: "setup",
         log: "log",
     };
-    let outcome = run_audit(alloc, &command, &mut files, &mut ends);
-    Ok((outcome, Bytes::of(alloc, ends.sent())?))
+    let outcome = run_audit(alloc, &command, files, ends);
+    is_outcome(outcome, told.outcome) && ends.sent() == told.sent.as_bytes()
+}
+
+/// The same at ends of whose calls these fail.
+fn is_told_with(
+    alloc: Global,
+    files: &mut MemFiles,
+    fails: &[Fail],
+    told: &Told<'_>,
+) -> Result<bool, AllocError> {
+    let mut ends = MemStream::new(alloc, b"", &[1], fails)?;
+    Ok(is_told(alloc, files, &mut ends, told))
+}
+
+/// The same over a setup and a log of these bytes.
+fn comes_to<'x>(
+    alloc: Global,
+    setup: &'x [u8],
+    log: &'x [u8],
+    fails: &[Fail],
+    told: &Told<'_>,
+) -> Result<bool, AllocError> {
+    let mut files = files_of(alloc, &[("setup", setup), ("log", log)], fails)?;
+    is_told_with(alloc, &mut files, fails, told)
 }
 
 /// Whether the bytes of a log are answered by a status and a line.
 fn answers(alloc: Global, setup: &str, log: &[u8], told: (u8, &str)) -> Result<bool, AllocError> {
-    let (outcome, sent) = audited(alloc, setup, log, &[])?;
-    Ok(status(outcome) == told.0 && sent.as_slice() == told.1.as_bytes())
+    let (status, sent) = told;
+    let outcome = Outcome::Status(status);
+    comes_to(alloc, setup.as_bytes(), log, &[], &Told { outcome, sent })
+}
+
+/// Appends each line of a text, and says whether all could be.
+fn append_all(log: &mut JournalLog<MemDisk>, text: &str) -> bool {
+    let mut whole = true;
+    for line in text.split_inclusive('\n') {
+        whole &= log.append(line.as_bytes()).is_ok();
+    }
+    whole
+}
+
+/// What a disk has where the log on it is whole, and else nothing.
+fn image_where(alloc: Global, disk: &MemDisk, whole: bool) -> Result<Vec<u8>, AllocError> {
+    if !whole || !disk.tells() {
+        return Ok(Vec::new(alloc));
+    }
+    disk.image(alloc, disk.calls(), 0)
 }
 
 /// What the disk of a durable log has once each line of a text was appended; nothing where an append
 /// failed.
 fn durable(alloc: Global, text: &str) -> Result<Vec<u8>, AllocError> {
     let mut log = JournalLog::new(MemDisk::new(alloc, &FRESH, &[])?);
-    let mut whole = true;
-    for line in text.split_inclusive('\n') {
-        whole &= log.append(line.as_bytes()).is_ok();
-    }
-    let disk = log.disk();
-    let calls = disk.calls();
-    if !whole || !disk.tells() {
-        return Ok(Vec::new(alloc));
-    }
-    disk.image(alloc, calls, 0)
+    let whole = append_all(&mut log, text);
+    image_where(alloc, &log.disk(), whole)
 }
 
-/// Whether a log with another line in the place of one, or without it where the other is empty, is
-/// answered by a status and a line, as a text and as a durable log.
-fn tells(
-    alloc: Global,
-    setup: &str,
-    log: &str,
-    other: (usize, &str),
-    told: (u8, &str),
-) -> Result<bool, AllocError> {
+/// A log with another line in the place of one, or without it where the other is empty.
+fn text_with(alloc: Global, log: &str, place: usize, other: &str) -> Result<String, AllocError> {
     let mut text = String::new(alloc);
     for (i, old) in log.split_inclusive('\n').enumerate() {
-        text.push_str(if i + 1 == other.0 { other.1 } else { old })?;
+        text.push_str(if i + 1 == place { other } else { old })?;
     }
-    let log = durable(alloc, text.as_str())?;
+    Ok(text)
+}
+
+/// Whether a log is answered by a status and a line, as a text and as a durable log.
+fn answers_both(
+    alloc: Global,
+    setup: &str,
+    text: &str,
+    told: (u8, &str),
+) -> Result<bool, AllocError> {
+    let log = durable(alloc, text)?;
     Ok(
         log.starts_with(b"OTJ1")
             && answers(alloc, setup, log.as_slice(), told)?
@@ -182,16 +222,42 @@ fn tells(
     )
 }
 
+/// A setup, a log with another line in a place, and the status and the line that answer it.
+type Row = (
+    &'static str,
+    &'static str,
+    (usize, &'static str),
+    (u8, &'static str),
+);
+
+/// Whether a row's log is answered so.
+fn tells(alloc: Global, row: &Row) -> Result<bool, AllocError> {
+    let (setup, log, (place, other), told) = *row;
+    let text = text_with(alloc, log, place, other)?;
+    answers_both(alloc, setup, text.as_str(), told)
+}
+
+/// Whether a durable log of a login is answered by all its lines, also with what a crash left after the
+/// closed gate, and one without a record by none.
+fn is_kept(alloc: Global, log: &[u8]) -> Result<bool, AllocError> {
+    let crashed = [log, b"\x1f\x0022 w0 s2 open".as_slice()].concat(alloc)?;
+    Ok(
+        log.starts_with(b"OTJ1\x01\x14\x001 w0 s1 open permit\n\x01")
+            && answers(alloc, ONE_WORKER, log, (0, "yes 21\n"))?
+            && answers(alloc, ONE_WORKER, &FRESH, (0, "yes 0\n"))?
+            && answers(alloc, ONE_WORKER, &crashed, (0, "yes 21\n"))?,
+    )
+}
+
+/// Whether that of LOGIN is.
+fn is_login_kept(alloc: Global) -> Result<bool, AllocError> {
+    let log = durable(alloc, LOGIN)?;
+    is_kept(alloc, log.as_slice())
+}
+
 #[test]
 fn the_durable_log_of_a_login(rt: HostRuntime) -> Result<(), Fault> {
-    let alloc = rt.alloc();
-    let mut log = durable(alloc, LOGIN)?;
-    assert!(rt; log.starts_with(b"OTJ1\x01\x14\x001 w0 s1 open permit\n\x01"));
-    assert!(rt; answers(alloc, ONE_WORKER, log.as_slice(), (0, "yes 21\n"))?);
-    assert!(rt; answers(alloc, ONE_WORKER, &FRESH, (0, "yes 0\n"))?);
-    // What a crash left after the closed gate doesn't count.
-    log.extend_from_slice(b"\x1f\x0022 w0 s2 open")?;
-    assert!(rt; answers(alloc, ONE_WORKER, log.as_slice(), (0, "yes 21\n"))?);
+    assert!(rt; is_login_kept(rt.alloc())?);
     Ok(())
 }
 
@@ -202,135 +268,178 @@ fn a_durable_log_with_a_record_that_is_no_line(rt: HostRuntime) -> Result<(), Fa
     Ok(())
 }
 
+/// A durable log of two lines.
+const TWO: &[u8] = b"OTJ1\x01\x14\x001 w0 s1 open permit\n\x01\x16\x002 w0 s1 banner permit\n\x00";
+
+/// Where it is cut, and the line that answers it then.
+const CUTS: &[(usize, &str)] = &[
+    (53, "yes 2\n"),
+    (4, "yes 0\n"),
+    (5, "yes 0\n"),
+    (26, "yes 0\n"),
+    (27, "yes 1\n"),
+    (29, "yes 1\n"),
+    (51, "yes 1\n"),
+    (52, "yes 2\n"),
+];
+
+/// Whether its first bytes are answered by a line.
+fn answers_front(alloc: Global, end: usize, told: &str) -> Result<bool, AllocError> {
+    let (front, _) = TWO.split_at_checked(end).unwrap_or((TWO, &[]));
+    answers(alloc, ONE_WORKER, front, (0, told))
+}
+
 #[test]
 fn a_durable_log_that_is_cut_short(rt: HostRuntime) -> Result<(), Fault> {
-    let alloc = rt.alloc();
-    let two = b"OTJ1\x01\x14\x001 w0 s1 open permit\n\x01\x16\x002 w0 s1 banner permit\n\x00";
-    assert!(rt; answers(alloc, ONE_WORKER, two, (0, "yes 2\n"))?);
-    let ends: [(usize, &str); 7] = [
-        (4, "yes 0\n"),
-        (5, "yes 0\n"),
-        (26, "yes 0\n"),
-        (27, "yes 1\n"),
-        (29, "yes 1\n"),
-        (51, "yes 1\n"),
-        (52, "yes 2\n"),
-    ];
-    for (end, told) in ends {
-        let (front, _) = two.split_at_checked(end).unwrap_or((two, &[]));
-        assert!(rt; answers(alloc, ONE_WORKER, front, (0, told))?);
+    for (end, told) in CUTS {
+        assert!(rt; answers_front(rt.alloc(), *end, told)?, "{told} at {end}");
     }
     Ok(())
 }
 
+/// Texts that are no durable log, and no line.
+const NO_LOGS: &[&[u8]] = &[b"OTJ", b"OTJ2\x00", b"\nOTJ1\x00"];
+
 #[test]
 fn what_does_not_begin_so_is_a_text(rt: HostRuntime) -> Result<(), Fault> {
-    let alloc = rt.alloc();
-    assert!(rt; answers(alloc, ONE_WORKER, b"OTJ", (14, "no 1 text\n"))?);
-    assert!(rt; answers(alloc, ONE_WORKER, b"OTJ2\x00", (14, "no 1 text\n"))?);
-    assert!(rt; answers(alloc, ONE_WORKER, b"\nOTJ1\x00", (14, "no 1 text\n"))?);
+    for log in NO_LOGS {
+        assert!(rt; answers(rt.alloc(), ONE_WORKER, log, (14, "no 1 text\n"))?);
+    }
     Ok(())
 }
 
+const OF_A_LOGIN: &[Row] = &[
+    (ONE_WORKER, LOGIN, (0, ""), (0, "yes 21\n")),
+    (
+        ONE_WORKER,
+        LOGIN,
+        (7, "7 w0 s1 reply permit 0000000000000000\n"),
+        (14, "no 7 event\n"),
+    ),
+    (ONE_WORKER, LOGIN, (7, ""), (14, "no 7 count\n")),
+    (ONE_WORKER, "", (0, ""), (0, "yes 0\n")),
+];
+
 #[test]
 fn the_log_of_a_login(rt: HostRuntime) -> Result<(), Fault> {
-    let alloc = rt.alloc();
-    assert!(rt; tells(alloc, ONE_WORKER, LOGIN, (0, ""), (0, "yes 21\n"))?);
-    let other = "7 w0 s1 reply permit 0000000000000000\n";
-    assert!(rt; tells(alloc, ONE_WORKER, LOGIN, (7, other), (14, "no 7 event\n"))?);
-    assert!(rt; tells(alloc, ONE_WORKER, LOGIN, (7, ""), (14, "no 7 count\n"))?);
-    assert!(rt; tells(alloc, ONE_WORKER, "", (0, ""), (0, "yes 0\n"))?);
+    for row in OF_A_LOGIN {
+        assert!(rt; tells(rt.alloc(), row)?);
+    }
     Ok(())
 }
 
 #[test]
 fn the_log_of_a_run_whose_log_failed(rt: HostRuntime) -> Result<(), Fault> {
-    assert!(rt; tells(rt.alloc(), PLAIN, CUT, (0, ""), (14, "no 3 text\n"))?);
+    assert!(rt; tells(rt.alloc(), &(PLAIN, CUT, (0, ""), (14, "no 3 text\n")))?);
     Ok(())
 }
 
+const OF_A_TAKEOVER: &[Row] = &[
+    (TWO_WORKERS, TAKEOVER, (0, ""), (0, "yes 7\n")),
+    (TWO_WORKERS, TAKEOVER_LATE, (0, ""), (0, "yes 7\n")),
+    (
+        TWO_WORKERS,
+        TAKEOVER,
+        (6, "6 w0 s1 reply deny 16 0\n"),
+        (14, "no 6 event\n"),
+    ),
+];
+
 #[test]
 fn the_log_of_a_takeover(rt: HostRuntime) -> Result<(), Fault> {
-    let alloc = rt.alloc();
-    assert!(rt; tells(alloc, TWO_WORKERS, TAKEOVER, (0, ""), (0, "yes 7\n"))?);
-    assert!(rt; tells(alloc, TWO_WORKERS, TAKEOVER_LATE, (0, ""), (0, "yes 7\n"))?);
-    let other = "6 w0 s1 reply deny 16 0\n";
-    assert!(rt;
-        tells(
-            alloc,
-            TWO_WORKERS,
-            TAKEOVER,
-            (6, other),
-            (14, "no 6 event\n")
-        )?
-    );
+    for row in OF_A_TAKEOVER {
+        assert!(rt; tells(rt.alloc(), row)?);
+    }
     Ok(())
 }
 
 /// Whether the mode ends by an error, of which it tells nothing.
-fn ends_by(
-    alloc: Global,
-    setup: &str,
-    log: &str,
-    fails: &[Fail],
-    error: AuditError,
-) -> Result<bool, AllocError> {
-    let (outcome, sent) = audited(alloc, setup, log.as_bytes(), fails)?;
-    Ok(outcome == Err(error) && sent.as_slice().is_empty())
+fn ends_by(alloc: Global, setup: &str, log: &str, error: AuditError) -> Result<bool, AllocError> {
+    let told = Told {
+        outcome: Outcome::Error(error),
+        sent: "",
+    };
+    comes_to(alloc, setup.as_bytes(), log.as_bytes(), &[], &told)
 }
+
+/// A setup without its counts.
+const HALF: &str = "socket = \"s\"\nlauncher = \"l\"\nvault = \"v\"\nwords = \"w\"\n";
+
+/// The fault that it has.
+const REFUSED: AuditError = AuditError::SetupRefused(SetupFault {
+    key: SetupKey::Workers,
+    rule: SetupRule::Missing,
+    account: 0,
+});
+
+/// A setup, a log, the error, and its status.
+const MISSING: &[(&str, &str, AuditError, u8)] = &[
+    (NONE, NONE, AuditError::SetupMissing, 4),
+    (HALF, NONE, REFUSED, 5),
+    (PLAIN, NONE, AuditError::LogMissing, 4),
+];
 
 #[test]
 fn files_that_are_missing_or_refused(rt: HostRuntime) -> Result<(), Fault> {
-    let alloc = rt.alloc();
-    let refused = AuditError::SetupRefused(SetupFault {
-        key: SetupKey::Workers,
-        rule: SetupRule::Missing,
-        account: 0,
-    });
-    let half = "socket = \"s\"\nlauncher = \"l\"\nvault = \"v\"\nwords = \"w\"\n";
-    assert!(rt; ends_by(alloc, NONE, NONE, &[], AuditError::SetupMissing)?);
-    assert!(rt; ends_by(alloc, half, NONE, &[], refused)?);
-    assert!(rt; ends_by(alloc, PLAIN, NONE, &[], AuditError::LogMissing)?);
-    assert!(rt; AuditError::SetupMissing.status() == 4);
-    assert!(rt; refused.status() == 5);
-    assert!(rt; AuditError::LogMissing.status() == 4);
+    for (setup, log, error, status) in MISSING {
+        assert!(rt; ends_by(rt.alloc(), setup, log, *error)?);
+        assert!(rt; error.status() == *status);
+    }
     Ok(())
+}
+
+/// A call that fails, a sending after five bytes, the error, and what was sent by then.
+const FAILING: &[(CallKind, u32, AuditError, &str)] = &[
+    (CallKind::Read, 1, AuditError::ReadFailed, ""),
+    (CallKind::Read, 2, AuditError::ReadFailed, ""),
+    (CallKind::Read, 3, AuditError::ReadFailed, ""),
+    (CallKind::Read, 4, AuditError::ReadFailed, ""),
+    (CallKind::Send, 1, AuditError::EndsFailed, "no 3 "),
+];
+
+/// Whether a call that fails over a log that is cut short comes to that.
+fn fails_so(
+    alloc: Global,
+    call: CallKind,
+    number: u32,
+    told: &Told<'_>,
+) -> Result<bool, AllocError> {
+    let fails = [Fail {
+        call,
+        number,
+        sent: 5,
+    }];
+    comes_to(alloc, PLAIN.as_bytes(), CUT.as_bytes(), &fails, told)
 }
 
 #[test]
 fn calls_that_fail(rt: HostRuntime) -> Result<(), Fault> {
-    let alloc = rt.alloc();
-    for number in [1, 2, 3, 4] {
-        let fail = Fail {
-            call: CallKind::Read,
-            number,
-            sent: 0,
-        };
-        assert!(rt; ends_by(alloc, PLAIN, CUT, &[fail], AuditError::ReadFailed)?);
+    for (call, number, error, sent) in FAILING {
+        let outcome = Outcome::Error(*error);
+        assert!(rt; fails_so(rt.alloc(), *call, *number, &Told { outcome, sent })?);
     }
-    let fail = Fail {
-        call: CallKind::Send,
-        number: 1,
-        sent: 5,
-    };
-    let (outcome, sent) = audited(alloc, PLAIN, CUT.as_bytes(), &[fail])?;
-    assert!(rt; outcome == Err(AuditError::EndsFailed));
-    assert!(rt; sent.as_slice() == b"no 3 ".as_slice());
     assert!(rt; AuditError::ReadFailed.status() == 3);
     assert!(rt; AuditError::OutOfMemory.status() == 9);
     assert!(rt; AuditError::EndsFailed.status() == 11);
     Ok(())
 }
 
+/// A mode and words after it that are no command.
+const OTHERS: &[(&str, &[&str])] = &[
+    ("audit", &["a"]),
+    ("audit", &["a", "b", "c"]),
+    ("Audit", &["a", "b"]),
+    ("check", &["a", "b"]),
+];
+
 #[test]
 fn words_of_the_mode(rt: HostRuntime) {
     let whole = read_audit_command("audit", &["a.toml", "a.log"]);
     assert!(rt; whole.is_some_and(|c| c.setup == "a.toml" && c.log == "a.log"));
     assert!(rt; read_audit_command("audit", &["", ""]).is_some());
-    assert!(rt; read_audit_command("audit", &["a"]).is_none());
-    assert!(rt; read_audit_command("audit", &["a", "b", "c"]).is_none());
-    assert!(rt; read_audit_command("Audit", &["a", "b"]).is_none());
-    assert!(rt; read_audit_command("check", &["a", "b"]).is_none());
+    for (mode, words) in OTHERS {
+        assert!(rt; read_audit_command(mode, words).is_none());
+    }
 }
 
 #[test]

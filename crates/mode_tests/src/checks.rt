@@ -1,9 +1,10 @@
 ghost use Rattle.std.specs.Prelude.{◌≡◌, []};
 ghost use Rattle.info_hooks.specs.Texts.{info_bytes};
 
+use crate::files::files_of;
 use check_mode::*;
 use info_hooks::{Card, Form, Hook, Hooks, InfoText};
-use outside::{Bytes, CallKind, Fail, MemFiles, MemStream, Word};
+use outside::{CallKind, Fail, MemFiles, MemStream};
 use std::alloc::{AllocError, Global};
 use std::test::Fail as Fault;
 
@@ -70,12 +71,6 @@ fn list_with(alloc: Global, first: &str, lines: u16) -> Result<Vec<u8>, AllocErr
     Ok(text)
 }
 
-/// A file of these bytes.
-fn file(alloc: Global, name: &str, bytes: &[u8]) -> Result<(Word, Bytes), AllocError> {
-    let name = Word::of(alloc, name.as_bytes())?;
-    Ok((name, Bytes::of(alloc, bytes)?))
-}
-
 /// Says nothing.
 fn say_nothing(_: &Card) -> InfoText
     ensures { info_bytes result ≡ [] }
@@ -91,22 +86,63 @@ fn one_hook(alloc: Global) -> Result<Hooks, Fault> {
     Ok(Hooks::new(list).ok().ok_or("hooks")?)
 }
 
-/// What the mode found of the setup in the file `setup`, and what it sent.
-fn checked(
+/// What has to be found of a setup, as a status or a fault, and what has to be sent then.
+#[derive(Clone, Copy)]
+struct Told<'a> {
+    found: Result<u8, CheckFault>,
+    sent: &'a str,
+}
+
+/// Whether that is found of the file `setup`.
+fn is_found(
     alloc: Global,
-    files: &[(Word, Bytes)],
+    hooks: &Hooks,
+    files: &mut MemFiles,
+    ends: &mut MemStream,
+    told: &Told<'_>,
+) -> bool {
+    let found = run_check(alloc, "setup", hooks, files, ends);
+    ends.sent() == told.sent.as_bytes() && found.map(Finding::status) == told.found
+}
+
+/// The same with the one hook.
+fn is_found_by_one(
+    alloc: Global,
+    files: &mut MemFiles,
+    ends: &mut MemStream,
+    told: &Told<'_>,
+) -> Result<bool, Fault> {
+    Ok(is_found(alloc, &one_hook(alloc)?, files, ends, told))
+}
+
+/// The same at ends of whose calls these fail.
+fn finds(
+    alloc: Global,
+    files: &mut MemFiles,
     fails: &[Fail],
-) -> Result<(Result<Finding, CheckFault>, Bytes), Fault> {
-    let hooks = one_hook(alloc)?;
-    let mut files = MemFiles::new(alloc, files, fails)?;
+    told: &Told<'_>,
+) -> Result<bool, Fault> {
     let mut ends = MemStream::new(alloc, b"", &[1], fails)?;
-    let found = run_check(alloc, "setup", &hooks, &mut files, &mut ends);
-    Ok((found, Bytes::of(alloc, ends.sent())?))
+    is_found_by_one(alloc, files, &mut ends, told)
+}
+
+/// The same over a setup and a word list.
+fn finds_of<'x>(
+    alloc: Global,
+    setup: &'x [u8],
+    list: &'x [u8],
+    fails: &[Fail],
+    told: &Told<'_>,
+) -> Result<bool, Fault> {
+    let mut files = files_of(alloc, &[("setup", setup), ("list", list)], fails)?;
+    finds(alloc, &mut files, fails, told)
 }
 
 /// A place of the setup's lines, and another text there; the first line of the word list, and how
 /// many lines of the plain list follow; the status, and the line that is sent.
-const ROWS: [(usize, &str, &str, u16, u8, &str); 14] = [
+type Row = (usize, &'static str, &'static str, u16, u8, &'static str);
+
+const ROWS: &[Row] = &[
     (20, "", "", 2_048, 0, "ok accounts 1 workers 1\n"),
     (
         5,
@@ -158,99 +194,88 @@ const ROWS: [(usize, &str, &str, u16, u8, &str); 14] = [
     ),
 ];
 
-/// The files of a setup and of a word list.
-fn both_files(alloc: Global, setup: &[u8], list: &[u8]) -> Result<Vec<(Word, Bytes)>, AllocError> {
-    Ok(vec![in alloc; file(alloc, "setup", setup)?, file(alloc, "list", list)?]?)
+/// Whether a row holds.
+fn holds(alloc: Global, row: &Row) -> Result<bool, Fault> {
+    let (place, text, first, lines, status, sent) = *row;
+    let setup = setup_with(alloc, place, text, 0)?;
+    let list = list_with(alloc, first, lines)?;
+    let found = Ok(status);
+    finds_of(alloc, &setup, &list, &[], &Told { found, sent })
 }
 
-/// Whether what is found of these files has this status, and this line is sent.
-fn finds(alloc: Global, files: &[(Word, Bytes)], status: u8, told: &str) -> Result<bool, Fault> {
-    let (found, sent) = checked(alloc, files, &[])?;
-    Ok(sent.as_slice() == told.as_bytes() && found.map(Finding::status) == Ok(status))
-}
-
-/// Whether it is so of a setup and a word list.
-fn finds_of(
-    alloc: Global,
-    setup: &[u8],
-    list: &[u8],
-    status: u8,
-    told: &str,
-) -> Result<bool, Fault> {
-    let files = both_files(alloc, setup, list)?;
-    finds(alloc, files.as_slice(), status, told)
+/// Whether a setup is missing where there is no file.
+fn finds_none(alloc: Global) -> Result<bool, Fault> {
+    let missing = Told {
+        found: Ok(4),
+        sent: "missing setup\n",
+    };
+    let mut files = MemFiles::new(alloc, &[], &[])?;
+    finds(alloc, &mut files, &[], &missing)
 }
 
 #[test]
 fn lines_and_statuses(rt: HostRuntime) -> Result<(), Fault> {
-    let alloc = rt.alloc();
-    for (place, text, first, lines, status, told) in ROWS {
-        let setup = setup_with(alloc, place, text, 0)?;
-        let list = list_with(alloc, first, lines)?;
-        assert!(rt; finds_of(alloc, &setup, &list, status, told)?, "{told}");
+    for row in ROWS {
+        assert!(rt; holds(rt.alloc(), row)?, "{}", row.5);
     }
-    assert!(rt; finds(alloc, &[], 4, "missing setup\n")?);
+    assert!(rt; finds_none(rt.alloc())?);
     Ok(())
+}
+
+/// Whether this is found of a right setup of this length beside the plain list.
+fn finds_long(alloc: Global, len: usize, status: u8, sent: &str) -> Result<bool, Fault> {
+    let setup = setup_with(alloc, 20, "", len)?;
+    let list = list_with(alloc, "", 2_048)?;
+    let found = Ok(status);
+    finds_of(alloc, &setup, &list, &[], &Told { found, sent })
 }
 
 #[test]
 fn files_of_the_greatest_length(rt: HostRuntime) -> Result<(), Fault> {
-    let alloc = rt.alloc();
-    let list = list_with(alloc, "", 2_048)?;
-    let longest = setup_with(alloc, 20, "", LONGEST)?;
-    assert!(rt; finds_of(alloc, &longest, &list, 0, "ok accounts 1 workers 1\n")?);
-    let longer = setup_with(alloc, 20, "", LONGEST + 1)?;
-    assert!(rt; finds_of(alloc, &longer, &list, 5, "refused setup file too-long 0\n")?);
+    let longest = "ok accounts 1 workers 1\n";
+    assert!(rt; finds_long(rt.alloc(), LONGEST, 0, longest)?);
+    let longer = "refused setup file too-long 0\n";
+    assert!(rt; finds_long(rt.alloc(), LONGEST + 1, 5, longer)?);
     Ok(())
 }
 
-/// The files of a right setup and the plain list.
-fn right_files(alloc: Global) -> Result<Vec<(Word, Bytes)>, AllocError> {
+/// Whether this is found of a right setup and the plain list where a call fails.
+fn fails_with(alloc: Global, fail: Fail, told: &Told<'_>) -> Result<bool, Fault> {
     let setup = setup_with(alloc, 20, "", 0)?;
     let list = list_with(alloc, "", 2_048)?;
-    both_files(alloc, &setup, &list)
+    finds_of(alloc, &setup, &list, &[fail], told)
 }
 
-/// Whether a call that fails is this fault, and this was sent by then.
-fn fails_with(
-    alloc: Global,
-    call: CallKind,
-    number: u32,
-    fault: CheckFault,
-    told: &str,
-) -> Result<bool, Fault> {
-    let files = right_files(alloc)?;
+/// A call that fails, the fault, and what was sent by then.
+const FAILING: &[(CallKind, u32, CheckFault, &str)] = &[
+    (CallKind::Read, 1, CheckFault::ReadFailed, ""),
+    (CallKind::Read, 2, CheckFault::ReadFailed, ""),
+    (CallKind::Read, 3, CheckFault::ReadFailed, ""),
+    (CallKind::Send, 1, CheckFault::EndsFailed, "ok ac"),
+];
+
+/// Whether a call that fails comes to that.
+fn fails_so(alloc: Global, call: CallKind, number: u32, told: &Told<'_>) -> Result<bool, Fault> {
     let fail = Fail {
         call,
         number,
         sent: 5,
     };
-    let (found, sent) = checked(alloc, files.as_slice(), &[fail])?;
-    Ok(found == Err(fault) && sent.as_slice() == told.as_bytes())
+    fails_with(alloc, fail, told)
 }
 
 #[test]
 fn calls_that_fail(rt: HostRuntime) -> Result<(), Fault> {
-    for number in 1..4 {
+    for (call, number, fault, sent) in FAILING {
+        let told = Told {
+            found: Err(*fault),
+            sent,
+        };
         assert!(rt;
-            fails_with(
-                rt.alloc(),
-                CallKind::Read,
-                number,
-                CheckFault::ReadFailed,
-                ""
-            )?
+            fails_so(rt.alloc(), *call, *number, &told)?,
+            "{sent} at {number}"
         );
     }
-    assert!(rt;
-        fails_with(
-            rt.alloc(),
-            CallKind::Send,
-            1,
-            CheckFault::EndsFailed,
-            "ok ac"
-        )?
-    );
     Ok(())
 }
 
@@ -261,12 +286,19 @@ fn statuses_of_faults(rt: HostRuntime) {
     assert!(rt; CheckFault::EndsFailed.status() == 11);
 }
 
+/// A mode, the words after it, and the file that they name.
+const WORDS: &[(&str, &[&str], Option<&str>)] = &[
+    ("check", &["a.toml"], Some("a.toml")),
+    ("check", &[""], Some("")),
+    ("check", &[], None),
+    ("check", &["a", "b"], None),
+    ("Check", &["a"], None),
+    ("serve", &["a"], None),
+];
+
 #[test]
 fn words_of_the_mode(rt: HostRuntime) {
-    assert!(rt; read_check_command("check", &["a.toml"]) == Some("a.toml"));
-    assert!(rt; read_check_command("check", &[""]) == Some(""));
-    assert!(rt; read_check_command("check", &[]) == None);
-    assert!(rt; read_check_command("check", &["a", "b"]) == None);
-    assert!(rt; read_check_command("Check", &["a"]) == None);
-    assert!(rt; read_check_command("serve", &["a"]) == None);
+    for (mode, words, want) in WORDS {
+        assert!(rt; read_check_command(mode, words) == *want);
+    }
 }

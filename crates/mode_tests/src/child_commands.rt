@@ -4,14 +4,15 @@ use outside::{CallKind, Fail, MemStream};
 use std::alloc::{AllocError, Global};
 use std::test::Fail as Fault;
 
-/// Words of the modes, each line with the session and the user's number that they name, 0 for none.
-const COMMANDS: &str = "
-    1 0 child-pre 1
-    7 0 child-pre 7
-    262144 0 child-pre 262144
-    7 1001 child-user 7 1001 bob
-    262144 4294967294 child-user 262144 4294967294 a
-    1 1 child-user 1 1 abcdefghijklmnopqrstuvwxyz012345";
+/// Words of the modes, with the session and the user's number that they name, 0 for none.
+const COMMANDS: &[((u32, u32), &str)] = &[
+    ((1, 0), "child-pre 1"),
+    ((7, 0), "child-pre 7"),
+    ((262_144, 0), "child-pre 262144"),
+    ((7, 1_001), "child-user 7 1001 bob"),
+    ((262_144, 4_294_967_294), "child-user 262144 4294967294 a"),
+    ((1, 1), "child-user 1 1 abcdefghijklmnopqrstuvwxyz012345"),
+];
 
 /// Words that are none of the modes.
 const OTHERS: &str = "
@@ -55,20 +56,18 @@ fn numbers_in(command: &ChildCommand) -> (u32, u32) {
     }
 }
 
-/// Whether the words of a line, after the numbers that they name, are read so.
-fn reads(alloc: Global, line: &str) -> Result<bool, Fault> {
-    let (session, rest) = line.split_once(' ').ok_or("a session")?;
-    let (uid, words) = rest.split_once(' ').ok_or("a user")?;
-    let session = session.parse::<u32>().map_err(|_| "a number")?;
-    let uid = uid.parse::<u32>().map_err(|_| "a number")?;
-    let command = command_in(alloc, words)?.ok_or("a command")?;
-    Ok(numbers_in(&command) == (session, uid))
+/// Whether the words of a line name these numbers.
+fn names(alloc: Global, line: &str, numbers: (u32, u32)) -> Result<bool, AllocError> {
+    match command_in(alloc, line)? {
+        Some(command) => Ok(numbers_in(&command) == numbers),
+        None => Ok(false),
+    }
 }
 
 #[test]
 fn words_name_a_child(rt: HostRuntime) -> Result<(), Fault> {
-    for line in COMMANDS.lines().skip(1) {
-        assert!(rt; reads(rt.alloc(), line.trim())?, "{line}");
+    for (numbers, line) in COMMANDS {
+        assert!(rt; names(rt.alloc(), line, *numbers)?, "{line}");
     }
     for line in OTHERS.lines().skip(1) {
         assert!(rt; command_in(rt.alloc(), line)?.is_none(), "{line}");
@@ -86,42 +85,52 @@ const ASKS_BANNER: &[u8] = b"\x01\0\0\0\x10\0\0\0\0\0\0\0\0\0\0\0";
 
 const ASKS_IMPORT: &[u8] = b"\x06\0\0\0\x10\0\0\0\0\0\0\0\0\0\0\0";
 
-/// Whether a mode over these bytes ends with a status, having sent this first.
-fn ends_by(
-    alloc: Global,
-    words: &str,
-    bytes: &[u8],
-    first: &[u8],
-    status: u8,
-) -> Result<bool, Fault> {
-    let command = command_in(alloc, words)?.ok_or("a command")?;
-    let mut link = MemStream::new(alloc, bytes, &[7], &[])?;
-    let run = run_child_mode(alloc, &command, &mut link);
-    Ok(run.status() == status && link.tells() && link.sent().starts_with(first))
+/// Words, the bytes that come, what is sent first, and the status.
+type Row = (&'static str, &'static [u8], &'static [u8], u8);
+
+const ROWS: &[Row] = &[
+    ("child-pre 7", b"", ASKS_BANNER, 0),
+    ("child-pre 7", BANNER, ASKS_BANNER, 0),
+    ("child-pre 7", ANOTHER, ASKS_BANNER, 12),
+    ("child-user 7 1001 bob", b"", ASKS_IMPORT, 0),
+    ("child-user 7 1001 bob", BANNER, ASKS_IMPORT, 12),
+];
+
+/// Whether a mode over this link ends with a row's status, having sent what it says first.
+fn ends_over(alloc: Global, command: &ChildCommand, link: &mut MemStream, row: &Row) -> bool {
+    let run = run_child_mode(alloc, command, link);
+    run.status() == row.3 && link.tells() && link.sent().starts_with(row.2)
+}
+
+/// Whether the mode of a row's words does over its bytes.
+fn ends_by(alloc: Global, row: &Row) -> Result<bool, Fault> {
+    let command = command_in(alloc, row.0)?.ok_or("a command")?;
+    let mut link = MemStream::new(alloc, row.1, &[7], &[])?;
+    Ok(ends_over(alloc, &command, &mut link, row))
 }
 
 #[test]
 fn a_mode_ends_by_what_came(rt: HostRuntime) -> Result<(), Fault> {
-    let pre = "child-pre 7";
-    let user = "child-user 7 1001 bob";
-    assert!(rt; ends_by(rt.alloc(), pre, b"", ASKS_BANNER, 0)?);
-    assert!(rt; ends_by(rt.alloc(), pre, BANNER, ASKS_BANNER, 0)?);
-    assert!(rt; ends_by(rt.alloc(), pre, ANOTHER, ASKS_BANNER, 12)?);
-    assert!(rt; ends_by(rt.alloc(), user, b"", ASKS_IMPORT, 0)?);
-    assert!(rt; ends_by(rt.alloc(), user, BANNER, ASKS_IMPORT, 12)?);
+    for row in ROWS {
+        assert!(rt; ends_by(rt.alloc(), row)?);
+    }
     Ok(())
 }
 
-#[test]
-fn a_fault_of_the_ends_is_told(rt: HostRuntime) -> Result<(), Fault> {
+/// Whether a mode ends by the fault of a link whose first sending fails.
+fn ends_by_fault(alloc: Global) -> Result<bool, AllocError> {
     let fail = Fail {
         call: CallKind::Send,
         number: 1,
         sent: 3,
     };
-    let mut link = MemStream::new(rt.alloc(), b"", &[7], &[fail])?;
-    let run = run_child_mode(rt.alloc(), &ChildCommand::Pre { session: 7 }, &mut link);
-    assert!(rt; run == ChildRun::Ended(ChildEnd::LinkFault));
-    assert!(rt; run.status() == 11);
+    let mut link = MemStream::new(alloc, b"", &[7], &[fail])?;
+    let run = run_child_mode(alloc, &ChildCommand::Pre { session: 7 }, &mut link);
+    Ok(run == ChildRun::Ended(ChildEnd::LinkFault) && run.status() == 11)
+}
+
+#[test]
+fn a_fault_of_the_ends_is_told(rt: HostRuntime) -> Result<(), Fault> {
+    assert!(rt; ends_by_fault(rt.alloc())?);
     Ok(())
 }

@@ -1,5 +1,6 @@
 use journal_counts::*;
 use policy_model::{Ask, Decision, Event, Why};
+use std::alloc::{AllocError, Global};
 use std::test::*;
 
 /// An event of the first session, permitted.
@@ -70,11 +71,17 @@ fn journal() -> [Event; 11] {
     ]
 }
 
+/// Whether a journal's counts are this text.
+fn is_counted(alloc: Global, journal: &[Event], want: &str) -> Result<bool, AllocError> {
+    Ok(counts_text(alloc, journal)?.as_str() == want)
+}
+
+/// The counts of no event.
+const NOTHING: &str = "sessions 0\nevents 0\npermitted 0\ndenied 0\naccepted 0\n";
+
 #[test]
 fn counts_are_told_where_they_came(rt: HostRuntime) -> Result<(), Fail> {
-    let text = counts_text(rt.alloc(), &journal())?;
-    assert!(rt; text.as_str() == TEXT);
-    let text = counts_text(rt.alloc(), &[])?;
-    assert!(rt; text.as_str() == "sessions 0\nevents 0\npermitted 0\ndenied 0\naccepted 0\n");
+    assert!(rt; is_counted(rt.alloc(), &journal(), TEXT)?);
+    assert!(rt; is_counted(rt.alloc(), &[], NOTHING)?);
     Ok(())
 }

@@ -10,3 +10,5 @@ mod checks;
 mod child_commands;
 #[cfg(test)]
 mod counts;
+#[cfg(test)]
+mod files;

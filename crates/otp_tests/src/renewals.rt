@@ -133,15 +133,19 @@ fn reads(alloc: Global, dictionary: &Dictionary, line: &str) -> Result<bool, All
     Ok(got.as_str() == want)
 }
 
-/// Whether all lines read as they say.
-fn all_read(alloc: Global) -> Result<bool, AllocError> {
-    let dictionary = Dictionary::plain(alloc)?;
+/// Whether all lines read as they say by these words.
+fn all_read_by(alloc: Global, dictionary: &Dictionary) -> Result<bool, AllocError> {
     for line in RESPONSES.lines() {
-        if !reads(alloc, &dictionary, line)? {
+        if !reads(alloc, dictionary, line)? {
             return Ok(false);
         }
     }
     Ok(true)
+}
+
+/// Whether all lines read as they say.
+fn all_read(alloc: Global) -> Result<bool, AllocError> {
+    all_read_by(alloc, &Dictionary::plain(alloc)?)
 }
 
 #[test]
@@ -150,34 +154,53 @@ fn responses_read(rt: HostRuntime) -> Result<(), Fail> {
     Ok(())
 }
 
-/// A response that is cut short anywhere has the fault of the part that is missing.
-#[test]
-fn a_response_that_is_cut(rt: HostRuntime) -> Result<(), Fail> {
-    let text = b"init-hex:9e876134d90499dd:md5 99 test2:50fe1962c4965880".as_slice();
-    let dictionary = Dictionary::plain(rt.alloc())?;
-    for len in 0..text.len() {
+/// A response, of which each front has the fault of the part that is missing.
+const CUT: &[u8] = b"init-hex:9e876134d90499dd:md5 99 test2:50fe1962c4965880";
+
+/// Whether each front of the response reads so, and the whole reads as no fault.
+fn are_cut(dictionary: &Dictionary) -> bool {
+    for len in 0..CUT.len() {
         let fault = match len {
             0..9 => ResponseFault::Kind,
             9..39 => ResponseFault::Parts,
             _ => ResponseFault::New,
         };
-        assert!(rt; read_response(&dictionary, &text[..len]) == Err(fault));
+        if read_response(dictionary, &CUT[..len]) != Err(fault) {
+            return false;
+        }
     }
-    assert!(rt; read_response(&dictionary, text).is_ok());
+    read_response(dictionary, CUT).is_ok()
+}
+
+/// The same by the plain list.
+fn are_cut_plainly(alloc: Global) -> Result<bool, AllocError> {
+    Ok(are_cut(&Dictionary::plain(alloc)?))
+}
+
+/// A response that is cut short anywhere has the fault of the part that is missing.
+#[test]
+fn a_response_that_is_cut(rt: HostRuntime) -> Result<(), Fail> {
+    assert!(rt; are_cut_plainly(rt.alloc())?);
     Ok(())
 }
 
-/// An account with a chain, by MD5 where its last password is `FIRST`.
-fn account_of(
-    alloc: Global,
-    name: &[u8],
-    uid: u32,
-    chain: (u16, u64, bool),
-) -> Result<Account, Fail> {
-    let (sequence, password, enabled) = chain;
+/// A name and a number, the place and the password of the chain, and whether the account is enabled.
+type User = (&'static str, u32, (u16, u64), bool);
+
+/// The accounts bob, who isn't enabled, alice, dave, whose chain is at 0, and erin.
+const USERS: &[User] = &[
+    ("bob", 1_000, (9, SHA1), false),
+    ("alice", 1_001, (1, FIRST), true),
+    ("dave", 1_002, (0, FIRST), true),
+    ("erin", 1_003, (9_999, SHA1), true),
+];
+
+/// A user's account, by MD5 where its last password is `FIRST`.
+fn account_of(alloc: Global, user: &User) -> Result<Account, Fail> {
+    let (name, uid, (sequence, password), enabled) = *user;
     let is_md5 = password == FIRST;
     Ok(Account {
-        name: Name::of(name).ok_or("a name")?,
+        name: Name::of(name.as_bytes()).ok_or("a name")?,
         uid,
         algo: if is_md5 { Algo::Md5 } else { Algo::Sha1 },
         seed: Seed::of(b"test").ok_or("a seed")?,
@@ -188,27 +211,29 @@ fn account_of(
     })
 }
 
-/// The accounts bob, who isn't enabled, alice, dave, whose chain is at 0, and erin.
+/// The accounts of all users.
 fn accounts_of(alloc: Global) -> Result<Accounts, Fail> {
     let mut items = Vec::new(alloc);
-    items.push(account_of(alloc, b"bob", 1_000, (9, SHA1, false))?)?;
-    items.push(account_of(alloc, b"alice", 1_001, (1, FIRST, true))?)?;
-    items.push(account_of(alloc, b"dave", 1_002, (0, FIRST, true))?)?;
-    items.push(account_of(alloc, b"erin", 1_003, (9_999, SHA1, true))?)?;
+    for user in USERS {
+        items.push(account_of(alloc, user)?)?;
+    }
     Ok(Accounts::of(items))
+}
+
+/// The parts of a setup of these accounts, else those of another.
+fn parts_by(alloc: Global, parts: &SetupParts) -> Result<SetupParts, Fail> {
+    let accounts = accounts_of(alloc)?;
+    Ok(parts_with(alloc, parts, accounts)?)
 }
 
 /// A setup of these accounts, by the parts of another.
 fn setup_by(alloc: Global, parts: &SetupParts) -> Result<Setup, Fail> {
-    let accounts = accounts_of(alloc)?;
-    let parts = parts_with(alloc, parts, accounts)?;
-    Ok(Setup::of(parts).ok().ok_or("a setup")?)
+    Ok(Setup::of(parts_by(alloc, parts)?).ok().ok_or("a setup")?)
 }
 
 /// A setup of these accounts.
 fn setup_of(alloc: Global) -> Result<Setup, Fail> {
-    let plain = Setup::plain(alloc)?;
-    setup_by(alloc, plain.parts())
+    setup_by(alloc, Setup::plain(alloc)?.parts())
 }
 
 /// What comes of a response: `N ALGO SEED SEQUENCE PASSWORD`, or the fault.
@@ -280,22 +305,19 @@ fn renews(
     Ok(got.as_str() == want)
 }
 
-/// Whether all lines are renewed as they say.
-fn all_renew(alloc: Global, setup: &Setup) -> Result<bool, AllocError> {
-    let dictionary = Dictionary::plain(alloc)?;
+/// Whether all lines are renewed as they say by these words.
+fn all_renew_by(alloc: Global, setup: &Setup, dictionary: &Dictionary) -> Result<bool, AllocError> {
     for line in RENEWALS.lines() {
-        if !renews(alloc, setup, &dictionary, line)? {
+        if !renews(alloc, setup, dictionary, line)? {
             return Ok(false);
         }
     }
     Ok(true)
 }
 
-#[test]
-fn renewals(rt: HostRuntime) -> Result<(), Fail> {
-    let setup = setup_of(rt.alloc())?;
-    assert!(rt; all_renew(rt.alloc(), &setup)?);
-    Ok(())
+/// Whether all lines are renewed as they say.
+fn all_renew(alloc: Global, setup: &Setup) -> Result<bool, Fail> {
+    Ok(all_renew_by(alloc, setup, &Dictionary::plain(alloc)?)?)
 }
 
 /// The input that renews alice.
@@ -328,44 +350,89 @@ fn accounts_text(alloc: Global, accounts: &[Account]) -> Result<String, AllocErr
     Ok(text)
 }
 
-/// What a renewal leaves of the accounts, or its fault and its status.
-fn outcome_text(
-    alloc: Global,
-    outcome: Result<Renewal, RenewalFault>,
-) -> Result<String, AllocError> {
-    match outcome {
-        Ok(renewal) => accounts_text(alloc, renewal.setup.parts().accounts.as_slice()),
-        Err(fault) => {
-            let status = fault.status();
-            format!(in alloc; "{status} {fault:?}")
-        }
-    }
+/// The fault of a renewal, after its status.
+fn fault_text(alloc: Global, fault: RenewalFault) -> Result<String, AllocError> {
+    let status = fault.status();
+    format!(in alloc; "{status} {fault:?}")
 }
 
-/// What comes of alice's input, that arrives in pieces of some length.
-fn outcome_of(
+/// Whether this came of a renewal: the accounts that it leaves, or its fault and its status.
+fn is_outcome(
+    alloc: Global,
+    outcome: &Result<Renewal, RenewalFault>,
+    want: &str,
+) -> Result<bool, AllocError> {
+    let text = match outcome {
+        Ok(renewal) => accounts_text(alloc, renewal.setup.parts().accounts.as_slice())?,
+        Err(fault) => fault_text(alloc, *fault)?,
+    };
+    Ok(text.as_str() == want)
+}
+
+/// Whether this comes of alice's input at these ends, by these words.
+fn comes_by(
     alloc: Global,
     setup: &Setup,
-    input: &[u8],
+    dictionary: &Dictionary,
+    ends: &mut MemStream,
+    want: &str,
+) -> Result<bool, AllocError> {
+    let Some(alice) = Name::of(b"alice") else {
+        return Ok(false);
+    };
+    is_outcome(
+        alloc,
+        &receive_renewal(alloc, setup, dictionary, &alice, ends),
+        want,
+    )
+}
+
+/// The same by the plain list.
+fn comes_plainly(
+    alloc: Global,
+    setup: &Setup,
+    ends: &mut MemStream,
+    want: &str,
+) -> Result<bool, AllocError> {
+    comes_by(alloc, setup, &Dictionary::plain(alloc)?, ends, want)
+}
+
+/// An input that arrives in pieces of some length, and the calls that fail.
+#[derive(Clone, Copy)]
+struct Input<'a> {
+    bytes: &'a [u8],
     cut: usize,
-    fails: &[Failing],
-) -> Result<String, Fail>
-    requires { 1 ≤ cut }
+    fails: &'a [Failing],
+}
+
+/// Whether this comes of alice's input.
+fn comes_of(alloc: Global, setup: &Setup, input: &Input<'_>, want: &str) -> Result<bool, AllocError>
+    requires { 1 ≤ input.now.cut }
 {
-    let dictionary = Dictionary::plain(alloc)?;
-    let alice = Name::of(b"alice").ok_or("a name")?;
-    let mut ends = MemStream::new(alloc, input, &[cut], fails)?;
-    let outcome = receive_renewal(alloc, setup, &dictionary, &alice, &mut ends);
-    Ok(outcome_text(alloc, outcome)?)
+    let mut ends = MemStream::new(alloc, input.bytes, &[input.cut], input.fails)?;
+    comes_plainly(alloc, setup, &mut ends, want)
+}
+
+/// Whether an input has this outcome, whole and byte by byte.
+fn comes_by_any_cut(
+    alloc: Global,
+    setup: &Setup,
+    bytes: &[u8],
+    want: &str,
+) -> Result<bool, AllocError> {
+    let whole = Input {
+        bytes,
+        cut: 5_000,
+        fails: &[],
+    };
+    let pieces = Input { cut: 1, ..whole };
+    Ok(comes_of(alloc, setup, &whole, want)? && comes_of(alloc, setup, &pieces, want)?)
 }
 
 /// Whether an input, with something after it, has this outcome.
-fn comes(alloc: Global, setup: &Setup, behind: &[u8], want: &str) -> Result<bool, Fail> {
-    let mut input = Vec::from_slice(alloc, INPUT)?;
-    input.extend_from_slice(behind)?;
-    let whole = outcome_of(alloc, setup, input.as_slice(), 5_000, &[])?;
-    let pieces = outcome_of(alloc, setup, input.as_slice(), 1, &[])?;
-    Ok(whole.as_str() == want && pieces.as_str() == want)
+fn comes(alloc: Global, setup: &Setup, behind: &[u8], want: &str) -> Result<bool, AllocError> {
+    let input = [INPUT, behind].concat(alloc)?;
+    comes_by_any_cut(alloc, setup, &input, want)
 }
 
 /// What comes of alice's input with these bytes after it.
@@ -379,7 +446,7 @@ after|%$hex:x$
 ";
 
 /// Whether what comes of a line of the table is what it says.
-fn comes_so(alloc: Global, setup: &Setup, line: &str) -> Result<bool, Fail> {
+fn comes_so(alloc: Global, setup: &Setup, line: &str) -> Result<bool, AllocError> {
     let Some((want, behind)) = line.split_once('|') else {
         return Ok(false);
     };
@@ -398,23 +465,13 @@ fn all_come(alloc: Global, setup: &Setup) -> Result<bool, Fail> {
     Ok(true)
 }
 
-#[test]
-fn inputs_and_their_renewals(rt: HostRuntime) -> Result<(), Fail> {
-    let setup = setup_of(rt.alloc())?;
-    assert!(rt; all_come(rt.alloc(), &setup)?);
-    Ok(())
-}
-
 /// Whether alice's input with so many spaces after it has this outcome.
-fn blanks_come(alloc: Global, setup: &Setup, len: usize, want: &str) -> Result<bool, Fail> {
-    let mut blanks = Vec::new(alloc);
-    for _ in 0..len {
-        blanks.push(b' ')?;
-    }
-    comes(alloc, setup, blanks.as_slice(), want)
+fn blanks_come(alloc: Global, setup: &Setup, len: usize, want: &str) -> Result<bool, AllocError> {
+    let blanks = vec![in alloc; b' '; len]?;
+    comes(alloc, setup, &blanks, want)
 }
 
-/// Whether the longest line is read, and longer ones aren't.
+/// Whether a line of 4,095 bytes is read, and those of 4,096 and more aren't.
 fn are_bounded(alloc: Global, setup: &Setup) -> Result<bool, Fail> {
     Ok(
         blanks_come(alloc, setup, 4_037, AFTER)?
@@ -423,22 +480,14 @@ fn are_bounded(alloc: Global, setup: &Setup) -> Result<bool, Fail> {
     )
 }
 
-/// A line of 4,095 bytes is read, and one of 4,096 isn't.
-#[test]
-fn the_longest_line(rt: HostRuntime) -> Result<(), Fail> {
-    let setup = setup_of(rt.alloc())?;
-    assert!(rt; are_bounded(rt.alloc(), &setup)?);
-    Ok(())
-}
-
 /// Whether an input whose second receiving fails has this outcome.
 fn fails_so(
     alloc: Global,
     setup: &Setup,
-    input: &[u8],
+    bytes: &[u8],
     cut: usize,
     want: &str,
-) -> Result<bool, Fail>
+) -> Result<bool, AllocError>
     requires { 1 ≤ cut }
 {
     let second = Failing {
@@ -446,8 +495,8 @@ fn fails_so(
         number: 2,
         sent: 0,
     };
-    let outcome = outcome_of(alloc, setup, input, cut, &[second])?;
-    Ok(outcome.as_str() == want)
+    let fails = &[second];
+    comes_of(alloc, setup, &Input { bytes, cut, fails }, want)
 }
 
 /// Whether nothing is renewed where the line isn't whole by then, or is no new chain.
@@ -459,9 +508,51 @@ fn renew_nothing(alloc: Global, setup: &Setup) -> Result<bool, Fail> {
     )
 }
 
+/// What is asked over the setup of the users.
+#[derive(Clone, Copy)]
+enum Asked {
+    Renewals,
+    Inputs,
+    Lengths,
+    Failures,
+}
+
+/// Whether what is asked is so over a setup.
+fn is_so_over(alloc: Global, setup: &Setup, asked: Asked) -> Result<bool, Fail> {
+    match asked {
+        Asked::Renewals => all_renew(alloc, setup),
+        Asked::Inputs => all_come(alloc, setup),
+        Asked::Lengths => are_bounded(alloc, setup),
+        Asked::Failures => renew_nothing(alloc, setup),
+    }
+}
+
+/// Whether it is so over the setup of the users.
+fn is_so(alloc: Global, asked: Asked) -> Result<bool, Fail> {
+    is_so_over(alloc, &setup_of(alloc)?, asked)
+}
+
+#[test]
+fn renewals(rt: HostRuntime) -> Result<(), Fail> {
+    assert!(rt; is_so(rt.alloc(), Asked::Renewals)?);
+    Ok(())
+}
+
+#[test]
+fn inputs_and_their_renewals(rt: HostRuntime) -> Result<(), Fail> {
+    assert!(rt; is_so(rt.alloc(), Asked::Inputs)?);
+    Ok(())
+}
+
+/// A line of 4,095 bytes is read, and one of 4,096 isn't.
+#[test]
+fn the_longest_line(rt: HostRuntime) -> Result<(), Fail> {
+    assert!(rt; is_so(rt.alloc(), Asked::Lengths)?);
+    Ok(())
+}
+
 #[test]
 fn a_failing_input_renews_nothing(rt: HostRuntime) -> Result<(), Fail> {
-    let setup = setup_of(rt.alloc())?;
-    assert!(rt; renew_nothing(rt.alloc(), &setup)?);
+    assert!(rt; is_so(rt.alloc(), Asked::Failures)?);
     Ok(())
 }

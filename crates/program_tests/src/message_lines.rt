@@ -14,74 +14,79 @@ fn is_told(alloc: Global, value: &impl Display, line: &str) -> Result<bool, Allo
     Ok(text.as_str() == line)
 }
 
+/// Statuses, and the lines of each alone.
+const STATUSES: &[(u8, &str)] = &[
+    (
+        7,
+        "otplogd: a line could not be written to the log, or another file has the log's place",
+    ),
+    (9, "otplogd: out of memory"),
+    (10, "otplogd: a worker could not wait for a connection"),
+    (
+        11,
+        "otplogd: standard input could not be read, or standard output not be written",
+    ),
+];
+
 #[test]
 fn a_status_alone_has_its_line(rt: HostRuntime) -> Result<(), Fail> {
-    let alloc = rt.alloc();
-    let rows = [
-        (
-            7,
-            "otplogd: a line could not be written to the log, or another file has the log's place",
-        ),
-        (9, "otplogd: out of memory"),
-        (10, "otplogd: a worker could not wait for a connection"),
-        (
-            11,
-            "otplogd: standard input could not be read, or standard output not be written",
-        ),
-    ];
-    for (status, line) in rows {
-        let complaint = Complaint::plain(status);
-        assert!(rt; is_told(alloc, &complaint, line)?);
+    for (status, line) in STATUSES {
+        assert!(rt; is_told(rt.alloc(), &Complaint::plain(*status), line)?);
     }
     Ok(())
 }
 
+/// Details of the path `f`, and their lines.
+const DETAILS: &[(Detail, &str)] = &[
+    (
+        Detail::FewRequests { requests: 8 },
+        "otplogd: f: the setup is right, but its 8 requests are few: a login takes 9, and one more for \
+        each further piece of the client's lines",
+    ),
+    (
+        Detail::Missing {
+            file: FileKind::Log,
+        },
+        "otplogd: f: the log is not there",
+    ),
+    (
+        Detail::WordsBad(DictFault {
+            line: 2_047,
+            rule: DictRule::Count,
+        }),
+        "otplogd: f: the word list is refused: line 2047 is the last, and 2,048 lines are needed",
+    ),
+    (
+        Detail::LogBad { number: 7 },
+        "otplogd: f: the durable log can't be recovered: record 7 is wrong",
+    ),
+    (
+        Detail::AuditNo {
+            line: 7,
+            why: AuditWhy::Event,
+        },
+        "otplogd: f: the log is not legal: line 7 has an event that the policy does not give",
+    ),
+    (
+        Detail::RenewBad(RenewFault::NoMatch),
+        "otplogd: f: the response renews nothing: its current password is not the next one",
+    ),
+];
+
+/// Whether a detail of the path `f` has this line.
+fn is_detail(alloc: Global, detail: Detail, line: &str) -> Result<bool, AllocError> {
+    let complaint = Complaint {
+        detail,
+        path: Some("f"),
+        ..Complaint::plain(1)
+    };
+    is_told(alloc, &complaint, line)
+}
+
 #[test]
 fn a_detail_has_its_line(rt: HostRuntime) -> Result<(), Fail> {
-    let alloc = rt.alloc();
-    let count = DictFault {
-        line: 2_047,
-        rule: DictRule::Count,
-    };
-    let rows = [
-        (
-            Detail::FewRequests { requests: 8 },
-            "otplogd: f: the setup is right, but its 8 requests are few: a login takes 9, and one more for \
-            each further piece of the client's lines",
-        ),
-        (
-            Detail::Missing {
-                file: FileKind::Log,
-            },
-            "otplogd: f: the log is not there",
-        ),
-        (
-            Detail::WordsBad(count),
-            "otplogd: f: the word list is refused: line 2047 is the last, and 2,048 lines are needed",
-        ),
-        (
-            Detail::LogBad { number: 7 },
-            "otplogd: f: the durable log can't be recovered: record 7 is wrong",
-        ),
-        (
-            Detail::AuditNo {
-                line: 7,
-                why: AuditWhy::Event,
-            },
-            "otplogd: f: the log is not legal: line 7 has an event that the policy does not give",
-        ),
-        (
-            Detail::RenewBad(RenewFault::NoMatch),
-            "otplogd: f: the response renews nothing: its current password is not the next one",
-        ),
-    ];
-    for (detail, line) in rows {
-        let complaint = Complaint {
-            detail,
-            path: Some("f"),
-            ..Complaint::plain(1)
-        };
-        assert!(rt; is_told(alloc, &complaint, line)?);
+    for (detail, line) in DETAILS {
+        assert!(rt; is_detail(rt.alloc(), *detail, line)?);
     }
     Ok(())
 }

@@ -5,7 +5,7 @@ use otp_hash::Algo;
 use outside::Script;
 use policy_model::{Account, Grant, SetupParts};
 use request_catalogue::Label;
-use std::alloc::Global;
+use std::alloc::{AllocError, Global};
 use std::test::*;
 
 /// What the child before the login says that logs `d1` in, in session 2 of the drill of 1: BANNER,
@@ -34,16 +34,45 @@ const BROKEN: &str =
     "0200000012000000000000000000000064300400000010000000000000000000000002000000160000\
     0000000000000000006e6f626f64790d000000100000";
 
-/// Whether a session of a worker says this in hexadecimal digits, before the login and as the user's child.
+/// Whether bytes are this in hexadecimal digits.
+fn is_hex(alloc: Global, bytes: &[u8], want: &str) -> Result<bool, AllocError> {
+    Ok(hex::encode(alloc, bytes)?.as_str() == want)
+}
+
+/// Whether a script says this in hexadecimal digits, before the login and as the user's child, and nothing
+/// else.
+fn is_said(alloc: Global, script: &Script, said: [&str; 2]) -> Result<bool, AllocError> {
+    Ok(
+        script.client.as_slice().is_empty()
+            && is_hex(alloc, script.pre.as_slice(), said[0])?
+            && is_hex(alloc, script.user.as_slice(), said[1])?,
+    )
+}
+
+/// Whether that of a session does.
+fn is_said_in(
+    alloc: Global,
+    scripts: &[Script],
+    session: usize,
+    said: [&str; 2],
+) -> Result<bool, Fail> {
+    match scripts.get(session) {
+        Some(script) => Ok(is_said(alloc, script, said)?),
+        None => Err(Fail::from("a session")),
+    }
+}
+
+/// Whether that of a session of a worker does in the drill of a number.
 fn says(alloc: Global, n: u32, worker: u32, session: usize, said: [&str; 2]) -> Result<bool, Fail>
     requires number { n ≤ 64 }
     requires workers { worker < 4 }
 {
-    let scripts = drill_scripts(alloc, n, worker)?;
-    let Script { client, pre, user } = scripts.get(session).ok_or("a session")?;
-    let pre = hex::encode(alloc, pre.as_slice())?;
-    let user = hex::encode(alloc, user.as_slice())?;
-    Ok(client.as_slice().is_empty() && pre.as_str() == said[0] && user.as_str() == said[1])
+    is_said_in(
+        alloc,
+        drill_scripts(alloc, n, worker)?.as_slice(),
+        session,
+        said,
+    )
 }
 
 #[test]
@@ -98,9 +127,13 @@ fn is_of_seven(parts: &SetupParts) -> bool {
     counts_seven(parts) && are_its_accounts(parts.accounts.as_slice())
 }
 
+/// Whether the drill of 7 has that setup.
+fn is_seven_set_up(alloc: Global) -> Result<bool, Fail> {
+    Ok(is_of_seven(drill_setup(alloc, 7)?.parts()))
+}
+
 #[test]
 fn the_setup_of_seven(rt: HostRuntime) -> Result<(), Fail> {
-    let setup = drill_setup(rt.alloc(), 7)?;
-    assert!(rt; is_of_seven(setup.parts()));
+    assert!(rt; is_seven_set_up(rt.alloc())?);
     Ok(())
 }

@@ -32,18 +32,23 @@ const BOTH_DONE: &[u8] = b"\x08\x01\0\0\x11\0\0\0\0\0\0\0\x01\0\0\0\0\
 const SMALLEST_LOG: &str = "1 w0 s1 open permit\n2 w0 s1 write 0 0 2 permit\n\
     3 w0 s1 finish permit\n4 w0 s1 end finished permit\n";
 
+/// What the child of one connection sends, and nobody else anything.
+fn script_of(alloc: Global, pre: &[u8]) -> Result<Script, AllocError> {
+    Ok(Script {
+        client: Bytes::of(alloc, b"")?,
+        pre: Bytes::of(alloc, pre)?,
+        user: Bytes::of(alloc, b"")?,
+    })
+}
+
 /// A post with one connection, whose child sends these bytes in pieces of these lengths.
 fn post(alloc: Global, pre: &[u8], cuts: &[usize]) -> Result<MemPost, AllocError>
     requires some_cut { 0 < length cuts.now }
     requires each_cut { All (λ c. 1 ≤ c) cuts.now }
     ensures { IfOk result (IsFresh scene_of faults_of) }
 {
-    let script = Script {
-        client: Bytes::of(alloc, b"")?,
-        pre: Bytes::of(alloc, pre)?,
-        user: Bytes::of(alloc, b"")?,
-    };
-    MemPost::new(alloc, vec![in alloc; script]?, cuts, &[0], 100, &[])
+    let scripts = vec![in alloc; script_of(alloc, pre)?]?;
+    MemPost::new(alloc, scripts, cuts, &[0], 100, &[])
 }
 
 /// No information.
@@ -57,6 +62,13 @@ type MemWorld = World<MemFiles, MemSite<MemPost>, MemSink, MemStream>;
 /// What it comes to.
 type MemEnded = Ended<MemFiles, MemSite<MemPost>, MemSink, MemStream>;
 
+/// An empty log, and ends with this input.
+fn log_and_ends(alloc: Global, input: &[u8]) -> Result<(MemSink, MemStream), AllocError> {
+    let log = MemSink::new(alloc, &[])?;
+    let ends = MemStream::new(alloc, input, &[100], &[])?;
+    Ok((log, ends))
+}
+
 /// This site and these files, ends with this input, and an empty log.
 fn world_of(
     alloc: Global,
@@ -64,8 +76,7 @@ fn world_of(
     files: MemFiles,
     input: &[u8],
 ) -> Result<MemWorld, AllocError> {
-    let log = MemSink::new(alloc, &[])?;
-    let ends = MemStream::new(alloc, input, &[100], &[])?;
+    let (log, ends) = log_and_ends(alloc, input)?;
     Ok(World {
         files,
         site,
@@ -85,17 +96,6 @@ fn no_files(alloc: Global, input: &[u8]) -> Result<MemWorld, AllocError> {
     offline_world(alloc, MemFiles::new(alloc, &[], &[])?, input)
 }
 
-/// What comes of a line's words, over this world.
-fn ended_of<R: Threads + Wait + Sync + AllocGlobal>(
-    rt: &R,
-    line: &str,
-    world: MemWorld,
-    hooks: &Hooks,
-) -> Result<MemEnded, AllocError> {
-    let words = words_of(rt.alloc(), line)?;
-    Ok(otplogd(rt, rt.alloc(), &words, world, hooks))
-}
-
 /// A site of one such post.
 fn site_of(alloc: Global, pre: &[u8], cuts: &[usize]) -> Result<MemSite<MemPost>, AllocError>
     requires some_cut { 0 < length cuts.now }
@@ -105,20 +105,13 @@ fn site_of(alloc: Global, pre: &[u8], cuts: &[usize]) -> Result<MemSite<MemPost>
     MemSite::new(alloc, posts)
 }
 
-/// A run of `serve` with one such post.
-fn serve<R: Threads + Wait + Sync + AllocGlobal>(
-    rt: &R,
-    pre: &[u8],
-    cuts: &[usize],
-    hooks: &Hooks,
-) -> Result<MemEnded, AllocError>
+/// What `serve` is run over: one such post, and no file.
+fn served_world(alloc: Global, pre: &[u8], cuts: &[usize]) -> Result<MemWorld, AllocError>
     requires some_cut { 0 < length cuts.now }
     requires each_cut { All (λ c. 1 ≤ c) cuts.now }
 {
-    let alloc = rt.alloc();
     let site = site_of(alloc, pre, cuts)?;
-    let world = world_of(alloc, site, MemFiles::new(alloc, &[], &[])?, b"")?;
-    ended_of(rt, "serve", world, hooks)
+    world_of(alloc, site, MemFiles::new(alloc, &[], &[])?, b"")
 }
 
 /// The text of the log, as bytes.
@@ -139,6 +132,7 @@ fn sent_to_child(ended: &MemEnded) -> Option<&[u8]> {
 
 /// What a post does in the smallest run.
 fn smallest_acts(alloc: Global) -> Result<Vec<Act>, AllocError> {
+    let bytes = Bytes::of(alloc, b"hi")?;
     Ok(vec![in alloc;
         Act::Accept {
             outcome: Accepted::Came
@@ -148,7 +142,7 @@ fn smallest_acts(alloc: Global) -> Result<Vec<Act>, AllocError> {
             outcome: Ok(())
         },
         Act::ConnSend {
-            bytes: Bytes::of(alloc, b"hi")?,
+            bytes,
             outcome: Ok(())
         },
         Act::Finish { role: PRE },
@@ -164,34 +158,46 @@ fn did(posts: &[MemPost], acts: &[Act]) -> bool {
     }
 }
 
+/// Whether the one post did what it does in the smallest run.
+fn did_smallest(alloc: Global, posts: &[MemPost]) -> Result<bool, AllocError> {
+    Ok(did(posts, smallest_acts(alloc)?.as_slice()))
+}
+
 /// Whether a run is the smallest one.
-fn is_smallest(ended: &MemEnded, acts: &[Act]) -> bool {
-    ended.said.status == 0
+fn is_smallest(alloc: Global, ended: &MemEnded) -> Result<bool, Fault> {
+    let is_served = ended.said.status == 0
         && ended.said.journal.len() == 4
         && log_of(ended) == SMALLEST_LOG.as_bytes()
-        && sent_to_child(ended) == Some(BOTH_DONE)
-        && did(ended.said.posts.as_slice(), acts)
+        && sent_to_child(ended) == Some(BOTH_DONE);
+    Ok(is_served && did_smallest(alloc, ended.said.posts.as_slice())?)
 }
 
 /// Whether the smallest run succeeds with the child's bytes in pieces of these lengths.
-fn succeeds<R: Threads + Wait + Sync + AllocGlobal>(
+fn succeeds_with<R: Threads + Wait + Sync + AllocGlobal>(
     rt: &R,
     cuts: &[usize],
     hooks: &Hooks,
-) -> Result<bool, AllocError>
+) -> Result<bool, Fault>
     requires some_cut { 0 < length cuts.now }
     requires each_cut { All (λ c. 1 ≤ c) cuts.now }
 {
-    let acts = smallest_acts(rt.alloc())?;
-    let ended = serve(rt, SMALLEST, cuts, hooks)?;
-    Ok(is_smallest(&ended, &acts))
+    let words = words_of(rt.alloc(), "serve")?;
+    let world = served_world(rt.alloc(), SMALLEST, cuts)?;
+    is_smallest(rt.alloc(), &otplogd(rt, rt.alloc(), &words, world, hooks))
+}
+
+/// The same without information.
+fn succeeds<R: Threads + Wait + Sync + AllocGlobal>(rt: &R, cuts: &[usize]) -> Result<bool, Fault>
+    requires some_cut { 0 < length cuts.now }
+    requires each_cut { All (λ c. 1 ≤ c) cuts.now }
+{
+    succeeds_with(rt, cuts, &no_hooks(rt.alloc())?)
 }
 
 #[test]
 fn the_smallest_run_succeeds(rt: HostRuntime) -> Result<(), Fault> {
-    let hooks = no_hooks(rt.alloc())?;
     for cuts in [[100, 100, 100], [1, 1, 1], [15, 2, 100]] {
-        assert!(rt; succeeds(&rt, &cuts, &hooks)?);
+        assert!(rt; succeeds(&rt, &cuts)?);
     }
     Ok(())
 }
@@ -206,6 +212,7 @@ fn words_of(alloc: Global, line: &str) -> Result<Vec<Word>, AllocError> {
 }
 
 /// Words that serve nobody, with what the input and one file hold, and what comes of them.
+#[derive(Clone, Copy)]
 struct Unserved {
     line: &'static str,
     input: &'static [u8],
@@ -233,7 +240,7 @@ tries = 1
 hold = 1
 ";
 
-const UNSERVED: [Unserved; 15] = [
+const UNSERVED: &[Unserved] = &[
     // No post is there for the one worker.
     Unserved {
         line: "serve",
@@ -389,34 +396,49 @@ const UNSERVED: [Unserved; 15] = [
 ];
 
 /// The one file of a row.
-fn file_of(alloc: Global, row: &Unserved) -> Result<MemFiles, AllocError> {
+fn file_of(alloc: Global, row: &Unserved) -> Result<(Word, Bytes), AllocError> {
     let name = Word::of(alloc, row.file.0.as_bytes())?;
-    let pairs = vec![in alloc; (name, Bytes::of(alloc, row.file.1)?)]?;
-    MemFiles::new(alloc, pairs.as_slice(), &[])
+    Ok((name, Bytes::of(alloc, row.file.1)?))
 }
 
-/// Whether a row holds.
-fn serves_nobody<R: Threads + Wait + Sync + AllocGlobal>(
+/// What a row's words are run over.
+fn world_in(alloc: Global, row: &Unserved) -> Result<MemWorld, AllocError> {
+    let pair = file_of(alloc, row)?;
+    let files = MemFiles::new(alloc, &[pair], &[])?;
+    offline_world(alloc, files, row.input)
+}
+
+/// Whether a run served nobody, and came to what a row says.
+fn is_unserved(ended: &MemEnded, row: &Unserved) -> bool {
+    ended.said.status == row.status
+        && ended.said.detail == row.detail
+        && ended.said.posts.len() == 0
+        && ended.world.ends.sent() == row.sent
+}
+
+/// Whether a row holds with this information.
+fn serves_nobody_with<R: Threads + Wait + Sync + AllocGlobal>(
     rt: &R,
     row: &Unserved,
     hooks: &Hooks,
-) -> Result<bool, AllocError> {
-    let files = file_of(rt.alloc(), row)?;
-    let world = offline_world(rt.alloc(), files, row.input)?;
-    let Ended { said, world } = ended_of(rt, row.line, world, hooks)?;
-    Ok(
-        said.status == row.status
-            && said.detail == row.detail
-            && said.posts.len() == 0
-            && world.ends.sent() == row.sent,
-    )
+) -> Result<bool, Fault> {
+    let words = words_of(rt.alloc(), row.line)?;
+    let world = world_in(rt.alloc(), row)?;
+    Ok(is_unserved(&otplogd(rt, rt.alloc(), &words, world, hooks), row))
+}
+
+/// Whether it holds without information.
+fn serves_nobody<R: Threads + Wait + Sync + AllocGlobal>(
+    rt: &R,
+    row: &Unserved,
+) -> Result<bool, Fault> {
+    serves_nobody_with(rt, row, &no_hooks(rt.alloc())?)
 }
 
 #[test]
 fn other_words_serve_nobody(rt: HostRuntime) -> Result<(), Fault> {
-    let hooks = no_hooks(rt.alloc())?;
-    for row in &UNSERVED {
-        assert!(rt; serves_nobody(&rt, row, &hooks)?, "{}", row.line);
+    for row in UNSERVED {
+        assert!(rt; serves_nobody(&rt, row)?, "{}", row.line);
     }
     Ok(())
 }
@@ -460,38 +482,43 @@ fn is_no_command(ended: &MemEnded) -> bool {
         && ended.world.ends.sent() == b"".as_slice()
 }
 
+/// Whether these words are no command with this information.
+fn name_no_command<R: Threads + Wait + Sync + AllocGlobal>(
+    rt: &R,
+    words: &[Word],
+    hooks: &Hooks,
+) -> Result<bool, Fault> {
+    let world = no_files(rt.alloc(), PHRASE)?;
+    Ok(is_no_command(&otplogd(rt, rt.alloc(), words, world, hooks)))
+}
+
+/// Whether these words are no command without information.
+fn are_no_command<R: Threads + Wait + Sync + AllocGlobal>(
+    rt: &R,
+    words: &[Word],
+) -> Result<bool, Fault> {
+    name_no_command(rt, words, &no_hooks(rt.alloc())?)
+}
+
 /// Whether the words of a line are no command.
 fn names_no_command<R: Threads + Wait + Sync + AllocGlobal>(
     rt: &R,
     line: &str,
-    hooks: &Hooks,
-) -> Result<bool, AllocError> {
-    let world = no_files(rt.alloc(), PHRASE)?;
-    Ok(is_no_command(&ended_of(rt, line, world, hooks)?))
+) -> Result<bool, Fault> {
+    let words = words_of(rt.alloc(), line)?;
+    are_no_command(rt, &words)
 }
 
 #[test]
 fn words_that_are_no_command(rt: HostRuntime) -> Result<(), Fault> {
-    let hooks = no_hooks(rt.alloc())?;
     for line in NO_COMMANDS.split('\n') {
-        assert!(rt; names_no_command(&rt, line, &hooks)?, "{line}");
+        assert!(rt; names_no_command(&rt, line)?, "{line}");
     }
     Ok(())
 }
 
-/// Whether no words at all are no command.
-fn nothing_is_no_command<R: Threads + Wait + Sync + AllocGlobal>(
-    rt: &R,
-    hooks: &Hooks,
-) -> Result<bool, AllocError> {
-    let world = no_files(rt.alloc(), PHRASE)?;
-    let ended = otplogd(rt, rt.alloc(), &[], world, hooks);
-    Ok(is_no_command(&ended))
-}
-
 #[test]
 fn no_words_are_no_command(rt: HostRuntime) -> Result<(), Fault> {
-    let hooks = no_hooks(rt.alloc())?;
-    assert!(rt; nothing_is_no_command(&rt, &hooks)?);
+    assert!(rt; are_no_command(&rt, &[])?);
     Ok(())
 }

@@ -95,6 +95,32 @@ fn number_of(word: &str) -> Option<u32> {
     u32::try_from(place).ok()?.checked_add(1)
 }
 
+/// Adds what a side says: a request, or bytes that are none.
+fn say(alloc: Global, side: &mut Side, number: Option<u32>, body: &[u8]) -> Result<(), AllocError> {
+    match number {
+        Some(kind) => {
+            let frame = frame(alloc, kind, 0, 0, body)?;
+            side.says.extend_from_slice(&frame)
+        }
+        None => side.says.extend_from_slice(body),
+    }
+}
+
+/// Adds what a session with this number replies, if it replies.
+fn reply_to(
+    alloc: Global,
+    side: &mut Side,
+    number: Option<u32>,
+    session: u32,
+    body: &[u8],
+) -> Result<(), AllocError> {
+    if body.is_empty() {
+        return Ok(());
+    }
+    let reply = frame(alloc, number.unwrap_or(0) | 256, 0, session, body)?;
+    side.told.extend_from_slice(&reply)
+}
+
 /// Adds a request, and what a session with this number replies to it.
 fn exchange(
     alloc: Global,
@@ -104,19 +130,9 @@ fn exchange(
 ) -> Result<(), Fail> {
     let number = number_of(words.next().ok_or("a request")?);
     let body = bytes_of(alloc, words)?;
+    say(alloc, side, number, &body)?;
     let reply = bytes_of(alloc, words)?;
-    match number {
-        Some(kind) => side
-            .says
-            .extend_from_slice(&frame(alloc, kind, 0, 0, &body)?)?,
-        None => side.says.extend_from_slice(&body)?,
-    }
-    if !reply.is_empty() {
-        let kind = number.unwrap_or(0) | 256;
-        side.told
-            .extend_from_slice(&frame(alloc, kind, 0, session, &reply)?)?;
-    }
-    Ok(())
+    Ok(reply_to(alloc, side, number, session, &reply)?)
 }
 
 /// A child that says nothing.
@@ -127,20 +143,31 @@ fn silent(alloc: Global) -> Side {
     }
 }
 
+/// Adds what a line tells of a session with this number.
+fn add_line(alloc: Global, dialogue: &mut Dialogue, session: u32, line: &str) -> Result<(), Fail> {
+    let mut words = line.split_whitespace();
+    match words.next() {
+        Some("pre") => exchange(alloc, &mut dialogue.pre, session, &mut words),
+        Some("user") => exchange(alloc, &mut dialogue.user, session, &mut words),
+        Some(_) => Err(Fail::from("a child")),
+        None => Ok(()),
+    }
+}
+
+/// Adds all lines of a text.
+fn add_lines(alloc: Global, dialogue: &mut Dialogue, session: u32, text: &str) -> Result<(), Fail> {
+    for line in text.lines() {
+        add_line(alloc, dialogue, session, line)?;
+    }
+    Ok(())
+}
+
 /// The session with this number that is told line by line.
 fn dialogue_of(alloc: Global, session: u32, text: &str) -> Result<Dialogue, Fail> {
-    let mut pre = silent(alloc);
-    let mut user = silent(alloc);
-    for line in text.lines() {
-        let mut words = line.split_whitespace();
-        match words.next() {
-            Some("pre") => exchange(alloc, &mut pre, session, &mut words)?,
-            Some("user") => exchange(alloc, &mut user, session, &mut words)?,
-            Some(_) => return Err(Fail::from("a child")),
-            None => {}
-        }
-    }
-    Ok(Dialogue { pre, user })
+    let (pre, user) = (silent(alloc), silent(alloc));
+    let mut dialogue = Dialogue { pre, user };
+    add_lines(alloc, &mut dialogue, session, text)?;
+    Ok(dialogue)
 }
 
 /// The sessions of a run, numbered from 1.
@@ -210,6 +237,35 @@ fn talks_of(posts: &[MemPost]) -> &[Talk] {
     }
 }
 
+/// Whether a run went as its row says, and its children were told their dialogues.
+fn is_gone(
+    alloc: Global,
+    row: &Row<'_>,
+    dialogues: &[Dialogue],
+    came: &Came<MemPost>,
+) -> Result<bool, Fail> {
+    let is_served = came.status == 0
+        && came.log.held() == row.log.as_bytes()
+        && are_told(talks_of(&came.posts), dialogues);
+    Ok(is_served && told(alloc, &came.posts)?.as_slice() == row.told.as_bytes())
+}
+
+/// Whether a run of these dialogues goes as its row says.
+fn goes_by<R: Threads + Wait + Sync>(
+    rt: &R,
+    alloc: Global,
+    row: &Row<'_>,
+    dialogues: &[Dialogue],
+    hooks: &Hooks,
+) -> Result<bool, Fail> {
+    is_gone(
+        alloc,
+        row,
+        dialogues,
+        &serve(rt, alloc, row.setup, dialogues, hooks)?,
+    )
+}
+
 /// Whether a run goes as its row says.
 fn goes<R: Threads + Wait + Sync>(
     rt: &R,
@@ -218,9 +274,14 @@ fn goes<R: Threads + Wait + Sync>(
     hooks: &Hooks,
 ) -> Result<bool, Fail> {
     let dialogues = dialogues_of(alloc, row.sessions)?;
-    let came = serve(rt, alloc, row.setup, &dialogues, hooks)?;
-    let is_logged = came.log.held() == row.log.as_bytes();
-    let clients = told(alloc, &came.posts)?;
-    let is_said = clients.as_slice() == row.told.as_bytes();
-    Ok(came.status == 0 && is_logged && is_said && are_told(talks_of(&came.posts), &dialogues))
+    goes_by(rt, alloc, row, &dialogues, hooks)
+}
+
+/// Whether it does without information.
+fn goes_plainly<R: Threads + Wait + Sync>(
+    rt: &R,
+    alloc: Global,
+    row: &Row<'_>,
+) -> Result<bool, Fail> {
+    goes(rt, alloc, row, &no_hooks(alloc)?)
 }

@@ -1,9 +1,9 @@
 //! What can be read off a run that came to its end.
 
-use account_file::read_setup;
+use account_file::{SetupError, read_setup};
 use decision_log::line;
 use outside::{Act, Files, MemFiles, MemPost, Place, Word};
-use policy_model::{Decision, Event};
+use policy_model::{Decision, Event, Setup};
 use std::alloc::{AllocError, Global};
 use std::test::Fail as Fault;
 
@@ -35,16 +35,29 @@ pub fn setup_in(alloc: Global, files: &mut MemFiles) -> Result<Vec<u8>, Fault> {
     Ok(buf)
 }
 
+/// The sequence and the password of the first account of a setup that was read, if there is one.
+fn first_chain(read: &Result<Setup, SetupError>) -> Option<(u16, u64)> {
+    match read {
+        Ok(setup) => match setup.parts().accounts.as_slice() {
+            [account, ..] => Some((account.sequence, account.password)),
+            [] => None,
+        },
+        Err(_) => None,
+    }
+}
+
+/// The same of the setup in these bytes.
+fn chain_read(alloc: Global, bytes: &[u8]) -> Option<(u16, u64)> {
+    first_chain(&read_setup(alloc, bytes))
+}
+
 /// The sequence and the password of the first account in a setup's file.
 ///
 /// # Errors
 ///
-/// There isn't the memory, the bytes are no setup, or it has no account.
+/// The bytes are no setup, it has no account, or there isn't the memory.
 pub fn chain_in(alloc: Global, bytes: &[u8]) -> Result<(u16, u64), Fault> {
-    let setup = read_setup(alloc, bytes).ok().ok_or("a setup")?;
-    let accounts = setup.parts().accounts.as_slice();
-    let account = accounts.first().ok_or("an account")?;
-    Ok((account.sequence, account.password))
+    Ok(chain_read(alloc, bytes).ok_or("an account")?)
 }
 
 /// The bytes that a child was sent, of those of the first post that were given back.

@@ -1,6 +1,6 @@
-use super::{Detail, Ended, ended_of, no_files, no_hooks};
+use super::{Detail, MemEnded, no_files, no_hooks, words_of};
 use info_hooks::Hooks;
-use std::alloc::AllocError;
+use monitor_server::otplogd;
 use std::sync::Wait;
 use std::test::Fail as Fault;
 use std::thread::Threads;
@@ -18,21 +18,50 @@ end truncated 8
 end violation 8
 ";
 
-/// Whether the words of a line end with this status and send this, so many events are given, and the
-/// log is as it was.
+/// The words of a line, the status, what is sent, and how many events are given.
+#[derive(Clone, Copy)]
+struct Drill<'a> {
+    line: &'a str,
+    status: u8,
+    sent: &'a str,
+    events: usize,
+}
+
+/// Whether a run came to what a drill says, and the log is as it was.
+fn is_drilled(ended: &MemEnded, drill: &Drill<'_>) -> bool {
+    let said = &ended.said;
+    let is_told = said.status == drill.status && said.detail == Detail::Nothing;
+    let is_lent = ended.world.log.held().is_empty() && said.posts.is_empty();
+    let is_sent = ended.world.ends.sent() == drill.sent.as_bytes();
+    is_told && is_lent && is_sent && said.journal.len() == drill.events
+}
+
+/// Whether a drill is so with this information.
+fn drills_with<R: Threads + Wait + Sync + AllocGlobal>(
+    rt: &R,
+    drill: &Drill<'_>,
+    hooks: &Hooks,
+) -> Result<bool, Fault> {
+    let words = words_of(rt.alloc(), drill.line)?;
+    let world = no_files(rt.alloc(), b"")?;
+    Ok(is_drilled(&otplogd(rt, rt.alloc(), &words, world, hooks), drill))
+}
+
+/// Whether it is so without information.
 fn drills<R: Threads + Wait + Sync + AllocGlobal>(
     rt: &R,
-    line: &str,
-    hooks: &Hooks,
-    (status, sent, events): (u8, &str, usize),
-) -> Result<bool, AllocError> {
-    let world = no_files(rt.alloc(), b"")?;
-    let Ended { said, world } = ended_of(rt, line, world, hooks)?;
-    let is_told = said.status == status && said.detail == Detail::Nothing;
-    let is_lent = world.log.held().is_empty() && said.posts.is_empty();
-    let is_sent = world.ends.sent() == sent.as_bytes() && said.journal.len() == events;
-    Ok(is_told && is_lent && is_sent)
+    drill: &Drill<'_>,
+) -> Result<bool, Fault> {
+    drills_with(rt, drill, &no_hooks(rt.alloc())?)
 }
+
+/// The drill of 1.
+const ONE: Drill<'static> = Drill {
+    line: "drill 1",
+    status: 0,
+    sent: DRILL_1,
+    events: 200,
+};
 
 /// Lines that name no drill.
 const REFUSED: &str = "drill
@@ -42,13 +71,23 @@ drill 07
 drill seven
 drill 1 1";
 
+/// Whether the words of a line name no drill.
+fn drills_not<R: Threads + Wait + Sync + AllocGlobal>(rt: &R, line: &str) -> Result<bool, Fault> {
+    let drill = Drill {
+        line,
+        status: 2,
+        sent: "",
+        events: 0,
+    };
+    drills(rt, &drill)
+}
+
 /// A drill is told by its counts; its number is from 1 to 64, without a leading zero.
 #[test]
 fn a_drill_tells_its_counts(rt: HostRuntime) -> Result<(), Fault> {
-    let hooks = no_hooks(rt.alloc())?;
-    assert!(rt; drills(&rt, "drill 1", &hooks, (0, DRILL_1, 200))?);
+    assert!(rt; drills(&rt, &ONE)?);
     for line in REFUSED.lines() {
-        assert!(rt; drills(&rt, line, &hooks, (2, "", 0))?, "{line}");
+        assert!(rt; drills_not(&rt, line)?, "{line}");
     }
     Ok(())
 }

@@ -1,6 +1,7 @@
-use super::{Detail, Ended, MemWorld, ended_of, no_hooks, offline_world};
+use super::{Detail, Ended, MemEnded, MemWorld, no_hooks, offline_world, words_of};
 use audit_check::AuditWhy;
 use info_hooks::Hooks;
+use monitor_server::otplogd;
 use otp_extended::RenewFault;
 use outside::{Bytes, MemFiles, MemStream, Word};
 use std::alloc::{AllocError, Global};
@@ -60,15 +61,25 @@ fn file(alloc: Global, name: &str, bytes: &[u8]) -> Result<(Word, Bytes), AllocE
     Ok((word, Bytes::of(alloc, bytes)?))
 }
 
-/// The files `setup`, `log` and `list`.
+/// Files of these names and bytes.
+fn files_by(alloc: Global, named: &[(&str, &[u8])]) -> Result<MemFiles, AllocError> {
+    let mut pairs = Vec::new(alloc);
+    for (name, bytes) in named {
+        pairs.push(file(alloc, name, bytes)?)?;
+    }
+    MemFiles::new(alloc, pairs.as_slice(), &[])
+}
+
+/// The files `setup`, `log` and `list`, of which the last holds this.
+fn files_with<'x>(alloc: Global, list: &'x [u8]) -> Result<MemFiles, AllocError> {
+    let (setup, log): (&'x [u8], &'x [u8]) = (SETUP.as_bytes(), LOG.as_bytes());
+    files_by(alloc, &[("setup", setup), ("log", log), ("list", list)])
+}
+
+/// The same with the plain list.
 fn files_of(alloc: Global) -> Result<MemFiles, AllocError> {
     let list = plain_list(alloc)?;
-    let pairs = vec![in alloc;
-        file(alloc, "setup", SETUP.as_bytes())?,
-        file(alloc, "log", LOG.as_bytes())?,
-        file(alloc, "list", list.as_slice())?,
-    ]?;
-    MemFiles::new(alloc, pairs.as_slice(), &[])
+    files_with(alloc, list.as_slice())
 }
 
 /// A line of words and an input, and what they come to.
@@ -81,6 +92,21 @@ struct Told {
     sent: &'static str,
 }
 
+/// The words of a line, and ends with its input.
+fn words_and_ends(alloc: Global, told: &Told) -> Result<(Vec<Word>, MemStream), AllocError> {
+    let words = words_of(alloc, told.line)?;
+    let ends = MemStream::new(alloc, told.input.as_bytes(), &[100], &[])?;
+    Ok((words, ends))
+}
+
+/// Whether a run came to this, and the world after it.
+fn came_to(ended: MemEnded, told: &Told) -> (bool, MemWorld) {
+    let Ended { said, world } = ended;
+    let is_told = said.status == told.status && said.detail == told.detail;
+    let is_sent = world.ends.sent() == told.sent.as_bytes();
+    (is_told && is_sent, world)
+}
+
 /// Whether the words with the input come to this, and the world after it.
 fn comes<R: Threads + Wait + Sync + AllocGlobal>(
     rt: &R,
@@ -88,11 +114,9 @@ fn comes<R: Threads + Wait + Sync + AllocGlobal>(
     hooks: &Hooks,
     told: &Told,
 ) -> Result<(bool, MemWorld), AllocError> {
-    world.ends = MemStream::new(rt.alloc(), told.input.as_bytes(), &[100], &[])?;
-    let Ended { said, world } = ended_of(rt, told.line, world, hooks)?;
-    let is_sent = world.ends.sent() == told.sent.as_bytes();
-    let is_told = said.status == told.status && said.detail == told.detail;
-    Ok((is_told && is_sent, world))
+    let (words, ends) = words_and_ends(rt.alloc(), told)?;
+    world.ends = ends;
+    Ok(came_to(otplogd(rt, rt.alloc(), &words, world, hooks), told))
 }
 
 /// The words and the input that renew alice's chain.
@@ -123,7 +147,7 @@ const ENROLLED: Told = Told {
         password = \"87fec7768b73ccf9\"\nseed = \"test\"\nsequence = 99\nuid = 1002\n",
 };
 
-const STEPS: [Told; 7] = [
+const STEPS: &[Told] = &[
     LEGAL,
     Told {
         line: "renew setup alice log",
@@ -157,17 +181,40 @@ const STEPS: [Told; 7] = [
     },
 ];
 
+/// How many steps come to what they say, one after the other from this world on.
+fn count_steps<R: Threads + Wait + Sync + AllocGlobal>(
+    rt: &R,
+    mut world: MemWorld,
+    hooks: &Hooks,
+) -> Result<usize, Fault> {
+    let mut count = 0_usize;
+    for told in STEPS {
+        let (is_so, after) = comes(rt, world, hooks, told)?;
+        count = count.wrapping_add(usize::from(is_so));
+        world = after;
+    }
+    Ok(count)
+}
+
+/// How many do with this information, from the files of a setup, a log and a list on.
+fn count_with<R: Threads + Wait + Sync + AllocGlobal>(
+    rt: &R,
+    hooks: &Hooks,
+) -> Result<usize, Fault> {
+    let world = offline_world(rt.alloc(), files_of(rt.alloc())?, b"")?;
+    count_steps(rt, world, hooks)
+}
+
+/// How many do without information.
+fn count_of<R: Threads + Wait + Sync + AllocGlobal>(rt: &R) -> Result<usize, Fault> {
+    count_with(rt, &no_hooks(rt.alloc())?)
+}
+
 /// The log is legal for the setup with which it began. It is no fresh one, so nothing is renewed beside
 /// it. Without it alice is renewed by the same password, and the response is spent. By the new setup the
 /// log ends at her first challenge, of another number. Carol is enrolled by a phrase, and by no other line.
 #[test]
 fn a_log_is_audited_and_an_account_renewed(rt: HostRuntime) -> Result<(), Fault> {
-    let hooks = no_hooks(rt.alloc())?;
-    let mut world = offline_world(rt.alloc(), files_of(rt.alloc())?, b"")?;
-    for told in &STEPS {
-        let (is_so, after) = comes(&rt, world, &hooks, told)?;
-        assert!(rt; is_so, "{}", told.sent);
-        world = after;
-    }
+    assert!(rt; count_of(&rt)? == STEPS.len());
     Ok(())
 }

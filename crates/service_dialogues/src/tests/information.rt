@@ -9,7 +9,10 @@ ghost use Rattle.request_catalogue.specs.TextBytes.{name_bytes};
 
 use super::{Row, goes};
 use info_hooks::{Card, Form, Hook, Hooks, InfoText, Piece, Short};
+use std::alloc::Global;
+use std::sync::Wait;
 use std::test::Fail;
+use std::thread::Threads;
 
 /// A user's name and number.
 #[tactic(auto, unfolding(info_hooks::specs::Said::said))]
@@ -82,14 +85,22 @@ const INFORMATION: Row<'static> = Row {
 ",
 };
 
-#[test]
-fn information_is_said(rt: HostRuntime) -> Result<(), Fail> {
-    let alloc = rt.alloc();
+/// A user's name and number, and the longest text.
+fn both_hooks(alloc: Global) -> Result<Hooks, Fail> {
     let list = vec![in alloc;
         Hook::new(1, person_form(), say_person),
         Hook::new(3, long_form(), say_long),
     ]?;
-    let hooks = Hooks::new(list).ok().ok_or("hooks")?;
-    assert!(&rt; goes(&rt, alloc, &INFORMATION, &hooks)?);
+    Ok(Hooks::new(list).ok().ok_or("hooks")?)
+}
+
+/// Whether both are said.
+fn are_said<R: Threads + Wait + Sync>(rt: &R, alloc: Global) -> Result<bool, Fail> {
+    goes(rt, alloc, &INFORMATION, &both_hooks(alloc)?)
+}
+
+#[test]
+fn information_is_said(rt: HostRuntime) -> Result<(), Fail> {
+    assert!(&rt; are_said(&rt, rt.alloc())?);
     Ok(())
 }

@@ -1,8 +1,10 @@
 //! Wide frames.
 
-use super::{Dialogue, Row, are_told, goes, no_hooks, serve, silent, talks_of};
-use service_play::frame;
-use std::alloc::Global;
+use super::{Dialogue, Row, Side, are_told, goes_plainly, no_hooks, serve, silent, talks_of};
+use info_hooks::Hooks;
+use outside::MemPost;
+use service_play::{Came, frame};
+use std::alloc::{AllocError, Global};
 use std::sync::Wait;
 use std::test::Fail;
 use std::thread::Threads;
@@ -49,10 +51,8 @@ const REFUSED: Row<'static> = Row {
 
 #[test]
 fn small_wide_frames(rt: HostRuntime) -> Result<(), Fail> {
-    let alloc = rt.alloc();
-    let hooks = no_hooks(alloc)?;
-    assert!(&rt; goes(&rt, alloc, &SMALLEST, &hooks)?);
-    assert!(&rt; goes(&rt, alloc, &REFUSED, &hooks)?);
+    assert!(&rt; goes_plainly(&rt, rt.alloc(), &SMALLEST)?);
+    assert!(&rt; goes_plainly(&rt, rt.alloc(), &REFUSED)?);
     Ok(())
 }
 
@@ -64,6 +64,40 @@ fn long_write(alloc: Global, len: usize) -> Result<Vec<u8>, Fail> {
     Ok(frame(alloc, 8, 0, 0, &body)?)
 }
 
+/// The session whose first child says this, and is told this reply to a WRITE.
+fn dialogue_of(alloc: Global, says: Vec<u8>, reply: &[u8]) -> Result<Dialogue, AllocError> {
+    let told = frame(alloc, 264, 0, 1, reply)?;
+    let pre = Side { says, told };
+    let user = silent(alloc);
+    Ok(Dialogue { pre, user })
+}
+
+/// Whether a run had this log, and its children were told their dialogues.
+fn came_so(came: &Came<MemPost>, dialogues: &[Dialogue], log: &str) -> bool {
+    came.log.held() == log.as_bytes() && are_told(talks_of(&came.posts), dialogues)
+}
+
+/// Whether that of these dialogues has, with this information.
+fn come_so<R: Threads + Wait + Sync>(
+    rt: &R,
+    alloc: Global,
+    dialogues: &[Dialogue],
+    hooks: &Hooks,
+    log: &str,
+) -> Result<bool, Fail> {
+    Ok(came_so(&serve(rt, alloc, WIDE, dialogues, hooks)?, dialogues, log))
+}
+
+/// Whether that of one dialogue has, without information.
+fn comes_so<R: Threads + Wait + Sync>(
+    rt: &R,
+    alloc: Global,
+    dialogue: Dialogue,
+    log: &str,
+) -> Result<bool, Fail> {
+    come_so(rt, alloc, &[dialogue], &no_hooks(alloc)?, log)
+}
+
 /// Whether the session whose first child says this is told this reply to a WRITE, and logged so.
 fn is_answered<R: Threads + Wait + Sync>(
     rt: &R,
@@ -72,13 +106,8 @@ fn is_answered<R: Threads + Wait + Sync>(
     reply: &[u8],
     log: &str,
 ) -> Result<bool, Fail> {
-    let mut pre = silent(alloc);
-    pre.says = says;
-    pre.told = frame(alloc, 264, 0, 1, reply)?;
-    let user = silent(alloc);
-    let dialogues = vec![in alloc; Dialogue { pre, user }]?;
-    let came = serve(rt, alloc, WIDE, &dialogues, &no_hooks(alloc)?)?;
-    Ok(came.log.held() == log.as_bytes() && are_told(talks_of(&came.posts), &dialogues))
+    let dialogue = dialogue_of(alloc, says, reply)?;
+    comes_so(rt, alloc, dialogue, log)
 }
 
 const LONGEST_WRITE: &str = "1 w0 s1 open permit
@@ -91,14 +120,29 @@ const LONGEST_FRAME: &str = "1 w0 s1 open permit
 3 w0 s1 end violation 5 permit
 ";
 
-#[test]
-fn long_wide_frames(rt: HostRuntime) -> Result<(), Fail> {
-    let alloc = rt.alloc();
+/// Whether a WRITE of 60,000 letters is answered.
+fn is_longest_write<R: Threads + Wait + Sync>(rt: &R, alloc: Global) -> Result<bool, Fail> {
     let write = long_write(alloc, 60_000)?;
-    assert!(&rt; is_answered(&rt, alloc, write, &[0], LONGEST_WRITE)?);
+    is_answered(rt, alloc, write, &[0], LONGEST_WRITE)
+}
+
+/// A WRITE's frame of 65,536 bytes, with no text.
+fn long_frame(alloc: Global) -> Result<Vec<u8>, AllocError> {
     let mut frame = vec![in alloc; 0; 65_536]?;
     frame[0] = 8;
     frame[6] = 1;
-    assert!(&rt; is_answered(&rt, alloc, frame, b"\x01\x05\x08\0\0\0", LONGEST_FRAME)?);
+    Ok(frame)
+}
+
+/// Whether such a frame is answered.
+fn is_longest_frame<R: Threads + Wait + Sync>(rt: &R, alloc: Global) -> Result<bool, Fail> {
+    let frame = long_frame(alloc)?;
+    is_answered(rt, alloc, frame, b"\x01\x05\x08\0\0\0", LONGEST_FRAME)
+}
+
+#[test]
+fn long_wide_frames(rt: HostRuntime) -> Result<(), Fail> {
+    assert!(&rt; is_longest_write(&rt, rt.alloc())?);
+    assert!(&rt; is_longest_frame(&rt, rt.alloc())?);
     Ok(())
 }

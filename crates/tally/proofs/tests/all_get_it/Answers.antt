@@ -1,6 +1,6 @@
 use Rattle.std.proofs.Common.{arith}
 use Rattle.tally.proofs.Written.{all_written}
-use Rattle.tally.proofs.tests.seven_wait_for_one.Goals as goal
+use Rattle.tally.proofs.tests.all_get_it.Goals as goal
 
 pub close-slow-requires-clause-all : goal.close-slow-requires-clause-all
 close-slow-requires-clause-all g c κs =
