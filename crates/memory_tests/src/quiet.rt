@@ -1,12 +1,11 @@
 ghost use Rattle.std.specs.Prelude.{IfOk};
 ghost use Rattle.outside.specs.Scene.{IsFresh};
-ghost use Rattle.quiet_outside.specs.QuietPost.{faults_of, scene_of};
+ghost use Rattle.outside.specs.QuietPost.{faults_of, scene_of};
 
 use outside::{
-    Accepted, Act, Bytes, Failed, Files, MemSite, Place, Post, Role, Script, Sink, Site, Stream,
-    Talk, Word,
+    Accepted, Act, Bytes, Failed, Files, MemSite, Pieces, Place, Post, PostRoom, QuietFiles,
+    QuietPost, QuietSink, QuietStream, Role, Script, Sink, Site, Stream, Talk, Word,
 };
-use quiet_outside::{Pieces, PostRoom, QuietFiles, QuietPost, QuietSink, QuietStream};
 use request_catalogue::Label;
 use std::alloc::{AllocError, Global};
 use std::test::Fail as Fault;

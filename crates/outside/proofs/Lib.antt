@@ -4,9 +4,11 @@ pub mod Counted
 pub mod Exchanges
 pub mod Scenes
 pub mod RepeatingLemmas
-mod FileLemmas
+mod FindLemmas
+mod ShelfLemmas
+mod FilesLemmas
+mod BlankLemmas
 pub mod ReceivingLemmas
 pub mod ScriptLemmas
-mod VaultLemmas
 pub mod Touching
 pub mod OnlyReading

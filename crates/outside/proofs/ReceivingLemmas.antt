@@ -1,7 +1,6 @@
-use Rattle.std.proofs.Common.{◌≡◌, ℕ, ◌+◌, ◌-◌, ◌<◌, ◌≤◌, Bool, true, false, IsTrue, List, [], ◌∷◌, ◌++◌, length, take, drop, min, All, IfSome, Option, Some, arith, refl, sym, ap, append-nil, length-take, length-drop}
+use Rattle.std.proofs.Common.{◌≡◌, ℕ, ◌+◌, ◌<◌, ◌≤◌, Bool, true, false, IsTrue, List, [], ◌∷◌, ◌++◌, length, take, drop, min, All, IfSome, Option, Some, arith, refl, sym, append-nil, length-take, length-drop}
 use Rattle.std.proofs.Math.Seq.{take-add}
 use Rattle.std.proofs.lemmas.List.{take-append-drop, drop-drop, drop_all}
-use Rattle.std.proofs.lemmas.Grind.{common_steps}
 use Rattle.outside.specs.Told.{Goes, told_if}
 use Rattle.outside.specs.declared.receiving.Receiving.{Receiving}
 use Rattle.outside.specs.Link.{Exchanged, IsAskedOnce}
@@ -16,12 +15,12 @@ Exchanged-next input sent at n old new = record {
   sent = sym (append-nil sent);
 }
 
--- the front of the buffer has the next bytes, and these are received
-pub Goes-received : (before after : Bool) (input sent lent part rest : List ℕ) (at n : ℕ) (old new : Option (List Receiving)) → (IsTrue after → IsTrue before) → lent ≡ input → at ≤ length input → n ≤ length (take (length lent - at) (drop at lent)) → part ≡ take n (take (length lent - at) (drop at lent)) → Goes (Exchanged (take n (part ++ rest)) []) (told_if before (link_at input sent at old)) (told_if after (link_at input sent (at + n) new))
-Goes-received before false input sent lent part rest at n old new keeps same fits short is = tt
-Goes-received false true input sent lent part rest at n old new keeps same fits short is = absurd (let e = keeps refl in cc)
-Goes-received true true input sent lent part rest at n old new keeps same fits short is =
-    let e : take n (part ++ rest) ≡ take n (drop at input) = grind (arith, common_steps) in rw e (Exchanged-next input sent at n old new)
+-- the next bytes were given
+pub Goes-gave : (before after : Bool) (input sent got input' sent' : List ℕ) (at n at' : ℕ) (old new : Option (List Receiving)) → (IsTrue after → IsTrue before) → input' ≡ input → sent' ≡ sent → at' ≡ at + n → got ≡ take n (drop at input) → Goes (Exchanged got []) (told_if before (link_at input sent at old)) (told_if after (link_at input' sent' at' new))
+Goes-gave before false input sent got input' sent' at n at' old new keeps same kept moved is = tt
+Goes-gave false true input sent got input' sent' at n at' old new keeps same kept moved is = absurd (let e = keeps refl in cc)
+Goes-gave true true input sent got input' sent' at n at' old new keeps same kept moved is =
+    rw (same, kept, moved, is) (Exchanged-next input sent at n old new)
 
 -- a receiving was asked, and failed
 pub Goes-unmoved : (before after : Bool) (input sent : List ℕ) (at : ℕ) (old new : Option (List Receiving)) → (IsTrue after → IsTrue before) → Goes (Exchanged [] []) (told_if before (link_at input sent at old)) (told_if after (link_at input sent at new))
@@ -42,8 +41,8 @@ next_item-pos [] each some = absurd (omega arith)
 next_item-pos (c ∷ cs) each some = each 0 0 (omega arith)
 
 -- nothing is received from a stream that tells only where nothing is left
-pub left-none : (telling : Bool) (input sent lent cs : List ℕ) (at n room : ℕ) (receivings : Option (List Receiving)) → All (λ c. 1 ≤ c) cs → (IsTrue telling → 0 < length cs) → lent ≡ input → 0 < room → n ≡ min (min (next_item cs) room) (length (take (length lent - at) (drop at lent))) → n ≡ 0 → IfSome (told_if telling (link_at input sent (at + n) receivings)) (λ l. l.left ≡ [])
-left-none false input sent lent cs at n room receivings each some same roomy is none = tt
-left-none true input sent lent cs at n room receivings each some same roomy is none =
+pub left-none : (telling : Bool) (input sent input' cs : List ℕ) (at n room at' : ℕ) (receivings : Option (List Receiving)) → All (λ c. 1 ≤ c) cs → (IsTrue telling → 0 < length cs) → input' ≡ input → at' ≡ at + n → 0 < room → n ≡ min (next_item cs) (min room (length (drop at input))) → n ≡ 0 → IfSome (told_if telling (link_at input' sent at' receivings)) (λ l. l.left ≡ [])
+left-none false input sent input' cs at n room at' receivings each some same moved roomy is none = tt
+left-none true input sent input' cs at n room at' receivings each some same moved roomy is none =
     let pos = next_item-pos cs each (some refl) in
-    drop_all (at + n) input (omega (arith, ap length same, length-take (length lent - at) (drop at lent), length-drop at lent))
+    rw (same, moved) (drop_all (at + n) input (omega (arith, length-drop at input)))

@@ -9,6 +9,10 @@ abbrev pub count_after : {X : Type 0} → Result X Failed → ℕ → ℕ
 count_after (Ok _) count = count
 count_after (Err _) count = next_count count
 
+-- no fault
+abbrev pub no_faults : Faults
+no_faults = record { accept = 0; keeper = 0; link = 0; conn = 0; vault = 0 }
+
 -- a post's counts are these: of accepts, starts, links, connections and users' files
 pub record AreCounts (a k l c v : ℕ) (faults : Faults) : Type 0 where
   pub accept : faults.accept ≡ a

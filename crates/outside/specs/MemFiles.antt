@@ -6,6 +6,7 @@ use Rattle.outside.specs.declared.memory.fail.Fail.{Fail}
 use Rattle.outside.specs.declared.memory.files.MemFiles.{MemFiles}
 use Rattle.outside.specs.Failures.{failure_of}
 use Rattle.outside.specs.Files.{Contents}
+use Rattle.outside.specs.Shelf.{shelf_files}
 use Rattle.outside.specs.Told.{next_count, told_if}
 use Rattle.outside.specs.Touched.{Touched}
 
@@ -15,7 +16,7 @@ file_of pairs name = option_map (λ p. p.1) (find (λ p. bytes_eq p.0 name) pair
 
 -- what stands in the files, if they tell it
 abbrev pub contents_of : MemFiles → Option Contents
-contents_of f = told_if f.telling (file_of f.pairs.items)
+contents_of f = told_if f.telling (shelf_files f.shelf 0)
 
 -- how many readings failed
 abbrev pub read_faults_of : MemFiles → ℕ

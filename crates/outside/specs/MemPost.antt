@@ -11,9 +11,10 @@ use Rattle.outside.specs.declared.memory.post.MemPost.{MemPost}
 use Rattle.outside.specs.Failures.{failure_of}
 use Rattle.outside.specs.Scene.{Scene}
 use Rattle.outside.specs.Script.{plan_of}
-use Rattle.outside.specs.Told.{next_count}
+use Rattle.outside.specs.Shelf.{shelf_files}
+use Rattle.outside.specs.Told.{next_count, told_if}
 use Rattle.outside.specs.Transcript.{scene_with}
-use Rattle.outside.specs.Vaults.{Vault, vault_of}
+use Rattle.outside.specs.Vaults.{Vault}
 
 -- what the post tells
 abbrev pub scene_of : MemPost → Option Scene
@@ -25,7 +26,7 @@ faults_of p = p.faults
 
 -- what stands in the users' files, if it is told
 abbrev pub users_files : MemPost → Option Vault
-users_files p = vault_of p.vault
+users_files p = told_if p.tells_files (shelf_files p.shelf)
 
 -- how many calls of each kind were made
 pub record CallsMade : Type 0 where

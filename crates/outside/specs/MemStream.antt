@@ -1,14 +1,12 @@
 -- Inner: what contracts see of a stream in memory.
-use Rattle.std.specs.Prelude.{◌≡◌, ℕ, List, [], take, drop, Option, Some}
+use Rattle.std.specs.Prelude.{ℕ, List, [], take, drop, Option, Some}
 use Rattle.outside.specs.declared.act.Role.{Role}
 use Rattle.outside.specs.declared.memory.fail.CallKind.TheVariants.{Recv, Send}
 use Rattle.outside.specs.declared.memory.fail.Fail.{Fail}
-use Rattle.outside.specs.declared.memory.stream.Closed.{Closed}
 use Rattle.outside.specs.declared.memory.stream.MemStream.{MemStream}
 use Rattle.outside.specs.Failures.{failure_of}
 use Rattle.outside.specs.declared.receiving.Receiving.{Receiving}
 use Rattle.outside.specs.Link.{Link}
-use Rattle.outside.specs.Scene.{talk_by}
 use Rattle.outside.specs.Told.{next_count, told_if}
 
 -- what a stream that has received so many bytes of its input tells
@@ -22,7 +20,8 @@ unused_link input receivings = record { left = input; taken = []; sent = []; rec
 
 -- what the stream tells
 abbrev pub link_of : MemStream → Option Link
-link_of s = told_if s.output.telling (link_at s.input.items s.output.bytes.items s.taken (Some s.receivings))
+link_of s =
+    told_if s.output.telling (link_at s.input.bytes.items s.output.bytes.items s.input.taken (Some s.receivings))
 
 -- how many faults it had
 abbrev pub faults_of : MemStream → ℕ
@@ -43,7 +42,7 @@ pub record StreamSchedule : Type 0 where
 -- what the stream goes by
 abbrev pub stream_schedule : MemStream → StreamSchedule
 stream_schedule s =
-    record { fails = s.fails.items; cuts = s.cuts; recvs = s.recvs; sends = s.sends }
+    record { fails = s.fails.items; cuts = s.input.cuts; recvs = s.recvs; sends = s.sends }
 
 -- the failure of the next receiving, if it is to fail
 abbrev pub recv_failure : StreamSchedule → Option ℕ
@@ -52,8 +51,3 @@ recv_failure s = failure_of s.fails Recv (next_count s.recvs)
 -- how many bytes still go out by the next send, if it is to fail
 abbrev pub send_failure : StreamSchedule → Option ℕ
 send_failure s = failure_of s.fails Send (next_count s.sends)
-
--- what a stream to a child of this role told, as it stands once the stream is closed
-pub record IsClosed (role : Role) (closed : Closed) (link : Link) : Type 0 where
-  pub talk : closed.talk ≡ talk_by role link
-  pub unread : closed.unread ≡ link.left

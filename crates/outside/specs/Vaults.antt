@@ -1,27 +1,10 @@
 -- Inner: what stands in the users' files of a post in memory.
-use Rattle.std.specs.Prelude.{◌≡◌, ◌≢◌, ◌⊎◌, ℕ, ◌+◌, ◌-◌, ◌==◌, ◌&&◌, Bool, List, [], ◌∷◌, ◌++◌, find, length, take}
-use Rattle.std.specs.Prelude.{drop, replicate, Option, Some, option_map, unwrap_or}
-use Rattle.std.specs.Str.{bytes_eq}
-use Rattle.request_catalogue.specs.TextBytes.{label_bytes}
-use Rattle.outside.specs.declared.memory.vault.UserFile.{UserFile}
-use Rattle.outside.specs.declared.memory.vault.MemVault.{MemVault}
-use Rattle.outside.specs.Told.{told_if}
+use Rattle.std.specs.Prelude.{◌≡◌, ◌≢◌, ◌⊎◌, ℕ, ◌+◌, ◌-◌, List, [], ◌∷◌, ◌++◌, length, take, drop, replicate, Option}
+use Rattle.std.specs.Prelude.{Some, unwrap_or}
 
 -- the users' files: the bytes of the file of each user's id and name, if there is one
 abbrev pub Vault : Type 0
 Vault = ℕ → List ℕ → Option (List ℕ)
-
--- whether it is the user's file of this name
-abbrev pub is_users_file : ℕ → List ℕ → UserFile → Bool
-is_users_file uid name f = (f.uid == uid) && bytes_eq (label_bytes f.name) name
-
--- the bytes of the first file of this user and name, if there is one
-abbrev pub users_file : List UserFile → Vault
-users_file files uid name = option_map (λ f. f.bytes) (find (is_users_file uid name) files)
-
--- what stands in the files, if they tell it
-abbrev pub vault_of : MemVault → Option Vault
-vault_of v = told_if v.telling (users_file v.files.items)
 
 -- the bytes of a file from a place on, as many as there is room for; none where there is no file
 abbrev pub piece_from : Option (List ℕ) → ℕ → ℕ → List ℕ

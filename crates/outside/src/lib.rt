@@ -22,7 +22,8 @@ pub use bytes::{Bytes, Word};
 pub use faults::{Faults, link_count};
 pub use files::Files;
 pub use memory::{
-    CallKind, Fail, MemConn, MemFiles, MemPost, MemSink, MemSite, MemStream, Repeating, Script,
+    CallKind, Fail, MemConn, MemFiles, MemPost, MemSink, MemSite, MemStream, Pieces, PostRoom,
+    QuietFiles, QuietPost, QuietSink, QuietStream, Repeating, Script,
 };
 pub use place::Place;
 pub use post::Post;

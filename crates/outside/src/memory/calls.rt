@@ -14,13 +14,10 @@ use super::fail::{CallKind, find_failure};
 use super::post::MemPost;
 use super::script::planned;
 use super::stream::MemStream;
-use super::vault::Spot;
 use crate::act::{Accepted, Act, Failed, Role};
-use crate::bytes::Bytes;
 use crate::faults::link_count;
 use crate::post::Post;
 use request_catalogue::Label;
-use std::alloc::AllocError;
 use std::mem;
 
 impl Post for MemPost {
@@ -158,7 +155,8 @@ impl Post for MemPost {
         ensures files { users_files self.new ≡ users_files self.old }
     {
         self.faults.link = link_count(self.faults.link, child.faults());
-        self.transcript.finish(child);
+        let role = child.role();
+        self.transcript.finish(role, child.close());
     }
 
     fn hang_up(&mut self, conn: MemConn)
@@ -212,13 +210,11 @@ impl Post for MemPost {
         }
         let piece = self.cuts[conn.pieces.min(self.cuts.len() - 1)];
         let received = conn.receive(&self.scripts, piece, buf);
-        match Bytes::of(self.alloc, &buf[..received]) {
-            Ok(bytes) => self.transcript.act(Act::ConnRecv {
-                max,
-                outcome: Ok(bytes),
-            }),
-            Err(AllocError) => self.transcript.cease(),
-        }
+        let bytes = self.shelf.copy(&buf[..received]);
+        self.transcript.act_if(bytes.map(|bytes| Act::ConnRecv {
+            max,
+            outcome: Ok(bytes),
+        }));
         Ok(received)
     }
 
@@ -242,10 +238,9 @@ impl Post for MemPost {
             Some(_) => Err(Failed),
         };
         self.faults.conn = count_after(&outcome, self.faults.conn);
-        match Bytes::of(self.alloc, bytes) {
-            Ok(bytes) => self.transcript.act(Act::ConnSend { bytes, outcome }),
-            Err(AllocError) => self.transcript.cease(),
-        }
+        let copy = self.shelf.copy(bytes);
+        self.transcript
+            .act_if(copy.map(|bytes| Act::ConnSend { bytes, outcome }));
         outcome
     }
 
@@ -288,22 +283,15 @@ impl Post for MemPost {
             });
             return Err(Failed);
         }
-        let spot = Spot {
+        let n = self.shelf.read(uid, name.as_slice(), offset, buf);
+        let bytes = self.shelf.copy(&buf[..n]);
+        self.transcript.act_if(bytes.map(|bytes| Act::VaultRead {
             uid,
             name: *name,
             offset,
-        };
-        let n = self.vault.read(spot, buf);
-        match Bytes::of(self.alloc, &buf[..n]) {
-            Ok(bytes) => self.transcript.act(Act::VaultRead {
-                uid,
-                name: *name,
-                offset,
-                max,
-                outcome: Ok(bytes),
-            }),
-            Err(AllocError) => self.transcript.cease(),
-        }
+            max,
+            outcome: Ok(bytes),
+        }));
         Ok(n)
     }
 
@@ -332,18 +320,28 @@ impl Post for MemPost {
         } }
     {
         self.made.vault_writes = self.made.vault_writes.saturating_add(1);
-        let spot = Spot {
+        let copy = self.shelf.copy(bytes);
+        if find_failure(&self.fails, CallKind::VaultWrite, self.made.vault_writes).is_some() {
+            self.faults.vault = self.faults.vault.saturating_add(1);
+            self.transcript.act_if(copy.map(|bytes| Act::VaultWrite {
+                uid,
+                name: *name,
+                offset,
+                bytes,
+                outcome: Err(Failed),
+            }));
+            return Err(Failed);
+        }
+        if !self.shelf.write(uid, name.as_slice(), offset, bytes) {
+            self.tells_files = false;
+        }
+        self.transcript.act_if(copy.map(|bytes| Act::VaultWrite {
             uid,
             name: *name,
             offset,
-        };
-        if find_failure(&self.fails, CallKind::VaultWrite, self.made.vault_writes).is_some() {
-            self.faults.vault = self.faults.vault.saturating_add(1);
-            self.transcript.wrote(self.alloc, spot, bytes, Err(Failed));
-            return Err(Failed);
-        }
-        self.vault.write(spot, bytes);
-        self.transcript.wrote(self.alloc, spot, bytes, Ok(()));
+            bytes,
+            outcome: Ok(()),
+        }));
         Ok(())
     }
 

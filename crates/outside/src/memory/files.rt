@@ -1,7 +1,5 @@
-ghost use Rattle.std.specs.Prelude.{◌≡◌, ◌↔◌, ◌≤◌, [], ◌++◌, drop, IfOk, IfSome, IsErr, IsSome, IsTrue, length, OnErr};
-ghost use Rattle.std.specs.Prelude.{OnOk, option_map, Some, None, take};
-ghost use Rattle.std.specs.List.{position};
-ghost use Rattle.std.specs.Str.{bytes_eq};
+ghost use Rattle.std.specs.Prelude.{◌≡◌, ◌↔◌, ◌≤◌, [], drop, IfOk, IfSome, IsErr, IsSome, IsTrue, length, OnErr};
+ghost use Rattle.std.specs.Prelude.{OnOk, option_map, Some};
 ghost use Rattle.outside.specs.MemFiles.{file_of};
 ghost use Rattle.outside.specs.Told.{next_count};
 ghost use Rattle.outside.specs.Files.{MayBeReplaced, Replaced, SameFiles, bytes_read, piece_of};
@@ -9,7 +7,10 @@ ghost use Rattle.outside.specs.Faults.{count_after};
 ghost use Rattle.outside.specs.Told.{Goes};
 ghost use Rattle.outside.specs.Touched.{HasRead, HasReplaced, MayHaveRead, MayHaveReplaced};
 
+use super::buffers::Buffers;
 use super::fail::{CallKind, Fail, find_failure};
+use super::kept_file::copy_from;
+use super::shelf::Shelf;
 use crate::act::Failed;
 use crate::bytes::{Bytes, Word};
 use crate::files::Files;
@@ -20,8 +21,7 @@ use std::alloc::{AllocError, Global};
 /// them were read and replaced.
 #[derive(Drop)]
 pub struct MemFiles {
-    alloc: Global,
-    pairs: Vec<(Word, Bytes)>,
+    shelf: Shelf,
     telling: bool,
     touched: FileNames,
     tells_touched: bool,
@@ -32,15 +32,8 @@ pub struct MemFiles {
     replace_faults: u64,
 }
 
-/// Copies of a name and of bytes.
-fn pair_of(alloc: Global, name: &Word, bytes: &[u8]) -> Result<(Word, Bytes), AllocError>
-    ensures { IfOk result (λ pair. (pair.0 ≡ name.now) × (pair.1 ≡ bytes.now)) }
-{
-    Ok((name.copy(alloc)?, Bytes::of(alloc, bytes)?))
-}
-
 impl MemFiles {
-    ghost use Rattle.outside.specs.MemFiles.{contents_of, file_of, files_schedule, read_faults_of};
+    ghost use Rattle.outside.specs.MemFiles.{contents_of, files_schedule, read_faults_of};
     ghost use Rattle.outside.specs.MemFiles.{replace_faults_of, touched_of};
 
     /// Files with these names and bytes; of two pairs with one name the first counts. Their calls
@@ -57,13 +50,8 @@ impl MemFiles {
         ensures schedule { IfOk result (λ f. files_schedule f
             ≡ record { fails = fails.now; reads = 0; replaces = 0 }) }
     {
-        let mut copies = Vec::new(alloc);
-        for (name, bytes) in pairs {
-            copies.push(pair_of(alloc, name, bytes.as_slice())?)?;
-        }
         Ok(MemFiles {
-            alloc,
-            pairs: copies,
+            shelf: Shelf::new(alloc, pairs, Buffers::growing(alloc))?,
             telling: true,
             touched: FileNames::none(alloc),
             tells_touched: true,
@@ -87,45 +75,8 @@ impl MemFiles {
         ensures { IfSome (contents_of self.now)
             (λ files. option_map (λ bytes. bytes.now) result ≡ files name.now) }
     {
-        find_file(&self.pairs, name)
+        self.shelf.find(0, name.as_slice())
     }
-}
-
-/// The bytes of the first pair that has the name.
-fn find_file<'a>(pairs: &'a [(Word, Bytes)], name: &Word) -> Option<&'a [u8]>
-    ensures { option_map (λ bytes. bytes.now) result ≡ file_of pairs.now name.now }
-{
-    pairs
-        .iter()
-        .find(|pair| pair.0.as_slice() == name.as_slice())
-        .map(|pair| pair.1.as_slice())
-}
-
-/// Puts bytes into the file of a name, in place of those that it had.
-fn put_file(
-    alloc: Global,
-    pairs: &mut Vec<(Word, Bytes)>,
-    name: &Word,
-    bytes: &[u8],
-) -> Result<(), AllocError>
-    ensures { OnOk result
-        (Replaced name.now bytes.now (file_of pairs.old.items) (file_of pairs.new.items)) }
-{
-    let pair = pair_of(alloc, name, bytes)?;
-    match place_of(pairs, name) {
-        Some(place) => pairs[place] = pair,
-        None => pairs.push(pair)?,
-    }
-    Ok(())
-}
-
-/// The place of the first pair that has the name.
-fn place_of(pairs: &[(Word, Bytes)], name: &Word) -> Option<usize>
-    ensures { result ≡ position (λ p. bytes_eq p.0 name.now) pairs.now }
-{
-    pairs
-        .iter()
-        .position(|pair| pair.0.as_slice() == name.as_slice())
 }
 
 impl Files for MemFiles {
@@ -169,7 +120,7 @@ impl Files for MemFiles {
             self.read_faults = self.read_faults.saturating_add(1);
             return Err(Failed);
         }
-        let Some(bytes) = find_file(&self.pairs, name) else {
+        let Some(bytes) = self.shelf.find(0, name.as_slice()) else {
             return Ok(None);
         };
         Ok(Some(copy_from(bytes, offset, buf)))
@@ -204,25 +155,9 @@ impl Files for MemFiles {
             self.replace_faults = self.replace_faults.saturating_add(1);
             return Err(Failed);
         }
-        if put_file(self.alloc, &mut self.pairs, name, bytes).is_err() {
+        if !self.shelf.put(0, name.as_slice(), bytes) {
             self.telling = false;
         }
         Ok(())
     }
-}
-
-/// Copies bytes from an offset on to the front of a buffer, as many as there is room for, and gives
-/// how many.
-pub(super) fn copy_from(bytes: &[u8], offset: u64, buf: &mut [u8]) -> usize
-    ensures bound { result ≤ length buf.old }
-    ensures piece { take result buf.new ≡ take (length buf.old) (drop offset bytes.now) }
-    ensures rest { drop result buf.new ≡ drop result buf.old }
-{
-    let start = bytes
-        .len()
-        .min(usize::try_from(offset).unwrap_or(usize::MAX));
-    let left = &bytes[start..];
-    let n = left.len().min(buf.len());
-    buf[..n].copy_from_slice(&left[..n]);
-    n
 }

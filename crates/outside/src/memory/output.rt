@@ -1,35 +1,54 @@
-ghost use Rattle.std.specs.Prelude.{◌≡◌, [], length, None, Some};
+ghost use Rattle.std.specs.Prelude.{◌≡◌, ◌+◌, ◌-◌, ◌≤◌, [], IfOk, length, None, Some, vec_capacity, vec_len};
 ghost use Rattle.outside.specs.Failures.{bytes_let_out};
+ghost use Rattle.outside.specs.Room.{kept_within};
 ghost use Rattle.outside.specs.Told.{Gains};
 
-use std::alloc::Global;
+use std::alloc::{AllocError, Global};
 
-/// The bytes that went out, kept and told as long as memory is found for them.
+/// The bytes that went out, kept and told as long as they fit the room and memory is found for them.
 #[derive(Drop)]
 pub(super) struct Output {
     pub(super) bytes: Vec<u8>,
+    pub(super) left: usize,
     pub(super) telling: bool,
 }
 
 impl Output {
-    ghost use Rattle.outside.specs.Output.{told_bytes};
+    ghost use Rattle.outside.specs.Output.{HasItsRoom, told_bytes};
 
-    /// Nothing went out yet.
+    /// Nothing went out yet. Memory is taken as it is needed.
     pub(super) fn new(alloc: Global) -> Output
         ensures { told_bytes result ≡ Some [] }
     {
         Output {
             bytes: Vec::new(alloc),
+            left: usize::MAX,
             telling: true,
         }
     }
 
-    /// Nothing is told of what goes out.
+    /// Nothing went out yet. The room for so many bytes is taken here.
+    pub(super) fn with_room(alloc: Global, room: usize) -> Result<Output, AllocError>
+        ensures told { IfOk result (λ o. told_bytes o ≡ Some []) }
+        ensures left { IfOk result (λ o. o.left ≡ room) }
+        ensures room { IfOk result HasItsRoom }
+    {
+        Ok(Output {
+            bytes: Vec::with_capacity(alloc, room)?,
+            left: room,
+            telling: true,
+        })
+    }
+
+    /// Nothing is told of what goes out, and there is no room for it.
     pub(super) fn silent(alloc: Global) -> Output
-        ensures { told_bytes result ≡ None }
+        ensures told { told_bytes result ≡ None }
+        ensures left { result.left ≡ 0 }
+        ensures room { HasItsRoom result }
     {
         Output {
             bytes: Vec::new(alloc),
+            left: 0,
             telling: false,
         }
     }
@@ -41,9 +60,27 @@ impl Output {
         ensures many { result ≡ length (bytes_let_out failure bytes.now) }
     {
         let going = failure.map_or(bytes.len(), |sent| sent.min(bytes.len()));
-        if self.bytes.extend_from_slice(&bytes[..going]).is_err() {
+        self.keep(&bytes[..going]);
+        going
+    }
+
+    /// Keeps more bytes. Where they don't fit the room that is left, or no memory is found for them,
+    /// nothing is told any more.
+    pub(super) fn keep(&mut self, bytes: &[u8])
+        ensures gains { Gains (told_bytes self.old) bytes.now (told_bytes self.new) }
+        ensures told { HasItsRoom self.old
+            → told_bytes self.new ≡ kept_within self.old.left (told_bytes self.old) bytes.now }
+        ensures left { self.new.left ≡ self.old.left - length bytes.now }
+        ensures room { HasItsRoom self.old → HasItsRoom self.new }
+    {
+        if bytes.len() > self.left {
+            self.left = 0;
+            self.telling = false;
+            return;
+        }
+        self.left -= bytes.len();
+        if self.bytes.extend_from_slice(bytes).is_err() {
             self.telling = false;
         }
-        going
     }
 }

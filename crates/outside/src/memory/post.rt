@@ -7,13 +7,13 @@ ghost use Rattle.outside.specs.Transcript.{AreTold, HasCome};
 ghost use Rattle.outside.specs.Vaults.{FileSet};
 ghost use Rattle.std.proofs.Props.{props};
 
+use super::buffers::Buffers;
 use super::fail::Fail;
 use super::repeating::Repeating;
 use super::script::Script;
+use super::shelf::Shelf;
 use super::transcript::Transcript;
-use super::vault::MemVault;
 use crate::act::{Act, Talk};
-use crate::bytes::Bytes;
 use crate::faults::Faults;
 use request_catalogue::Label;
 use std::alloc::{AllocError, Global};
@@ -38,7 +38,8 @@ pub struct MemPost {
     pub(super) came: usize,
     pub(super) cuts: Vec<usize>,
     pub(super) moments: Repeating<u64>,
-    pub(super) vault: MemVault,
+    pub(super) shelf: Shelf,
+    pub(super) tells_files: bool,
     pub(super) transcript: Transcript,
     pub(super) fails: Vec<Fail>,
     pub(super) child_fails: Vec<Fail>,
@@ -99,7 +100,8 @@ impl MemPost {
             came: 0,
             cuts: Vec::from_slice(alloc, cuts)?,
             moments: Repeating::of(alloc, moments)?,
-            vault: MemVault::new(alloc),
+            shelf: Shelf::new(alloc, &[], Buffers::growing(alloc))?,
+            tells_files: true,
             transcript: Transcript::new(alloc, room),
             fails: Vec::from_slice(alloc, fails)?,
             child_fails: Vec::from_slice(alloc, fails)?,
@@ -124,8 +126,11 @@ impl MemPost {
         ensures faults { faults_of self.new ≡ faults_of self.old }
         ensures schedule { post_schedule self.new ≡ post_schedule self.old }
     {
-        let bytes = Bytes::of(self.alloc, bytes)?;
-        self.vault.keep(uid, name, bytes)
+        if self.shelf.put(uid, name.as_slice(), bytes) {
+            Ok(())
+        } else {
+            Err(AllocError)
+        }
     }
 
     /// A user's file, where it tells that. `None`: there is no such file.
@@ -133,7 +138,7 @@ impl MemPost {
         ensures { IfSome (users_files self.now) (λ files.
             option_map (λ bytes. bytes.now) result ≡ files uid (label_bytes name.now)) }
     {
-        self.vault.find(uid, name)
+        self.shelf.find(uid, name.as_slice())
     }
 
     /// Whether it tells what was asked of it.

@@ -6,13 +6,12 @@ ghost use Rattle.outside.specs.Failures.{bytes_let_out};
 ghost use Rattle.outside.specs.Link.{Exchanged, IsAskedOnce, IsUnasked, SendsPart, received_bytes};
 ghost use Rattle.outside.specs.Faults.{count_after};
 ghost use Rattle.outside.specs.Told.{Goes, next_count};
-ghost use Rattle.std.proofs.Props.{props};
 
+use super::closed::Closed;
 use super::fail::{CallKind, Fail, find_failure};
+use super::input::Input;
 use super::output::Output;
-use super::repeating::Repeating;
-use crate::act::{Failed, Role, Talk};
-use crate::bytes::Bytes;
+use crate::act::{Failed, Role};
 use crate::receiving::{Receiving, Receivings};
 use crate::stream::Stream;
 use std::alloc::{AllocError, Global};
@@ -22,54 +21,14 @@ use std::alloc::{AllocError, Global};
 #[derive(Drop)]
 pub struct MemStream {
     role: Role,
-    input: Vec<u8>,
-    taken: usize,
-    cuts: Repeating<usize>,
+    input: Input,
     output: Output,
     receivings: Receivings,
     fails: Vec<Fail>,
     recvs: u64,
     sends: u64,
     faults: u64,
-    ghost in_input: { taken ≤ length input.items },
-    ghost each_cut: { All (λ c. 1 ≤ c) cuts } by { Prim.hlevel props },
-    ghost some_cut: { IsTrue output.telling → 0 < length cuts },
-}
-
-/// What a stream that is closed told: what passed, and what was left.
-pub(super) struct Closed {
-    pub(super) talk: Talk,
-    pub(super) unread: Bytes,
-}
-
-/// What a stream has to send, and the lengths of the pieces in which it gives it.
-#[derive(Drop)]
-struct Input {
-    bytes: Vec<u8>,
-    cuts: Repeating<usize>,
-}
-
-impl Input {
-    /// Copies of these bytes and cuts.
-    fn of(alloc: Global, bytes: &[u8], cuts: &[usize]) -> Result<Input, AllocError>
-        ensures bytes { IfOk result (λ input. input.bytes.items ≡ bytes.now) }
-        ensures cuts { IfOk result (λ input. input.cuts ≡ cuts.now) }
-    {
-        Ok(Input {
-            bytes: Vec::from_slice(alloc, bytes)?,
-            cuts: Repeating::of(alloc, cuts)?,
-        })
-    }
-
-    /// Nothing to send.
-    fn none(alloc: Global) -> Input
-        ensures { result.cuts ≡ [] }
-    {
-        Input {
-            bytes: Vec::new(alloc),
-            cuts: Repeating::none(alloc),
-        }
-    }
+    ghost some_cut: { IsTrue output.telling → 0 < length input.cuts },
 }
 
 /// Notes that a receiving is asked of a stream that has taken so many bytes. Nothing is told any more
@@ -90,7 +49,8 @@ fn note_receiving(receivings: &mut Receivings, output: &mut Output, taken: usize
 }
 
 impl MemStream {
-    ghost use Rattle.outside.specs.MemStream.{IsClosed, faults_of, link_of, role_of, stream_schedule, unused_link};
+    ghost use Rattle.outside.specs.Closed.{IsClosed};
+    ghost use Rattle.outside.specs.MemStream.{faults_of, link_of, role_of, stream_schedule, unused_link};
 
     /// A stream that gives `input` in pieces of the lengths `cuts`, the last of which repeats. Its
     /// calls fail exactly where `fails` lists them.
@@ -144,12 +104,9 @@ impl MemStream {
     }
 
     fn with(alloc: Global, role: Role, input: Input, output: Output, fails: Vec<Fail>) -> MemStream
-        requires some_cut { IsTrue output.telling → 0 < length input.cuts }
-        requires each_cut { All (λ c. 1 ≤ c) input.cuts }
+        requires { IsTrue output.telling → 0 < length input.cuts }
         ensures role { role_of result ≡ role }
-        ensures input { result.input ≡ input.bytes }
-        ensures taken { result.taken ≡ 0 }
-        ensures cuts { result.cuts ≡ input.cuts }
+        ensures input { result.input ≡ input }
         ensures output { result.output ≡ output }
         ensures receivings { result.receivings ≡ [] }
         ensures fails { result.fails ≡ fails }
@@ -157,12 +114,9 @@ impl MemStream {
         ensures sends { result.sends ≡ 0 }
         ensures faults { faults_of result ≡ 0 }
     {
-        let Input { bytes, cuts } = input;
         MemStream {
             role,
-            input: bytes,
-            taken: 0,
-            cuts,
+            input,
             output,
             receivings: Receivings::none(alloc),
             fails,
@@ -179,9 +133,7 @@ impl MemStream {
     {
         let MemStream {
             role,
-            mut input,
-            taken,
-            cuts: _,
+            input,
             output,
             receivings,
             fails: _,
@@ -189,19 +141,7 @@ impl MemStream {
             sends: _,
             faults: _,
         } = self;
-        if !output.telling {
-            return None;
-        }
-        let left = input.split_off(taken).ok()?;
-        Some(Closed {
-            talk: Talk {
-                role,
-                taken: Bytes::from(input),
-                sent: Bytes::from(output.bytes),
-                receivings: Some(receivings),
-            },
-            unread: Bytes::from(left),
-        })
+        Closed::of(role, input, output, Some(receivings))
     }
 
     /// Which child it leads to.
@@ -271,18 +211,13 @@ impl Stream for MemStream {
               recvs = next_count (stream_schedule self.old).recvs;
             }) }
     {
-        note_receiving(&mut self.receivings, &mut self.output, self.taken);
+        note_receiving(&mut self.receivings, &mut self.output, self.input.taken);
         self.recvs = self.recvs.saturating_add(1);
         if find_failure(&self.fails, CallKind::Recv, self.recvs).is_some() {
             self.faults = self.faults.saturating_add(1);
             return Err(Failed);
         }
-        let piece = self.cuts.take().unwrap_or(0);
-        let left = &self.input[self.taken..];
-        let n = piece.min(buf.len()).min(left.len());
-        buf[..n].copy_from_slice(&left[..n]);
-        self.taken += n;
-        Ok(n)
+        Ok(self.input.give(buf))
     }
 
     /// Takes the bytes that are sent. It fails exactly where its list says so.

@@ -1,43 +1,71 @@
-ghost use Rattle.std.specs.Prelude.{◌≡◌, ◌≤◌, ℕ, ◌+◌, [], ◌∷◌, length, List, None, Some};
+ghost use Rattle.std.specs.Prelude.{◌≡◌, ◌+◌, ◌-◌, ◌&&◌, ◌≤◌, [], ◌∷◌, false, IfOk, IfSome, is_some, length, List};
+ghost use Rattle.std.specs.Prelude.{nat_lt, None, Some, true, ℕ};
 ghost use Rattle.outside.specs.declared.act.Act.{Act};
-ghost use Rattle.outside.specs.Scene.{came_count, Did, GivenBack, Played};
+ghost use Rattle.outside.specs.Scene.{came_count, Did, Played};
 ghost use Rattle.outside.specs.Told.{Goes};
 
-use super::stream::{Closed, MemStream};
-use super::vault::Spot;
-use crate::act::{Act, Failed, Talk};
+use super::closed::Closed;
+use crate::act::{Act, Role, Talk};
 use crate::bytes::Bytes;
 use std::alloc::{AllocError, Global};
 
-/// What was asked of a post, told up to `room` acts and as long as memory is found for it.
+/// What was asked of a post, told as long as it fits the room and memory is found for it.
 #[derive(Drop)]
 pub(super) struct Transcript {
     pub(super) acts: Vec<Act>,
+    pub(super) room: usize,
+    pub(super) acts_left: usize,
     pub(super) talks: Vec<Talk>,
     pub(super) unread: Vec<Bytes>,
-    pub(super) room: usize,
+    pub(super) talks_left: usize,
     pub(super) telling: bool,
-    ghost within_room: { length acts.items ≤ room },
+    ghost within_room: { length acts.items + acts_left ≤ room },
 }
 
 impl Transcript {
-    ghost use Rattle.outside.specs.Transcript.{HasCome, scene_with};
-    ghost use Rattle.outside.specs.MemStream.{link_of, role_of};
+    ghost use Rattle.outside.specs.Transcript.{HasCome, HasTakenRoom, Spent, scene_with};
 
-    /// Nothing was asked yet.
-    pub(super) fn new(alloc: Global, room: usize) -> Transcript
+    /// Nothing was asked yet. Up to so many acts are told. Memory is taken as it is needed.
+    pub(super) fn new(alloc: Global, acts: usize) -> Transcript
         ensures told { (plan : List (List ℕ × List ℕ)) → scene_with result plan
             ≡ Some (record { acts = []; talks = []; unread = []; plan = plan }) }
         ensures came { HasCome result 0 }
-        ensures room { result.room ≡ room }
+        ensures room { result.room ≡ acts }
     {
         Transcript {
             acts: Vec::new(alloc),
+            room: acts,
+            acts_left: acts,
             talks: Vec::new(alloc),
             unread: Vec::new(alloc),
-            room,
+            talks_left: usize::MAX,
             telling: true,
         }
+    }
+
+    /// Nothing was asked yet. The room for so many acts and talks is taken here.
+    pub(super) fn with_room(
+        alloc: Global,
+        acts: usize,
+        talks: usize,
+    ) -> Result<Transcript, AllocError>
+        ensures told { IfOk result (λ t. (plan : List (List ℕ × List ℕ)) → scene_with t plan
+            ≡ Some (record { acts = []; talks = []; unread = []; plan = plan })) }
+        ensures came { IfOk result (λ t. HasCome t 0) }
+        ensures acts { IfOk result (λ t. t.acts_left ≡ acts) }
+        ensures talks { IfOk result (λ t. t.talks_left ≡ talks) }
+        ensures telling { IfOk result (λ t. t.telling ≡ true) }
+        ensures taken { IfOk result HasTakenRoom }
+    {
+        Ok(Transcript {
+            acts: Vec::with_capacity(alloc, acts)?,
+            room: acts,
+            acts_left: acts,
+            talks: Vec::with_capacity(alloc, talks)?,
+            unread: Vec::with_capacity(alloc, talks)?,
+            talks_left: talks,
+            telling: true,
+        })
     }
 
     /// Adds an act.
@@ -45,66 +73,84 @@ impl Transcript {
         ensures did { (plan : List (List ℕ × List ℕ)) → Did act (scene_with self.old plan)
             (scene_with self.new plan) }
         ensures came { (n : ℕ) → HasCome self.old n → HasCome self.new (n + came_count (act ∷ [])) }
-        ensures room { self.new.room ≡ self.old.room }
+        ensures telling { HasTakenRoom self.old
+            → self.new.telling ≡ (self.old.telling && nat_lt 0 self.old.acts_left) }
+        ensures taken { HasTakenRoom self.old → HasTakenRoom self.new }
+        ensures spent { Spent 1 0 self.old self.new }
     {
-        if self.acts.len() == self.room || self.acts.push(act).is_err() {
+        if self.acts_left == 0 {
+            self.telling = false;
+            return;
+        }
+        self.acts_left -= 1;
+        if self.acts.push(act).is_err() {
             self.telling = false;
         }
     }
 
-    /// Adds the act by which a child is given back, and what the child tells.
-    pub(super) fn finish(&mut self, child: MemStream)
-        ensures act { (plan : List (List ℕ × List ℕ)) →
-            GivenBack (role_of child) (link_of child) (scene_with self.old plan)
-            (scene_with self.new plan) }
-        ensures came { (n : ℕ) → HasCome self.old n → HasCome self.new n }
-        ensures room { self.new.room ≡ self.old.room }
+    /// Adds an act, if memory is found for its bytes; else tells no more.
+    pub(super) fn act_if(&mut self, act: Option<Act>)
+        ensures did { IfSome act (λ a. (plan : List (List ℕ × List ℕ)) →
+            Did a (scene_with self.old plan) (scene_with self.new plan)) }
+        ensures silent { act ≡ None → (plan : List (List ℕ × List ℕ)) → scene_with self.new plan ≡ None }
+        ensures came { (n : ℕ) → HasCome self.old n
+            → IfSome act (λ a. came_count (a ∷ []) ≡ 0) → HasCome self.new n }
+        ensures telling { HasTakenRoom self.old → self.new.telling
+            ≡ (self.old.telling && (is_some act && nat_lt 0 self.old.acts_left)) }
+        ensures taken { HasTakenRoom self.old → HasTakenRoom self.new }
+        ensures spent { Spent 1 0 self.old self.new }
     {
-        let role = child.role();
-        self.act(Act::Finish { role });
-        match child.close() {
-            Some(closed) => self.talk(closed),
-            None => self.telling = false,
+        match act {
+            Some(act) => self.act(act),
+            None => {
+                self.acts_left = self.acts_left.saturating_sub(1);
+                self.telling = false;
+            }
         }
     }
 
-    /// Adds what a child that was given back told.
-    fn talk(&mut self, closed: Closed)
-        ensures gains { (plan : List (List ℕ × List ℕ)) →
-            Goes (Played [] (closed.talk ∷ []) (closed.unread ∷ [])) (scene_with self.old plan)
-            (scene_with self.new plan) }
+    /// Adds the act by which a child is given back, and what the child told; where it told nothing,
+    /// no more is told.
+    pub(super) fn finish(&mut self, role: Role, closed: Option<Closed>)
+        ensures gains { IfSome closed (λ closed. (plan : List (List ℕ × List ℕ)) →
+            Goes (Played (Act.Finish role ∷ []) (closed.talk ∷ []) (closed.unread ∷ []))
+            (scene_with self.old plan) (scene_with self.new plan)) }
+        ensures silent { closed ≡ None → self.new.telling ≡ false }
         ensures came { (n : ℕ) → HasCome self.old n → HasCome self.new n }
-        ensures room { self.new.room ≡ self.old.room }
+        ensures telling { HasTakenRoom self.old → self.new.telling
+            ≡ (self.old.telling && (nat_lt 0 self.old.acts_left
+            && (is_some closed && nat_lt 0 self.old.talks_left))) }
+        ensures taken { HasTakenRoom self.old → HasTakenRoom self.new }
+        ensures spent { Spent 1 1 self.old self.new }
     {
-        let Closed { talk, unread } = closed;
+        self.act(Act::Finish { role });
+        self.talk(closed);
+    }
+
+    /// Adds what a child that was given back told, if it told; else tells no more.
+    fn talk(&mut self, closed: Option<Closed>)
+        ensures gains { IfSome closed (λ closed. (plan : List (List ℕ × List ℕ)) →
+            Goes (Played [] (closed.talk ∷ []) (closed.unread ∷ [])) (scene_with self.old plan)
+            (scene_with self.new plan)) }
+        ensures silent { closed ≡ None → self.new.telling ≡ false }
+        ensures came { (n : ℕ) → HasCome self.old n → HasCome self.new n }
+        ensures telling { HasTakenRoom self.old → self.new.telling
+            ≡ (self.old.telling && (is_some closed && nat_lt 0 self.old.talks_left)) }
+        ensures taken { HasTakenRoom self.old → HasTakenRoom self.new }
+        ensures spent { Spent 0 1 self.old self.new }
+    {
+        let left = self.talks_left;
+        self.talks_left = left.saturating_sub(1);
+        let Some(Closed { talk, unread }) = closed else {
+            self.telling = false;
+            return;
+        };
+        if left == 0 {
+            self.telling = false;
+            return;
+        }
         if self.talks.push(talk).is_err() || self.unread.push(unread).is_err() {
             self.telling = false;
-        }
-    }
-
-    /// Adds the act of a write into a user's file.
-    pub(super) fn wrote(
-        &mut self,
-        alloc: Global,
-        spot: Spot,
-        bytes: &[u8],
-        outcome: Result<(), Failed>,
-    )
-        ensures did { (plan : List (List ℕ × List ℕ)) →
-            Did (Act.VaultWrite spot.uid spot.name spot.offset bytes.now outcome)
-            (scene_with self.old plan) (scene_with self.new plan) }
-        ensures came { (n : ℕ) → HasCome self.old n → HasCome self.new n }
-        ensures room { self.new.room ≡ self.old.room }
-    {
-        match Bytes::of(alloc, bytes) {
-            Ok(bytes) => self.act(Act::VaultWrite {
-                uid: spot.uid,
-                name: spot.name,
-                offset: spot.offset,
-                bytes,
-                outcome,
-            }),
-            Err(AllocError) => self.cease(),
         }
     }
 
@@ -112,7 +158,9 @@ impl Transcript {
     pub(super) fn cease(&mut self)
         ensures silent { (plan : List (List ℕ × List ℕ)) → scene_with self.new plan ≡ None }
         ensures came { (n : ℕ) → HasCome self.new n }
-        ensures room { self.new.room ≡ self.old.room }
+        ensures telling { self.new.telling ≡ false }
+        ensures taken { HasTakenRoom self.old → HasTakenRoom self.new }
+        ensures spent { Spent 0 0 self.old self.new }
     {
         self.telling = false;
     }

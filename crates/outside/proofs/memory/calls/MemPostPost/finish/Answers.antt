@@ -1,6 +1,6 @@
 use Rattle.std.proofs.Common.{refl}
 use Rattle.outside.specs.Script.{plan_of}
-use Rattle.outside.proofs.Counted.{counts_given_back}
+use Rattle.outside.proofs.Counted.{counts_closed}
 use Rattle.outside.proofs.memory.calls.MemPostPost.finish.Goals as goal
 
 pub invariant_of-self-clause-counted : goal.invariant_of-self-clause-counted
@@ -9,4 +9,4 @@ invariant_of-self-clause-counted c =
 
 pub invariant_of-self-clause-told : goal.invariant_of-self-clause-told
 invariant_of-self-clause-told c =
-    counts_given_back _ _ _ _ _ _ (c.finish.ensures.act (plan_of c.args.self.now.scripts.items)) refl refl refl refl c.args.self.now.told
+    counts_closed _ _ (plan_of c.args.self.now.scripts.items) c.args.self.now.transcript c.finish.new.self c.args.self.now.faults _ c.finish.ensures.gains c.finish.ensures.silent refl refl refl refl c.args.self.now.told

@@ -1,6 +1,6 @@
-use Rattle.std.proofs.Common.{refl}
+use Rattle.std.proofs.Common.{false, refl, rules, true}
 use Rattle.outside.specs.Script.{plan_of}
-use Rattle.outside.proofs.Counted.{counts_did}
+use Rattle.outside.proofs.Counted.{counts_acted_if, counts_done_if}
 use Rattle.outside.proofs.memory.calls.MemPostPost.vault_write.Goals as goal
 
 pub invariant_of-self : goal.invariant_of-self
@@ -9,8 +9,8 @@ invariant_of-self c = record {
   each_cut = c.args.self.now.each_cut;
   some_cut = c.args.self.now.some_cut;
   some_moment = c.args.self.now.some_moment;
-  counted = c.wrote.ensures.came c.args.self.now.came c.args.self.now.counted;
-  told = counts_did _ _ _ _ _ (c.wrote.ensures.did (plan_of c.args.self.now.scripts.items)) (record { accept = refl; keeper = refl; conn = refl; vault = c.saturating_add-self-then-is_some.ensures }) c.args.self.now.told;
+  counted = c.act_if.ensures.came c.args.self.now.came c.args.self.now.counted (search rules);
+  told = counts_acted_if _ (plan_of c.args.self.now.scripts.items) c.args.self.now.transcript c.act_if.new.self c.args.self.now.faults _ false false false true (search rules) (search rules) (search rules) (search rules) refl refl refl c.saturating_add-self-then-is_some.ensures c.act_if.ensures.did c.act_if.ensures.silent c.args.self.now.told;
 }
 
 pub invariant_of-self-2 : goal.invariant_of-self-2
@@ -19,6 +19,6 @@ invariant_of-self-2 c = record {
   each_cut = c.args.self.now.each_cut;
   some_cut = c.args.self.now.some_cut;
   some_moment = c.args.self.now.some_moment;
-  counted = c.wrote-2.ensures.came c.args.self.now.came c.args.self.now.counted;
-  told = counts_did _ _ _ _ _ (c.wrote-2.ensures.did (plan_of c.args.self.now.scripts.items)) (record { accept = refl; keeper = refl; conn = refl; vault = refl }) c.args.self.now.told;
+  counted = c.act_if-2.ensures.came c.args.self.now.came c.args.self.now.counted (search rules);
+  told = counts_done_if _ (plan_of c.args.self.now.scripts.items) c.args.self.now.transcript c.act_if-2.new.self c.args.self.now.faults (search rules) (search rules) (search rules) (search rules) c.act_if-2.ensures.did c.act_if-2.ensures.silent c.args.self.now.told;
 }

@@ -1,5 +1,0 @@
-mod Counted
-mod FindLemmas
-mod ShelfLemmas
-mod FilesLemmas
-mod BlankLemmas
