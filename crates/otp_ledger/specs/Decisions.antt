@@ -14,12 +14,17 @@ use Rattle.policy_model.specs.Verdict.{decoy_challenge}
 use Rattle.policy_model.specs.Cases.{is_holder, is_other}
 use Rattle.otp_ledger.specs.Accounts.{AccountState, IsNextPassword, LedgerParts, current_of, state_at, was_accepted}
 
+-- a CHALLENGE for the user of an account who can log in
+abbrev pub live_decision : Settings → ℕ → ℕ → AccountState → Decision
+live_decision setup session now state =
+    if is_other session state.holder && nat_lt now (state.moment + setup.hold) then Deny USER_HELD state.taker
+    else Permit (state.sequence - 1)
+
 -- a CHALLENGE for the user of an account
 abbrev pub state_decision : Settings → Name → ℕ → ℕ → AccountState → Decision
 state_decision setup user session now state =
     if not (state.enabled && not (state.sequence == 0)) then decoy_challenge setup user
-    else (if is_other session state.holder && nat_lt now (state.moment + setup.hold) then Deny USER_HELD state.taker
-    else Permit (state.sequence - 1))
+    else live_decision setup session now state
 
 abbrev pub numbered_decision : LedgerParts → Name → ℕ → ℕ → Option ℕ → Decision
 numbered_decision l user session now None = decoy_challenge l.setup user

@@ -8,6 +8,7 @@ mod judging;
 mod kept;
 mod ledger;
 mod merging;
+mod mixing;
 mod names;
 mod passwords;
 mod places;
@@ -15,3 +16,4 @@ mod rows;
 
 pub use kept::Kept;
 pub use ledger::{Current, Ledger};
+pub use mixing::mixed;

@@ -8,6 +8,7 @@ mod doing;
 mod exported;
 mod files;
 mod live;
+mod names;
 mod replies;
 mod serving;
 mod telling;

@@ -6,6 +6,7 @@ ghost use Rattle.request_catalogue.specs.Replies as replies;
 ghost use Rattle.request_catalogue.specs.Widths.{frame_max, transfer_max};
 
 use crate::exported::Exported;
+use crate::names::Names;
 use crate::texts::Texts;
 use imsg_frame::{HEADER_LEN, Header};
 use request_catalogue::{Answer, Width, reply_kind, write_reply};
@@ -87,12 +88,13 @@ pub struct Replies<'a, T: Texts> {
     pub(crate) piece: Vec<u8>,
     pub(crate) frames: Frames,
     pub exported: Exported,
+    pub(crate) names: Names,
     ghost fits: { frames.width ≡ (T.service texts.now).setup.frames },
     ghost piece_len: { vec_len piece ≡ transfer_max frames.width },
 }
 
 impl<'a, T: Texts> Replies<'a, T> {
-    /// The memory for a worker's answers: 40,576 bytes, or 133,728 for wide frames.
+    /// The memory for a worker's answers: 40,576 bytes, or 133,728 for wide frames, and 16 for each account.
     pub fn new(alloc: Global, texts: &'a T) -> Result<Replies<'a, T>, AllocError>
         ensures { IfOk result (λ replies. replies.texts.now ≡ texts.now) }
     {
@@ -102,6 +104,7 @@ impl<'a, T: Texts> Replies<'a, T> {
             piece: vec![in alloc; 0; width.transfer_max()]?,
             frames: Frames::new(alloc, width)?,
             exported: Exported::new(alloc)?,
+            names: Names::new(alloc, texts.setup().parts().accounts.as_slice())?,
         })
     }
 }

@@ -63,6 +63,7 @@ pub fn serve_message<A: Turns, P: Post, L: LiveChild, T: Texts>(
         texts: replies.texts,
         user: &live.user,
         state: replies.exported.as_slice(),
+        names: &replies.names,
     };
     let outcome = tell(&source, &event, outcome, piece);
     let answer = answer_of(&event.decision, &outcome, piece);

@@ -1,9 +1,12 @@
 //! What is told of a permitted request besides what its operation gave.
 
-ghost use Rattle.std.specs.Prelude.{◌≡◌, ◌<◌, ◌≤◌, ℕ, length, take, option_map, false};
+ghost use Rattle.std.specs.Prelude.{◌≡◌, ◌<◌, ◌≤◌, ℕ, ◌||◌, IfSome, Some, if◌then◌else◌, length, nat_le, nat_lt};
+ghost use Rattle.std.specs.Prelude.{false, option_map, slice_get, take};
 ghost use Rattle.std.specs.Int.{w32, to_le_bytes};
 ghost use Rattle.policy_model.specs.Asks.{is_lost, shown_of};
+ghost use Rattle.policy_model.specs.declared.reading.TheConstants.{DECOYS_FROM};
 ghost use Rattle.policy_model.specs.Logins.{account_of};
+ghost use Rattle.policy_model.specs.Settings.{IsInRange, same_name};
 ghost use Rattle.policy_model.specs.Verdict.{NamesRule};
 ghost use Rattle.request_catalogue.specs.Widths.{body_max};
 ghost use Rattle.request_catalogue.specs.declared.width.Width.{Width};
@@ -11,16 +14,17 @@ ghost use Rattle.request_catalogue.specs.Replies as replies;
 ghost use Rattle.service_model.specs.Answers.{challenge_text, info_text};
 ghost use Rattle.service_model.specs.Cases.{imported_state};
 ghost use Rattle.session_asking.specs.Known.{account_in};
-ghost use Rattle.session_asking.specs.Made.{exported_bytes};
+ghost use Rattle.session_asking.specs.Made.{exported_bytes, naming_of};
 ghost use Rattle.session_asking.specs.Work.{Fits, IsSmall, answered, told, told_of};
 
 use crate::live::{LoggedIn, account_at, account_of};
+use crate::names::Names;
 use crate::texts::Texts;
 use crate::work::Outcome;
 use crate::writing::write;
 use info_hooks::Card;
 use otp_words::challenge_text;
-use policy_model::{Account, Ask, DECOYS_FROM, Decision, Event, Setup, shown};
+use policy_model::{Account, Ask, DECOYS_FROM, Decision, Decoy, Event, Setup, shown};
 use request_catalogue::{Answer, Name};
 use state_export::write_import;
 
@@ -30,6 +34,7 @@ pub(crate) struct Source<'a, T: Texts> {
     pub texts: &'a T,
     pub user: &'a Option<LoggedIn>,
     pub state: &'a [u8],
+    pub names: &'a Names,
 }
 
 /// Writes what is told of a permitted request into the front of the piece, where it is more than its
@@ -58,7 +63,7 @@ pub(crate) fn tell<T: Texts>(
             len: write(texts.setup().parts().banner.as_str().as_bytes(), piece),
         },
         Ask::Challenge { user, .. } => Outcome::Done {
-            len: challenge(texts.setup(), &user, value, piece),
+            len: challenge(texts.setup(), source.names, &user, value, piece),
         },
         Ask::Import => Outcome::Done {
             len: import(texts, source.user, source.state, piece),
@@ -73,22 +78,81 @@ pub(crate) fn tell<T: Texts>(
     }
 }
 
-#[tactic(auto, using(crate::proofs::Done::taken, crate::proofs::Done::below_decoys, crate::proofs::Done::from_decoys))]
+/// What a challenge names. It stays a call, so that both are made before it, whichever it is: so the time
+/// doesn't tell which names are users'.
+#[inline(never)]
+fn named_by(value: u64, own: Option<Decoy>, decoy: Decoy) -> Option<Decoy>
+    requires own { IfSome own (λ own. own.n ≤ 9999) }
+    requires decoy { decoy.n ≤ 9999 }
+    ensures value { result ≡ if nat_lt value DECOYS_FROM then own else Some decoy }
+    ensures bound { IfSome result (λ named. named.n ≤ 9999) }
+{
+    if value < DECOYS_FROM {
+        own
+    } else {
+        Some(decoy)
+    }
+}
+
 /// Writes a challenge into the front of the piece: that of the user's account, or a decoy's.
-fn challenge(setup: &Setup, user: &Name, value: u64, piece: &mut [u8]) -> usize
+fn challenge(setup: &Setup, names: &Names, user: &Name, value: u64, piece: &mut [u8]) -> usize
     requires room { 16000 ≤ length piece.old }
     ensures within { result ≤ length piece.new }
     ensures text { take result piece.new ≡ challenge_text setup.now user.now value }
 {
-    if value < DECOYS_FROM {
-        match account_named(setup, user) {
-            Some(account) => challenge_text(account.algo, value as u16, &account.seed, piece),
-            None => 0,
-        }
-    } else {
-        let decoy = setup.decoy(user);
-        challenge_text(decoy.algo, decoy.n, &decoy.seed, piece)
+    let decoy = setup.decoy(user);
+    let own = own_naming(account_for(setup, names, user, value), value);
+    match named_by(value, own, decoy) {
+        Some(named) => challenge_text(named.algo, named.n, &named.seed, piece),
+        None => 0,
     }
+}
+
+/// What the challenge of an account names. From the decoys' numbers on it isn't used.
+fn own_naming(account: Option<&Account>, value: u64) -> Option<Decoy>
+    ensures value { value < DECOYS_FROM → result ≡ naming_of value (option_map (λ a. a.now) account.entry) }
+    ensures bound { IfSome result (λ own. own.n ≤ 9999) }
+{
+    match account {
+        Some(account) => Some(Decoy {
+            algo: account.algo,
+            n: (value % DECOYS_FROM) as u16,
+            seed: account.seed,
+        }),
+        None => None,
+    }
+}
+
+/// The user's account, if there is one. From the decoys' numbers on it is any account, which isn't used.
+fn account_for<'s>(setup: &'s Setup, names: &Names, user: &Name, value: u64) -> Option<&'s Account>
+    ensures { value < DECOYS_FROM → option_map (λ a. a.now) result ≡ account_of setup.now user.now }
+{
+    match numbered(setup, names.likely(user)) {
+        Some(account) if is_for(account, user, value) => Some(account),
+        _ => account_named(setup, user),
+    }
+}
+
+/// The account of a number, if there is one.
+fn numbered(setup: &Setup, number: usize) -> Option<&Account>
+    ensures account { option_map (λ a. a.now) result ≡ slice_get setup.now.accounts number }
+    ensures in_range { IsInRange setup.now }
+{
+    setup.parts().accounts.as_slice().get(number)
+}
+
+/// Whether an account is the user's, or isn't used.
+fn is_for(account: &Account, user: &Name, value: u64) -> bool
+    ensures { result ≡ (same_name account.now.name user.now || nat_le DECOYS_FROM value) }
+{
+    same_name(&account.name, user) || value >= DECOYS_FROM
+}
+
+/// Whether two names are the same.
+fn same_name(a: &Name, b: &Name) -> bool
+    ensures { result ≡ same_name a.now b.now }
+{
+    a == b
 }
 
 /// The account of a name, if the setup has one.

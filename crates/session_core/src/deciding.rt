@@ -8,7 +8,7 @@ ghost use Rattle.session_core.specs.Deciding.{open_by, open_worker_decision, rep
 ghost use Rattle.session_table.specs.Tables.{row_at};
 
 use otp_ledger::Ledger;
-use policy_model::{Ask, Decision, READ, Setup, WRITE, judge_decoy};
+use policy_model::{Ask, Decision, READ, Setup, WRITE};
 use request_catalogue::{Label, Name, rules};
 use session_table::{SessionRow, Table};
 
@@ -32,12 +32,18 @@ fn judge_challenge(ledger: &Ledger, row: &SessionRow, user: &Name, now: u64) -> 
     ledger.judge_challenge(user, row.session, now)
 }
 
-/// Rules 13 to 16 of a REPLY.
-fn judge_reply(ledger: &Ledger, row: &SessionRow, words: Option<u64>, hex: Option<u64>) -> Decision
+/// Rules 13 to 16 of a REPLY, where the account of some number stands in for a decoy.
+fn judge_reply(
+    ledger: &Ledger,
+    row: &SessionRow,
+    stand_in: u64,
+    words: Option<u64>,
+    hex: Option<u64>,
+) -> Decision
     ensures { result ≡ reply_by ledger.now row.now words hex }
 {
     match account_at(ledger, row) {
-        None => judge_decoy(words, hex),
+        None => ledger.judge_decoy(stand_in, words, hex),
         Some(account) => ledger.judge_reply(account, row.session, words, hex),
     }
 }
@@ -84,12 +90,12 @@ fn judge_info(ledger: &Ledger, row: &SessionRow, number: u32) -> Decision
 }
 
 /// The rules of a request's own kind, else a permit with its value.
-fn judge_kind(ledger: &Ledger, row: &SessionRow, ask: &Ask) -> Decision
+fn judge_kind(ledger: &Ledger, row: &SessionRow, stand_in: u64, ask: &Ask) -> Decision
     ensures { result ≡ kind_by ledger.now row.now ask.now }
 {
     match ask {
         Ask::Challenge { user, now } => judge_challenge(ledger, row, user, *now),
-        Ask::Reply { words, hex } => judge_reply(ledger, row, *words, *hex),
+        Ask::Reply { words, hex } => judge_reply(ledger, row, stand_in, *words, *hex),
         Ask::Export { .. } => Decision::Permit {
             value: u64::from(row.account),
         },
@@ -103,7 +109,7 @@ fn judge_kind(ledger: &Ledger, row: &SessionRow, ask: &Ask) -> Decision
 }
 
 /// An ask of a worker that has a session.
-fn judge_open_worker(ledger: &Ledger, row: &SessionRow, ask: &Ask) -> Decision
+fn judge_open_worker(ledger: &Ledger, row: &SessionRow, stand_in: u64, ask: &Ask) -> Decision
     ensures { result ≡ open_worker_decision ledger.now row.now ask.now }
 {
     match ask {
@@ -111,7 +117,7 @@ fn judge_open_worker(ledger: &Ledger, row: &SessionRow, ask: &Ask) -> Decision
         Ask::End { .. } => Decision::Permit { value: 0 },
         _ => match row.refusal(ledger.setup().requests(), ask) {
             Some(refusal) => refusal,
-            None => judge_kind(ledger, row, ask),
+            None => judge_kind(ledger, row, stand_in, ask),
         },
     }
 }
@@ -128,13 +134,19 @@ fn judge_idle_worker(begun: u32, ask: &Ask) -> Decision
     }
 }
 
-/// What is decided on an ask of a worker.
-pub(crate) fn judge(ledger: &Ledger, table: &Table, worker: u32, ask: &Ask) -> Decision
+/// What is decided on an ask of a worker, where the account of some number stands in for a decoy.
+pub(crate) fn judge(
+    ledger: &Ledger,
+    table: &Table,
+    worker: u32,
+    stand_in: u64,
+    ask: &Ask,
+) -> Decision
     requires { worker < length table.now.rows }
     ensures { result ≡ worker_decision ledger.now table.now.begun (row_at table.now worker) ask.now }
 {
     match table.row(worker) {
         None => judge_idle_worker(table.begun(), ask),
-        Some(row) => judge_open_worker(ledger, row, ask),
+        Some(row) => judge_open_worker(ledger, row, stand_in, ask),
     }
 }

@@ -8,6 +8,7 @@ mod deciding;
 mod reading;
 mod replaying;
 mod settling;
+mod stand_ins;
 mod whole;
 
 pub use replaying::replay;

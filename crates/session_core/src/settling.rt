@@ -1,6 +1,7 @@
 //! What an event makes of the accounts and the rows.
 
-ghost use Rattle.std.specs.Prelude.{◌≡◌, ◌≤◌, ◌<◌, ◌-◌, ◌^◌, length, Some, true, unwrap_or};
+ghost use Rattle.std.specs.Prelude.{◌≡◌, ◌≤◌, ◌<◌, ◌-◌, ◌^◌, if◌then◌else◌, length, nat_le, Some, true, unwrap_or};
+ghost use Rattle.policy_model.specs.declared.reading.TheConstants.{DECOYS_FROM};
 ghost use Rattle.policy_model.specs.Asks.{accepts, value_of};
 ghost use Rattle.session_core.specs.Settling.{grant_for, grant_in, ledger_accepting, ledger_after, ledger_by};
 ghost use Rattle.session_core.specs.Settling.{ledger_leaving, ledger_taking, may_hold, number_for, session_at};
@@ -38,6 +39,19 @@ pub(crate) fn session_for(begun: u32, session: u32, ask: &Ask, decision: &Decisi
     }
 }
 
+/// The number of the user's account, and that of accounts for a decoy. It stays a call, so that the user is
+/// looked for before it, whichever it is: so the time doesn't tell which.
+#[inline(never)]
+fn number_by(value: u64, number: Option<u32>, accounts: u32) -> u32
+    ensures { result ≡ if nat_le DECOYS_FROM value then accounts else unwrap_or number accounts }
+{
+    if value < DECOYS_FROM {
+        number.unwrap_or(accounts)
+    } else {
+        accounts
+    }
+}
+
 /// The number of the account that a CHALLENGE is for, and that of accounts for a decoy and for any other
 /// ask.
 fn number_for(ledger: &Ledger, event: &Event) -> u32
@@ -45,9 +59,7 @@ fn number_for(ledger: &Ledger, event: &Event) -> u32
 {
     let none = ledger.len() as u32;
     match event.ask {
-        Ask::Challenge { user, .. } if event.decision.value() < DECOYS_FROM => {
-            ledger.find(&user).unwrap_or(none)
-        }
+        Ask::Challenge { user, .. } => number_by(event.decision.value(), ledger.find(&user), none),
         _ => none,
     }
 }

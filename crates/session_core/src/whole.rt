@@ -13,6 +13,7 @@ ghost use Rattle.session_core.specs.Standing.{HasRoom, KeepsSetup, Stands};
 
 use crate::deciding::judge;
 use crate::settling::{event_again, session_for, session_of, settle};
+use crate::stand_ins::StandIns;
 use otp_ledger::Ledger;
 use policy_model::{Ask, Decision, Event, Setup, Step};
 use session_table::Table;
@@ -26,6 +27,7 @@ pub struct Core {
     ledger: Ledger,
     table: Table,
     settled: u32,
+    stand_ins: StandIns,
 }
 
 impl Model for Core {
@@ -51,12 +53,15 @@ impl Core {
         ensures setup { IfOk result (λ core. core.ledger.setup ≡ setup.now) }
         ensures cap { IfOk result (λ core. core.ledger.cap ≡ cap) }
     {
+        let workers = setup.workers();
+        let stand_ins = StandIns::new(alloc, workers)?;
         let ledger = Ledger::new(alloc, setup, cap)?;
-        let table = Table::new(alloc, setup.workers())?;
+        let table = Table::new(alloc, workers)?;
         Ok(Core {
             ledger,
             table,
             settled: 0,
+            stand_ins,
         })
     }
 
@@ -65,7 +70,8 @@ impl Core {
         requires { worker < self.now.ledger.setup.workers }
         ensures { result ≡ core_decision self.now worker ask.now }
     {
-        judge(&self.ledger, &self.table, worker, ask)
+        let stand_in = self.stand_ins.of(worker);
+        judge(&self.ledger, &self.table, worker, stand_in, ask)
     }
 
     /// The event of an ask with its decision.
@@ -122,6 +128,7 @@ impl Core {
         let event = self.event_of(worker, ask, decision);
         settle(&mut self.ledger, &mut self.table, ask, &event);
         self.settled += 1;
+        self.stand_ins.keep(worker, ask);
         event_again(&event, ask)
     }
 

@@ -77,7 +77,7 @@ table_send : IsSend table.the_row
 table_send = search (sendable, crosses, row_send) depth 40
 
 core_send : IsSend core.the_row
-core_send = search (sendable, ledger_send, table_send) depth 40
+core_send = search (sendable, crosses, ledger_send, table_send) depth 40
 
 pub book_send : (K : RattleType) (sink : Sink.Ghosts K.Denot) → IsSend K → IsSend (book.the_row K sink)
 book_send K sink sent = search (sendable, crosses, core_send, event_send) depth 40
