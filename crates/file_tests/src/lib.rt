@@ -6,6 +6,8 @@ mod command_lines;
 #[cfg(test)]
 mod fronts;
 #[cfg(test)]
+mod kept;
+#[cfg(test)]
 mod setup_files;
 #[cfg(test)]
 mod setups;

@@ -2,7 +2,7 @@
 
 use account_file::SetupFault;
 use audit_check::AuditWhy;
-use monitor_server::{Detail, FileKind};
+use monitor_server::{Answer, Detail, FileKind};
 use otp_extended::RenewFault;
 use otp_words::{DictFault, DictRule};
 use std::{fmt, io};
@@ -27,9 +27,17 @@ pub struct Complaint<'a> {
 impl Complaint<'_> {
     /// A status alone.
     pub fn plain(status: u8) -> Complaint<'static> {
-        Complaint {
+        Complaint::of(Answer {
             status,
             detail: Detail::Nothing,
+        })
+    }
+
+    /// A status with its detail.
+    pub fn of(answer: Answer) -> Complaint<'static> {
+        Complaint {
+            status: answer.status,
+            detail: answer.detail,
             path: None,
             cause: None,
         }

@@ -1,20 +1,17 @@
 //! What a right setup lacks on this machine.
 
-use outside::Word;
-use outside_real::{RealFiles, has_folder, is_folder, is_launcher};
+use outside::{Files, Word};
+use outside_real::{has_folder, is_folder, is_launcher};
 use setup_reading::read_setup_file;
 use std::alloc::Global;
-use std::fs;
-use std::fs::File;
-use std::rt::Files;
+use std::rt::Files as FileSystem;
 
 /// Says on standard error which of a setup's vault, launcher and socket's folder isn't there, in a line
-/// each, where the arguments are those of `check` and the setup is right (`status` is 0). A setup that is no
-/// file, such as a pipe, can't be read a second time, and so nothing is said of it.
-pub fn say_lacks<R: Files<File = File> + Eprint + Drop>(
+/// each, where the arguments are those of `check` and the setup is right (`status` is 0).
+pub fn say_lacks<R: FileSystem + Eprint, F: Files>(
     rt: &R,
     alloc: Global,
-    files: &mut RealFiles<R>,
+    files: &mut F,
     words: &[Word],
     status: u8,
 ) {
@@ -26,16 +23,13 @@ pub fn say_lacks<R: Files<File = File> + Eprint + Drop>(
     }
 }
 
-/// Says what the setup of this name lacks, if it is a file.
-fn say_lacks_of<R: Files<File = File> + Eprint + Drop>(
+/// Says what the setup of this name lacks.
+fn say_lacks_of<R: FileSystem + Eprint, F: Files>(
     rt: &R,
     alloc: Global,
-    files: &mut RealFiles<R>,
+    files: &mut F,
     name: &Word,
 ) {
-    if !is_file(rt, name) {
-        return;
-    }
     let Ok(setup) = read_setup_file(alloc, files, name.as_str()) else {
         return;
     };
@@ -58,14 +52,6 @@ fn say_lacks_of<R: Files<File = File> + Eprint + Drop>(
         socket,
         "the folder of the socket is not there",
     );
-}
-
-/// Whether a file stands at a path.
-pub(crate) fn is_file<R: Files>(rt: &R, name: &Word) -> bool {
-    match fs::metadata(rt, name.as_str()) {
-        Ok(found) => found.is_file(),
-        Err(_) => false,
-    }
 }
 
 /// Says on standard error what a path lacks, unless all is right.

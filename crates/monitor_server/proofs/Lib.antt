@@ -3,4 +3,4 @@ pub mod Before
 pub mod Posts
 pub mod Told
 pub mod Whole
-mod Touching
+pub mod Touching

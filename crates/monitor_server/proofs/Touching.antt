@@ -22,7 +22,7 @@ use Rattle.monitor_server.specs.declared.command.AloneCommand.{AloneCommand}
 use Rattle.monitor_server.specs.declared.command.AloneCommand.TheVariants as alone
 use Rattle.monitor_server.specs.Around.{Around, SidesNow, files_with, sides_of}
 use Rattle.monitor_server.specs.Commands.{AsksAlone, asks_audit, asks_check, asks_otp, asks_recover, asks_renew, asks_serve}
-use Rattle.monitor_server.specs.Touching.{TouchesFilesNamed, TouchesGiven, files_named, files_replaced, names_in, setups_named}
+use Rattle.monitor_server.specs.Touching.{TouchesFilesNamed, TouchesGiven, files_given, files_named, files_replaced, files_written, names_in, setups_given, setups_named}
 
 -- ---- where the names of a command are among those of the words
 
@@ -104,6 +104,61 @@ files_recover words few h = right (to_check words ++ by_audit words ++ by_renew 
 nothing : (names : List (List ℕ)) → HasAll names []
 nothing names name h = absurd (let e = h in cc)
 
+-- ---- the files of each command
+
+pub served_files : (words : List (List ℕ)) (source : Source) → asks_serve words ≡ Some source → HasAll (files_named words) (files_of source)
+served_files words source asked = files_serve words (files_of source) (own files_of (asks_serve words) source asked)
+
+pub served_setups : (words : List (List ℕ)) (source : Source) → asks_serve words ≡ Some source → HasAll (setups_named words) (setups_of source)
+served_setups words source asked =
+    first (setup_of_serve words) (by_check words) (setup_of_renew words) (setups_of source) (own setups_of (asks_serve words) source asked)
+
+pub alone_files : (words : List (List ℕ)) (command : AloneCommand) → AsksAlone words command → HasAll (files_named words) (files_given command)
+alone_files words (alone.Password command) asked =
+    files_otp words (option_to_list (command_parts command).list) (own (λ (parts : OtpParts). option_to_list parts.list) (asks_otp words) (command_parts command) asked)
+alone_files words (alone.Check setup) asked =
+    files_check words (setup.now ∷ []) (own (λ (name : List ℕ). name ∷ []) (asks_check words) setup.now asked)
+alone_files words (alone.Child command) asked = nothing (files_named words)
+alone_files words (alone.Audit command) asked =
+    let parts = audits_command.command_parts command in
+    files_audit words (audits.names_of parts) (own audits.names_of (asks_audit words) parts asked)
+alone_files words (alone.Renew command) asked =
+    let parts = renewals.command_parts command in
+    files_renew words (renews.names_of parts) (own renews.names_of (asks_renew words) parts asked)
+alone_files words (alone.Recover command) asked =
+    let parts = recoveries_command.command_parts command in
+    files_recover words (recoveries.names_of parts) (own recoveries.names_of (asks_recover words) parts asked)
+alone_files words (alone.Enrol command) asked = nothing (files_named words)
+
+pub alone_setups : (words : List (List ℕ)) (command : AloneCommand) → AsksAlone words command → HasAll (setups_named words) (setups_given command)
+alone_setups words (alone.Check setup) asked =
+    second (setup_of_serve words) (by_check words) (setup_of_renew words) (setup.now ∷ [])
+    (own (λ (name : List ℕ). name ∷ []) (asks_check words) setup.now asked)
+alone_setups words (alone.Renew command) asked =
+    let parts = renewals.command_parts command in
+    right (setup_of_serve words ++ by_check words) (setup_of_renew words) (parts.setup ∷ [])
+    (own (λ (p : RenewParts). p.setup ∷ []) (asks_renew words) parts asked)
+alone_setups words (alone.Password command) asked = nothing (setups_named words)
+alone_setups words (alone.Child command) asked = nothing (setups_named words)
+alone_setups words (alone.Audit command) asked = nothing (setups_named words)
+alone_setups words (alone.Recover command) asked = nothing (setups_named words)
+alone_setups words (alone.Enrol command) asked = nothing (setups_named words)
+
+alone_written : (words : List (List ℕ)) (command : AloneCommand) → AsksAlone words command → HasAll (files_replaced words) (files_written command)
+alone_written words (alone.Renew command) asked =
+    let parts = renewals.command_parts command in
+    second (setup_of_serve words) (setup_of_renew words) (by_recover words) (parts.setup ∷ [])
+    (own (λ (p : RenewParts). p.setup ∷ []) (asks_renew words) parts asked)
+alone_written words (alone.Recover command) asked =
+    let parts = recoveries_command.command_parts command in
+    right (setup_of_serve words ++ setup_of_renew words) (by_recover words) (recoveries.names_of parts)
+    (own recoveries.names_of (asks_recover words) parts asked)
+alone_written words (alone.Password command) asked = nothing (files_replaced words)
+alone_written words (alone.Check setup) asked = nothing (files_replaced words)
+alone_written words (alone.Child command) asked = nothing (files_replaced words)
+alone_written words (alone.Audit command) asked = nothing (files_replaced words)
+alone_written words (alone.Enrol command) asked = nothing (files_replaced words)
+
 -- ---- each command
 
 module _ {F S K E : Type 0} (words : List (List ℕ)) (contents : F → Option Contents) (before after : Around F S K E) where
@@ -113,9 +168,7 @@ module _ {F S K E : Type 0} (words : List (List ℕ)) (contents : F → Option C
 
   pub touches_served : (source : Source) → asks_serve words ≡ Some source → TouchesNamed (files_of source) (setups_of source) (setups_of source) (files_with contents before.files) (files_with contents after.files) → TouchesFilesNamed words contents before after
   touches_served source asked =
-      wide (files_of source) (setups_of source) (setups_of source)
-      (files_serve words (files_of source) (own files_of (asks_serve words) source asked))
-      (first (setup_of_serve words) (by_check words) (setup_of_renew words) (setups_of source) (own setups_of (asks_serve words) source asked))
+      wide (files_of source) (setups_of source) (setups_of source) (served_files words source asked) (served_setups words source asked)
       (first (setup_of_serve words) (setup_of_renew words) (by_recover words) (setups_of source) (own setups_of (asks_serve words) source asked))
 
   pub touches_same : after.files ≡ before.files → TouchesFilesNamed words contents before after
@@ -124,34 +177,8 @@ module _ {F S K E : Type 0} (words : List (List ℕ)) (contents : F → Option C
       (touches_none (files_named words) (setups_named words) (files_replaced words) (files_with contents before.files))
 
   pub touches_alone : (command : AloneCommand) → AsksAlone words command → TouchesGiven command contents (sides_of before) (sides_of after) → TouchesFilesNamed words contents before after
-  touches_alone (alone.Password command) asked =
-      let names = option_to_list (command_parts command).list in
-      wide names [] []
-      (files_otp words names (own (λ (parts : OtpParts). option_to_list parts.list) (asks_otp words) (command_parts command) asked))
-      (nothing (setups_named words)) (nothing (files_replaced words))
-  touches_alone (alone.Check setup) asked =
-      let own_name = own (λ (name : List ℕ). name ∷ []) (asks_check words) setup.now asked in
-      wide (setup.now ∷ []) (setup.now ∷ []) [] (files_check words (setup.now ∷ []) own_name)
-      (second (setup_of_serve words) (by_check words) (setup_of_renew words) (setup.now ∷ []) own_name) (nothing (files_replaced words))
-  touches_alone (alone.Child command) asked = wide [] [] [] (nothing (files_named words)) (nothing (setups_named words)) (nothing (files_replaced words))
-  touches_alone (alone.Audit command) asked =
-      let parts = audits_command.command_parts command in
-      wide (audits.names_of parts) [] [] (files_audit words (audits.names_of parts) (own audits.names_of (asks_audit words) parts asked))
-      (nothing (setups_named words)) (nothing (files_replaced words))
-  touches_alone (alone.Renew command) asked =
-      let parts = renewals.command_parts command in
-      let own_setup = own (λ (p : RenewParts). p.setup ∷ []) (asks_renew words) parts asked in
-      wide (renews.names_of parts) (parts.setup ∷ []) (parts.setup ∷ [])
-      (files_renew words (renews.names_of parts) (own renews.names_of (asks_renew words) parts asked))
-      (right (setup_of_serve words ++ by_check words) (setup_of_renew words) (parts.setup ∷ []) own_setup)
-      (second (setup_of_serve words) (setup_of_renew words) (by_recover words) (parts.setup ∷ []) own_setup)
-  touches_alone (alone.Recover command) asked =
-      let parts = recoveries_command.command_parts command in
-      let own_names = own recoveries.names_of (asks_recover words) parts asked in
-      wide (recoveries.names_of parts) [] (recoveries.names_of parts)
-      (files_recover words (recoveries.names_of parts) own_names) (nothing (setups_named words))
-      (right (setup_of_serve words ++ setup_of_renew words) (by_recover words) (recoveries.names_of parts) own_names)
-  touches_alone (alone.Enrol command) asked = wide [] [] [] (nothing (files_named words)) (nothing (setups_named words)) (nothing (files_replaced words))
+  touches_alone command asked =
+      wide (files_given command) (setups_given command) (files_written command) (alone_files words command asked) (alone_setups words command asked) (alone_written words command asked)
 
 -- ---- what one command did
 

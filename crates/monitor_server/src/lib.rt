@@ -10,6 +10,7 @@ mod top;
 mod world;
 
 pub use alone::run_alone;
+pub use command::{AloneCommand, Command, Unread, read_command};
 pub use report::{Answer, Detail, Ended, FEW_REQUESTS, FileKind, Report};
 pub use top::otplogd;
 pub use world::{Sides, World};

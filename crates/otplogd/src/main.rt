@@ -6,15 +6,19 @@
 
 mod durable;
 mod information;
+mod keeping;
 mod saying;
 mod seed;
 
 use durable::{RunLog, logs_of};
+use file_front::FrontError;
 use info_hooks::{Hook, Hooks};
 use information::{chain_form, person_form, say_chain, say_person};
+use keeping::keep_named;
+use kept_files::KeptFiles;
 use messages::{Complaint, RunCounts, RunFaults, complaint_text, say_lacks};
 use monitor_server::{Answer, Detail, Ended, Sides, World, otplogd, run_alone};
-use outside::Word;
+use outside::{Stream, Word};
 use outside_real::{ListenFailure, RealEnds, RealFiles, RealPost, RealSite, fill_standard_streams};
 use saying::{notice_of, say_end};
 use seed::{RANDOM, add_seed};
@@ -97,15 +101,42 @@ fn complain(rt: &impl Eprint, complaint: Complaint<'_>) -> ExitCode {
     ExitCode::from(complaint.status)
 }
 
+/// The files of a run: those that its words name, as they were read before it.
+type RunFiles = KeptFiles<RealFiles<HostRuntime>>;
+
+/// A reading of a file failed.
+const NO_READING: u8 = 3;
+
+/// A file could not be replaced.
+const NO_REPLACING: u8 = 8;
+
+/// The files that the words name, read. What can't be read isn't kept, so that a run ends with its own status.
+///
+/// # Errors
+///
+/// There isn't the memory.
+fn files_of(rt: HostRuntime, alloc: Global, words: &[Word]) -> Result<RunFiles, AllocError> {
+    let mut files = KeptFiles::new(alloc, RealFiles::new(rt, alloc));
+    match keep_named(alloc, &mut files, words) {
+        Err(FrontError::OutOfMemory) => Err(AllocError),
+        _ => Ok(files),
+    }
+}
+
 /// The site of a run. Where the words name a setup, its vault and its launcher have to be there: the plain
 /// one, by which nobody can log in, needs no vault. Where they name a durable log, the site says on standard
 /// error that it listens, which is no log then.
-fn site_of(rt: HostRuntime, alloc: Global, words: &[Word]) -> RealSite<HostRuntime> {
+fn site_of(
+    rt: HostRuntime,
+    alloc: Global,
+    words: &[Word],
+    files: &mut RunFiles,
+) -> RealSite<HostRuntime> {
     let site = RealSite::new(rt, alloc);
     match words {
         [_] => site,
         [_, _] => site.that_looks(),
-        [_, setup, ..] => match notice_of(rt, alloc, setup) {
+        [_, setup, ..] => match notice_of(rt, alloc, files, setup) {
             Some(notice) => site.that_looks().that_says(notice),
             None => site.that_looks(),
         },
@@ -118,17 +149,11 @@ fn complaint_of<'a>(
     answer: Answer,
     posts: &[RealPost<HostRuntime>],
     words: &'a [Word],
-    files: &'a RealFiles<HostRuntime>,
+    files: &'a RunFiles,
     site: &'a RealSite<HostRuntime>,
 ) -> Complaint<'a> {
-    let Answer { status, detail } = answer;
-    let plain = Complaint {
-        status,
-        detail,
-        path: None,
-        cause: None,
-    };
-    match (status, words) {
+    let plain = Complaint::of(answer);
+    match (plain.status, words) {
         (NO_SOCKET, _) => of_listening(plain, site.failure()),
         (NO_LOG, [_, _, log]) => Complaint {
             path: Some(log.as_str()),
@@ -139,7 +164,7 @@ fn complaint_of<'a>(
             ..plain
         },
         (NO_LOG | NO_MEMORY, _) => plain,
-        _ => of_files(plain, files),
+        _ => of_kept(plain, files),
     }
 }
 
@@ -151,6 +176,17 @@ fn accept_error(posts: &[RealPost<HostRuntime>]) -> Option<io::Error> {
         }
     }
     None
+}
+
+/// A complaint about the kept file that was asked for last, or about the real one that a call failed of.
+fn of_kept<'a>(plain: Complaint<'a>, files: &'a RunFiles) -> Complaint<'a> {
+    match plain.status {
+        NO_READING | NO_REPLACING => of_files(plain, files.under()),
+        _ => Complaint {
+            path: files.last_path(),
+            ..plain
+        },
+    }
 }
 
 /// A complaint about the file that was read or replaced last.
@@ -231,31 +267,28 @@ fn say(rt: &HostRuntime, alloc: Global, complaint: Complaint<'_>) {
 fn conclude_alone(
     rt: &HostRuntime,
     alloc: Global,
-    answer: Answer,
-    files: &RealFiles<HostRuntime>,
+    plain: Complaint<'_>,
+    about: Complaint<'_>,
 ) -> ExitCode {
-    let Answer { status, detail } = answer;
-    let plain = Complaint {
-        status,
-        detail,
-        path: None,
-        cause: None,
-    };
-    match (status, detail) {
+    match (plain.status, plain.detail) {
         (0, Detail::Nothing) => {}
         (NO_MEMORY | 11 | 12 | 15, _) => say(rt, alloc, plain),
-        _ => say(rt, alloc, of_files(plain, files)),
+        _ => say(rt, alloc, about),
     }
-    ExitCode::from(status)
+    ExitCode::from(plain.status)
 }
 
-/// Does what the words ask for, where that takes no threads.
-fn answer_alone(
+/// Does what the words ask for over real files, where that is to read a log, which may have any length.
+fn answer_of_log(
     rt: HostRuntime,
     alloc: Global,
     words: &[Word],
     information: &Hooks,
 ) -> Option<ExitCode> {
+    match words {
+        [mode, ..] if mode.as_str() == "audit" || mode.as_str() == "recover" => {}
+        _ => return None,
+    }
     let mut sides = Sides {
         files: RealFiles::new(rt, alloc),
         ends: RealEnds::new(rt.stdin(), rt.stdout()),
@@ -264,7 +297,24 @@ fn answer_alone(
     if answer.status == NO_COMMAND {
         return Some(refuse(&rt, alloc, words));
     }
-    let status = conclude_alone(&rt, alloc, answer, &sides.files);
+    let about = of_files(Complaint::of(answer), &sides.files);
+    Some(conclude_alone(&rt, alloc, Complaint::of(answer), about))
+}
+
+/// Does what the words ask for, where that takes no threads and reads no log.
+fn answer_alone<E: Stream>(
+    rt: HostRuntime,
+    alloc: Global,
+    words: &[Word],
+    sides: &mut Sides<RunFiles, E>,
+    information: &Hooks,
+) -> Option<ExitCode> {
+    let answer = run_alone(alloc, words, sides, information)?;
+    if answer.status == NO_COMMAND {
+        return Some(refuse(&rt, alloc, words));
+    }
+    let about = of_kept(Complaint::of(answer), &sides.files);
+    let status = conclude_alone(&rt, alloc, Complaint::of(answer), about);
     say_lacks(&rt, alloc, &mut sides.files, words, answer.status);
     Some(status)
 }
@@ -289,14 +339,25 @@ fn main(rt: HostRuntime) -> ExitCode {
         Ok(logs) => logs,
         Err(error) => return complain(&rt, error.complaint(&words)),
     };
-    if let Some(status) = answer_alone(rt, alloc, &words, &information) {
+    if let Some(status) = answer_of_log(rt, alloc, &words, &information) {
         return status;
     }
-    let world = World {
-        files: RealFiles::new(rt, alloc),
-        site: site_of(rt, alloc, &words),
-        log,
+    let Ok(files) = files_of(rt, alloc, &words) else {
+        return complain(&rt, Complaint::plain(NO_MEMORY));
+    };
+    let mut sides = Sides {
+        files,
         ends: RealEnds::new(rt.stdin(), rt.stdout()),
+    };
+    if let Some(status) = answer_alone(rt, alloc, &words, &mut sides, &information) {
+        return status;
+    }
+    let site = site_of(rt, alloc, &words, &mut sides.files);
+    let world = World {
+        files: sides.files,
+        site,
+        log,
+        ends: sides.ends,
     };
     let Ended { said, world } = otplogd(&rt, alloc, &words, world, &information);
     let answer = Answer {

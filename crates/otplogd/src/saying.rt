@@ -2,17 +2,21 @@
 
 use crate::durable::prompt_stderr;
 use messages::{Complaint, RunCounts, RunFaults, complaint_text, notice_text};
-use outside::Word;
-use outside_real::{LogStderr, Notice, RealFiles};
+use outside::{Files, Word};
+use outside_real::{LogStderr, Notice};
 use std::alloc::Global;
 use std::io;
 use std::io::Write;
 
 /// What a run with a durable log says once it listens by the setup of this name. `None`: the setup isn't
-/// right, or is no file that can be read a second time.
-pub(crate) fn notice_of(rt: HostRuntime, alloc: Global, name: &Word) -> Option<Notice> {
-    let mut files = RealFiles::new(rt, alloc);
-    let text = notice_text(&rt, alloc, &mut files, name)?;
+/// right, or there isn't the memory.
+pub(crate) fn notice_of<F: Files>(
+    rt: HostRuntime,
+    alloc: Global,
+    files: &mut F,
+    name: &Word,
+) -> Option<Notice> {
+    let text = notice_text(alloc, files, name)?;
     Some(Notice {
         stderr: prompt_stderr(rt, alloc),
         text,

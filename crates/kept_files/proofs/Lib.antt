@@ -1,0 +1,4 @@
+pub mod KeptLemmas
+mod Putting
+mod Replacing
+pub mod SetupLemmas
