@@ -1,6 +1,7 @@
 ghost use Rattle.std.specs.Prelude.{◌≡◌, ◌<◌, All, IfOk, length};
 ghost use Rattle.session_core.specs.Replayed.{IsStepOf};
 
+use super::asked::holds;
 use otp_extended::parts_with;
 use otp_hash::{Algo, Seed, step};
 use policy_model::{
@@ -9,9 +10,8 @@ use policy_model::{
 };
 use request_catalogue::{Label, Name, Note};
 use session_core::*;
-use std::alloc::Global;
-use std::str::SplitWhitespace;
-use std::test::*;
+use std::alloc::{AllocError, Global};
+use std::test::Fail;
 
 /// The password 0 of `This is a test.` with the seed `test` by MD5, and the one before it (RFC
 /// 2289, appendix C).
@@ -19,285 +19,285 @@ const LAST: u64 = 0x9E87_6134_D904_99DD;
 
 const STORED: u64 = 0x7965_E054_36F5_029F;
 
-/// Each line is a worker, the session of its event, an ask, and what has to be decided on it.
-const TAKEOVER: &str = "
-    0 1 open permit 1
-    1 2 open permit 2
-    0 1 challenge alice 1000 permit 0
-    1 2 challenge alice 30999 deny 12 1
-    1 2 challenge alice 31000 permit 0
-    0 1 reply last deny 13 2
-    1 2 reply last permit last";
+/// An ask, with what differs from line to line.
+#[derive(Clone, Copy)]
+enum Asked {
+    Open,
+    Banner,
+    Challenge(&'static str, u64),
+    /// A reply whose hexadecimal digits are this password.
+    Reply(u64),
+    /// A reply that reads neither as words nor as digits.
+    Unread,
+    Abandon,
+    Export,
+    Import,
+    Grant(u8, &'static str),
+    Close(u32),
+    Info(u32),
+    Bad(u8, u32),
+    Read(u32),
+    Write(u32),
+    Note,
+    Finish,
+    End,
+    /// An end by the violation of a rule.
+    Violation(u8),
+}
 
-const TAKEOVER_LATE: &str = "
-    0 1 open permit 1
-    1 2 open permit 2
-    0 1 challenge alice 1000 permit 0
-    1 2 challenge alice 30999 deny 12 1
-    1 2 challenge alice 31000 permit 0
-    1 2 reply last permit last
-    0 1 reply last deny 13 2";
+/// What is decided: a permit with its value, a denial with its rule and detail.
+#[derive(Clone, Copy)]
+enum Said {
+    Permit(u64),
+    Deny(u8, u32),
+}
+
+/// A worker, the session of its event, an ask, and what has to be decided on it.
+type Line = (u32, u32, Asked, Said);
+
+const TAKEOVER: &[Line] = &[
+    (0, 1, Asked::Open, Said::Permit(1)),
+    (1, 2, Asked::Open, Said::Permit(2)),
+    (0, 1, Asked::Challenge("alice", 1000), Said::Permit(0)),
+    (1, 2, Asked::Challenge("alice", 30999), Said::Deny(12, 1)),
+    (1, 2, Asked::Challenge("alice", 31000), Said::Permit(0)),
+    (0, 1, Asked::Reply(LAST), Said::Deny(13, 2)),
+    (1, 2, Asked::Reply(LAST), Said::Permit(LAST)),
+];
+
+const TAKEOVER_LATE: &[Line] = &[
+    (0, 1, Asked::Open, Said::Permit(1)),
+    (1, 2, Asked::Open, Said::Permit(2)),
+    (0, 1, Asked::Challenge("alice", 1000), Said::Permit(0)),
+    (1, 2, Asked::Challenge("alice", 30999), Said::Deny(12, 1)),
+    (1, 2, Asked::Challenge("alice", 31000), Said::Permit(0)),
+    (1, 2, Asked::Reply(LAST), Said::Permit(LAST)),
+    (0, 1, Asked::Reply(LAST), Said::Deny(13, 2)),
+];
 
 /// After a takeover each kind of ask of the session that lost the user: none gives up or ends what the
 /// other session holds.
-const BEHIND_A_TAKEOVER: &str = "
-    0 1 open permit 1
-    1 2 open permit 2
-    0 1 challenge alice 1000 permit 0
-    1 2 challenge alice 31000 permit 0
-    0 1 note permit 0
-    0 1 write 0 permit 0
-    0 1 banner permit 0
-    0 1 abandon permit 0
-    0 1 end permit 0
-    0 3 open permit 3
-    0 3 challenge alice 31001 deny 12 2
-    1 2 end permit 0
-    0 3 challenge alice 31001 permit 0
-    0 3 finish permit 0
-    1 4 open permit 4
-    1 4 challenge alice 31001 permit 0
-    1 4 reply last permit last";
+const BEHIND_A_TAKEOVER: &[Line] = &[
+    (0, 1, Asked::Open, Said::Permit(1)),
+    (1, 2, Asked::Open, Said::Permit(2)),
+    (0, 1, Asked::Challenge("alice", 1000), Said::Permit(0)),
+    (1, 2, Asked::Challenge("alice", 31000), Said::Permit(0)),
+    (0, 1, Asked::Note, Said::Permit(0)),
+    (0, 1, Asked::Write(0), Said::Permit(0)),
+    (0, 1, Asked::Banner, Said::Permit(0)),
+    (0, 1, Asked::Abandon, Said::Permit(0)),
+    (0, 1, Asked::End, Said::Permit(0)),
+    (0, 3, Asked::Open, Said::Permit(3)),
+    (0, 3, Asked::Challenge("alice", 31001), Said::Deny(12, 2)),
+    (1, 2, Asked::End, Said::Permit(0)),
+    (0, 3, Asked::Challenge("alice", 31001), Said::Permit(0)),
+    (0, 3, Asked::Finish, Said::Permit(0)),
+    (1, 4, Asked::Open, Said::Permit(4)),
+    (1, 4, Asked::Challenge("alice", 31001), Said::Permit(0)),
+    (1, 4, Asked::Reply(LAST), Said::Permit(LAST)),
+];
 
-const LAST_PASSWORD: &str = "
-    0 1 open permit 1
-    0 1 challenge bob 1000 permit 10802
-    0 1 abandon permit 0
-    0 1 challenge alice 1000 permit 0
-    0 1 reply last permit last
-    0 1 finish permit 0
-    0 1 end permit 0
-    0 2 open permit 2
-    0 2 challenge alice 90000 permit 10532
-    0 2 reply last deny 16 0";
+const LAST_PASSWORD: &[Line] = &[
+    (0, 1, Asked::Open, Said::Permit(1)),
+    (0, 1, Asked::Challenge("bob", 1000), Said::Permit(10802)),
+    (0, 1, Asked::Abandon, Said::Permit(0)),
+    (0, 1, Asked::Challenge("alice", 1000), Said::Permit(0)),
+    (0, 1, Asked::Reply(LAST), Said::Permit(LAST)),
+    (0, 1, Asked::Finish, Said::Permit(0)),
+    (0, 1, Asked::End, Said::Permit(0)),
+    (0, 2, Asked::Open, Said::Permit(2)),
+    (0, 2, Asked::Challenge("alice", 90000), Said::Permit(10532)),
+    (0, 2, Asked::Reply(LAST), Said::Deny(16, 0)),
+];
 
 /// A violation leaves what the session held.
-const EARLY_EXPORT: &str = "
-    0 1 open permit 1
-    1 2 open permit 2
-    0 1 challenge alice 1000 permit 0
-    0 1 export deny 6 5
-    1 2 challenge alice 1000 permit 0
-    0 1 violation 6 permit 0
-    1 2 reply last permit last";
+const EARLY_EXPORT: &[Line] = &[
+    (0, 1, Asked::Open, Said::Permit(1)),
+    (1, 2, Asked::Open, Said::Permit(2)),
+    (0, 1, Asked::Challenge("alice", 1000), Said::Permit(0)),
+    (0, 1, Asked::Export, Said::Deny(6, 5)),
+    (1, 2, Asked::Challenge("alice", 1000), Said::Permit(0)),
+    (0, 1, Asked::Violation(6), Said::Permit(0)),
+    (1, 2, Asked::Reply(LAST), Said::Permit(LAST)),
+];
 
-const EARLY_REPLY: &str = "
-    0 1 open permit 1
-    0 1 reply last deny 6 3
-    0 1 write 0 deny 6 8
-    0 1 violation 6 permit 0";
+const EARLY_REPLY: &[Line] = &[
+    (0, 1, Asked::Open, Said::Permit(1)),
+    (0, 1, Asked::Reply(LAST), Said::Deny(6, 3)),
+    (0, 1, Asked::Write(0), Said::Deny(6, 8)),
+    (0, 1, Asked::Violation(6), Said::Permit(0)),
+];
 
-const TWO_BANNERS: &str = "
-    0 1 open permit 1
-    0 1 banner permit 0
-    0 1 banner deny 7 1
-    0 1 end permit 0
-    0 2 open permit 2
-    0 2 banner permit 0";
+const TWO_BANNERS: &[Line] = &[
+    (0, 1, Asked::Open, Said::Permit(1)),
+    (0, 1, Asked::Banner, Said::Permit(0)),
+    (0, 1, Asked::Banner, Said::Deny(7, 1)),
+    (0, 1, Asked::End, Said::Permit(0)),
+    (0, 2, Asked::Open, Said::Permit(2)),
+    (0, 2, Asked::Banner, Said::Permit(0)),
+];
 
-const TWO_IMPORTS: &str = "
-    0 1 open permit 1
-    0 1 challenge alice 1000 permit 0
-    0 1 reply last permit last
-    0 1 export permit 0
-    0 1 info 1 permit 0
-    0 1 info 2 deny 22 2
-    0 1 import permit 0
-    0 1 import deny 7 6";
+const TWO_IMPORTS: &[Line] = &[
+    (0, 1, Asked::Open, Said::Permit(1)),
+    (0, 1, Asked::Challenge("alice", 1000), Said::Permit(0)),
+    (0, 1, Asked::Reply(LAST), Said::Permit(LAST)),
+    (0, 1, Asked::Export, Said::Permit(0)),
+    (0, 1, Asked::Info(1), Said::Permit(0)),
+    (0, 1, Asked::Info(2), Said::Deny(22, 2)),
+    (0, 1, Asked::Import, Said::Permit(0)),
+    (0, 1, Asked::Import, Said::Deny(7, 6)),
+];
 
-const TWO_EXPORTS: &str = "
-    0 1 open permit 1
-    0 1 challenge alice 1000 permit 0
-    0 1 reply last permit last
-    0 1 export permit 0
-    0 1 export deny 6 5";
+const TWO_EXPORTS: &[Line] = &[
+    (0, 1, Asked::Open, Said::Permit(1)),
+    (0, 1, Asked::Challenge("alice", 1000), Said::Permit(0)),
+    (0, 1, Asked::Reply(LAST), Said::Permit(LAST)),
+    (0, 1, Asked::Export, Said::Permit(0)),
+    (0, 1, Asked::Export, Said::Deny(6, 5)),
+];
 
-const DENIED_REPLIES: &str = "
-    0 1 open permit 1
-    0 1 challenge alice 1000 permit 0
-    0 1 unread deny 14 0
-    0 1 challenge alice 1000 permit 0
-    0 1 reply stored deny 15 0
-    0 1 challenge alice 1000 permit 0
-    0 1 reply 0 deny 16 0
-    0 1 challenge alice 1000 deny 8 3";
+const DENIED_REPLIES: &[Line] = &[
+    (0, 1, Asked::Open, Said::Permit(1)),
+    (0, 1, Asked::Challenge("alice", 1000), Said::Permit(0)),
+    (0, 1, Asked::Unread, Said::Deny(14, 0)),
+    (0, 1, Asked::Challenge("alice", 1000), Said::Permit(0)),
+    (0, 1, Asked::Reply(STORED), Said::Deny(15, 0)),
+    (0, 1, Asked::Challenge("alice", 1000), Said::Permit(0)),
+    (0, 1, Asked::Reply(0), Said::Deny(16, 0)),
+    (0, 1, Asked::Challenge("alice", 1000), Said::Deny(8, 3)),
+];
 
-const HANDLES: &str = "
-    0 1 open permit 1
-    0 1 challenge alice 1000 permit 0
-    0 1 reply last permit last
-    0 1 export permit 0
-    0 1 grant 1 f1 permit 1
-    0 1 grant 1 f2 permit 2
-    0 1 close 1 permit 0
-    0 1 grant 1 f3 permit 1
-    0 1 read 1 permit 0
-    0 1 read 3 deny 17 3
-    0 1 write 2 deny 18 2
-    0 1 grant 1 g deny 20 0
-    0 1 grant 2 f1 deny 21 2";
+const HANDLES: &[Line] = &[
+    (0, 1, Asked::Open, Said::Permit(1)),
+    (0, 1, Asked::Challenge("alice", 1000), Said::Permit(0)),
+    (0, 1, Asked::Reply(LAST), Said::Permit(LAST)),
+    (0, 1, Asked::Export, Said::Permit(0)),
+    (0, 1, Asked::Grant(1, "f1"), Said::Permit(1)),
+    (0, 1, Asked::Grant(1, "f2"), Said::Permit(2)),
+    (0, 1, Asked::Close(1), Said::Permit(0)),
+    (0, 1, Asked::Grant(1, "f3"), Said::Permit(1)),
+    (0, 1, Asked::Read(1), Said::Permit(0)),
+    (0, 1, Asked::Read(3), Said::Deny(17, 3)),
+    (0, 1, Asked::Write(2), Said::Deny(18, 2)),
+    (0, 1, Asked::Grant(1, "g"), Said::Deny(20, 0)),
+    (0, 1, Asked::Grant(2, "f1"), Said::Deny(21, 2)),
+];
 
 /// Two openings of one worker, and an end and a request without a session.
-const OPENINGS_AND_ENDS: &str = "
-    0 0 end deny 6 0
-    0 0 finish deny 6 13
-    0 1 open permit 1
-    1 2 open permit 2
-    1 2 bad 2 1 deny 2 1
-    1 2 bad 2 1 deny 6 0
-    0 1 open deny 6 0
-    0 1 note deny 6 12
-    0 1 violation 6 permit 0
-    0 0 end deny 6 0
-    0 3 open permit 3";
+const OPENINGS_AND_ENDS: &[Line] = &[
+    (0, 0, Asked::End, Said::Deny(6, 0)),
+    (0, 0, Asked::Finish, Said::Deny(6, 13)),
+    (0, 1, Asked::Open, Said::Permit(1)),
+    (1, 2, Asked::Open, Said::Permit(2)),
+    (1, 2, Asked::Bad(2, 1), Said::Deny(2, 1)),
+    (1, 2, Asked::Bad(2, 1), Said::Deny(6, 0)),
+    (0, 1, Asked::Open, Said::Deny(6, 0)),
+    (0, 1, Asked::Note, Said::Deny(6, 12)),
+    (0, 1, Asked::Violation(6), Said::Permit(0)),
+    (0, 0, Asked::End, Said::Deny(6, 0)),
+    (0, 3, Asked::Open, Said::Permit(3)),
+];
 
-/// The next word of a line.
-fn word<'a>(words: &mut SplitWhitespace<'a>) -> Result<&'a str, Fail> {
-    Ok(words.next().ok_or("a word")?)
-}
-
-/// The next word as a number, or a password by its name.
-fn number(words: &mut SplitWhitespace<'_>) -> Result<u64, Fail> {
-    match word(words)? {
-        "last" => Ok(LAST),
-        "stored" => Ok(STORED),
-        text => Ok(text.parse::<u64>().map_err(|_| "a number")?),
+/// The ask before a login.
+fn early_ask(asked: Asked) -> Option<Ask> {
+    match asked {
+        Asked::Open => Some(Ask::Begin),
+        Asked::Banner => Some(Ask::Banner),
+        Asked::Challenge(user, now) => Some(Ask::Challenge {
+            user: Name::of(user.as_bytes())?,
+            now,
+        }),
+        Asked::Reply(password) => Some(Ask::Reply {
+            words: None,
+            hex: Some(password),
+        }),
+        Asked::Unread => Some(Ask::Reply {
+            words: None,
+            hex: None,
+        }),
+        Asked::Abandon => Some(Ask::Abandon),
+        Asked::Export => Some(Ask::Export { len: 21 }),
+        _ => late_ask(asked),
     }
 }
 
-/// The next word as a number of 32 bits.
-fn small(words: &mut SplitWhitespace<'_>) -> Result<u32, Fail> {
-    Ok(word(words)?.parse::<u32>().map_err(|_| "a number")?)
-}
-
-/// The next word as a number of 8 bits.
-fn tiny(words: &mut SplitWhitespace<'_>) -> Result<u8, Fail> {
-    Ok(word(words)?.parse::<u8>().map_err(|_| "a number")?)
-}
-
-fn name(text: &str) -> Result<Name, Fail> {
-    Ok(Name::of(text.as_bytes()).ok_or("a name")?)
-}
-
-fn label(text: &str) -> Result<Label, Fail> {
-    Ok(Label::of(text.as_bytes()).ok_or("a label")?)
-}
-
-/// An ask before the login.
-fn early_ask(kind: &str, words: &mut SplitWhitespace<'_>) -> Result<Ask, Fail> {
-    Ok(match kind {
-        "open" => Ask::Begin,
-        "banner" => Ask::Banner,
-        "challenge" => Ask::Challenge {
-            user: name(word(words)?)?,
-            now: number(words)?,
-        },
-        "reply" => Ask::Reply {
-            words: None,
-            hex: Some(number(words)?),
-        },
-        "unread" => Ask::Reply {
-            words: None,
-            hex: None,
-        },
-        "abandon" => Ask::Abandon,
-        "export" => Ask::Export { len: 21 },
-        _ => late_ask(kind, words)?,
-    })
-}
-
-/// An ask of a user's child, a bad frame or an end.
-fn late_ask(kind: &str, words: &mut SplitWhitespace<'_>) -> Result<Ask, Fail> {
-    Ok(match kind {
-        "import" => Ask::Import,
-        "grant" => Ask::OpenFile {
-            mode: tiny(words)?,
-            name: label(word(words)?)?,
-        },
-        "close" => Ask::CloseFile {
-            handle: small(words)?,
-        },
-        "info" => Ask::Info {
-            number: small(words)?,
-        },
-        "bad" => Ask::Bad {
-            rule: tiny(words)?,
-            detail: small(words)?,
-        },
-        "violation" => Ask::End {
-            why: Why::Violation { rule: tiny(words)? },
-        },
-        _ => any_ask(kind, words)?,
-    })
+/// The ask of a user's child, and a bad frame.
+fn late_ask(asked: Asked) -> Option<Ask> {
+    match asked {
+        Asked::Import => Some(Ask::Import),
+        Asked::Grant(mode, name) => Some(Ask::OpenFile {
+            mode,
+            name: Label::of(name.as_bytes())?,
+        }),
+        Asked::Close(handle) => Some(Ask::CloseFile { handle }),
+        Asked::Info(number) => Some(Ask::Info { number }),
+        Asked::Bad(rule, detail) => Some(Ask::Bad { rule, detail }),
+        Asked::Read(handle) => Some(Ask::ReadAt {
+            handle,
+            offset: 0,
+            max: 1,
+        }),
+        Asked::Write(handle) => Some(Ask::WriteAt {
+            handle,
+            offset: 0,
+            len: 1,
+        }),
+        _ => any_ask(asked),
+    }
 }
 
 /// An ask that each phase permits, and an end.
-fn any_ask(kind: &str, words: &mut SplitWhitespace<'_>) -> Result<Ask, Fail> {
-    Ok(match kind {
-        "read" => Ask::ReadAt {
-            handle: small(words)?,
-            offset: 0,
-            max: 1,
-        },
-        "write" => Ask::WriteAt {
-            handle: small(words)?,
-            offset: 0,
-            len: 1,
-        },
-        "note" => Ask::Note {
-            text: Note::of(b"a").ok_or("a note")?,
-        },
-        "finish" => Ask::Finish,
-        _ => Ask::End { why: Why::Finished },
-    })
+fn any_ask(asked: Asked) -> Option<Ask> {
+    match asked {
+        Asked::Note => Some(Ask::Note {
+            text: Note::of(b"a")?,
+        }),
+        Asked::Finish => Some(Ask::Finish),
+        Asked::Violation(rule) => Some(Ask::End {
+            why: Why::Violation { rule },
+        }),
+        _ => Some(Ask::End { why: Why::Finished }),
+    }
 }
 
-/// The decision at the end of a line.
-fn decision(words: &mut SplitWhitespace<'_>) -> Result<Decision, Fail> {
-    match word(words)? {
-        "permit" => Ok(Decision::Permit {
-            value: number(words)?,
-        }),
-        _ => Ok(Decision::Deny {
-            rule: tiny(words)?,
-            detail: small(words)?,
-        }),
+/// The decision that this says.
+fn decision_of(said: Said) -> Decision {
+    match said {
+        Said::Permit(value) => Decision::Permit { value },
+        Said::Deny(rule, detail) => Decision::Deny { rule, detail },
     }
 }
 
 /// The event of a line.
-fn event(line: &str) -> Result<Event, Fail> {
-    let mut words = line.split_whitespace();
-    let worker = small(&mut words)?;
-    let session = small(&mut words)?;
-    let kind = word(&mut words)?;
-    let ask = early_ask(kind, &mut words)?;
-    let decision = decision(&mut words)?;
-    Ok(Event {
+fn event_of(line: &Line) -> Option<Event> {
+    let (worker, session, asked, said) = *line;
+    Some(Event {
         worker,
         session,
-        ask,
-        decision,
+        ask: early_ask(asked)?,
+        decision: decision_of(said),
     })
 }
 
-/// The events of a table.
-fn events_of(alloc: Global, text: &str) -> Result<Vec<Event>, Fail> {
+/// The events of a table, or none where a line has none.
+fn events_of(alloc: Global, lines: &[Line]) -> Result<Vec<Event>, AllocError> {
     let mut events = Vec::new(alloc);
-    for line in text.trim().lines() {
-        events.push(event(line)?)?;
+    for line in lines {
+        if let Some(event) = event_of(line) {
+            events.push(event)?;
+        }
     }
     Ok(events)
 }
 
-/// The steps of events.
-fn steps_of(alloc: Global, setup: &Setup, events: &[Event]) -> Result<Vec<Step>, Fail>
+/// The steps of events, up to one whose worker there isn't.
+fn steps_of(alloc: Global, setup: &Setup, events: &[Event]) -> Result<Vec<Step>, AllocError>
     ensures { IfOk result (λ steps. All (IsStepOf setup.now) steps.items) }
 {
     let mut steps = Vec::new(alloc);
     for event in events {
         if event.worker >= setup.parts().workers {
-            return Err(Fail::from("a worker"));
+            return Ok(steps);
         }
         steps.push(Step {
             worker: event.worker,
@@ -319,115 +319,197 @@ fn are_same(journal: &[Event], other: &[Event]) -> bool {
     others.next().is_none()
 }
 
-/// Whether the steps of a table's events give these events.
-fn replays(alloc: Global, setup: &Setup, text: &str) -> Result<bool, Fail> {
-    let wanted = events_of(alloc, text)?;
-    let steps = steps_of(alloc, setup, wanted.as_slice())?;
-    if steps.len() > 1000 {
-        return Err(Fail::from("few steps"));
+/// Whether a journal was given, and is this one.
+fn is_given(made: &Result<Vec<Event>, AllocError>, wanted: &[Event]) -> bool {
+    match made {
+        Ok(journal) => are_same(journal.as_slice(), wanted),
+        Err(_) => false,
     }
-    let journal = replay(alloc, setup, steps.as_slice())?;
-    Ok(are_same(journal.as_slice(), wanted.as_slice()))
 }
 
+/// Whether at most 1,000 steps give these events.
+fn give(alloc: Global, setup: &Setup, steps: &[Step], wanted: &[Event]) -> bool
+    requires { All (IsStepOf setup.now) steps.now }
+{
+    steps.len() <= 1000 && is_given(&replay(alloc, setup, steps), wanted)
+}
+
+/// Whether the steps of events give these events.
+fn events_replay(alloc: Global, setup: &Setup, wanted: &[Event]) -> Result<bool, AllocError> {
+    let steps = steps_of(alloc, setup, wanted)?;
+    Ok(give(alloc, setup, steps.as_slice(), wanted))
+}
+
+/// Whether these are the events of all lines, and their steps give them.
+fn all_replay(
+    alloc: Global,
+    setup: &Setup,
+    wanted: &[Event],
+    count: usize,
+) -> Result<bool, AllocError> {
+    Ok(wanted.len() == count && events_replay(alloc, setup, wanted)?)
+}
+
+/// Whether the steps of a table's events give these events.
+fn replays(alloc: Global, setup: &Setup, lines: &[Line]) -> Result<bool, AllocError> {
+    all_replay(alloc, setup, &events_of(alloc, lines)?, lines.len())
+}
+
+/// The files that each user is granted.
+const FILES: &[&str] = &["f1", "f2", "f3"];
+
 /// Grants of mode 1 for these files.
-fn grants(alloc: Global, text: &str) -> Result<Grants, Fail> {
+fn grants(alloc: Global) -> Result<Grants, AllocError> {
     let mut items = Vec::new(alloc);
-    for file in text.split_whitespace() {
-        items.push(Grant {
-            name: label(file)?,
-            mode: 1,
-        })?;
+    for name in FILES {
+        if let Some(name) = Label::of(name.as_bytes()) {
+            items.push(Grant { name, mode: 1 })?;
+        }
     }
     Ok(Grants::of(items))
 }
 
-/// An account with the seed `test`.
-fn account(
-    alloc: Global,
-    user: &str,
+/// A user with a chain by MD5 of the seed `test`.
+#[derive(Clone, Copy)]
+struct User {
+    name: &'static str,
     uid: u32,
     sequence: u16,
     password: u64,
-) -> Result<Account, Fail> {
+}
+
+/// The account of a user with this name and seed.
+fn account_of(alloc: Global, user: &User, name: Name, seed: Seed) -> Result<Account, AllocError> {
     Ok(Account {
-        name: name(user)?,
-        uid,
+        name,
+        uid: user.uid,
         algo: Algo::Md5,
-        seed: Seed::of(b"test").ok_or("a seed")?,
-        sequence,
-        password,
+        seed,
+        sequence: user.sequence,
+        password: user.password,
         enabled: true,
-        grants: grants(alloc, "f1 f2 f3")?,
+        grants: grants(alloc)?,
     })
 }
 
-/// A setup with these workers and accounts, and the information number 1, by the parts of another.
-fn setup_with(
+/// The accounts of users.
+fn accounts_of(alloc: Global, users: &[User]) -> Result<Accounts, AllocError> {
+    let mut accounts = Vec::new(alloc);
+    for user in users {
+        if let (Some(name), Some(seed)) = (Name::of(user.name.as_bytes()), Seed::of(b"test")) {
+            accounts.push(account_of(alloc, user, name, seed)?)?;
+        }
+    }
+    Ok(Accounts::of(accounts))
+}
+
+/// The parts of a setup with these workers and users, and the information number 1, by those of another.
+fn parts_of(
     alloc: Global,
     parts: &SetupParts,
     workers: u32,
-    accounts: Accounts,
-) -> Result<Setup, Fail> {
-    let mut info = Vec::new(alloc);
-    info.push(1)?;
+    users: &[User],
+) -> Result<SetupParts, AllocError> {
+    let info = Numbers::of(vec![in alloc; 1]?);
+    let accounts = accounts_of(alloc, users)?;
     let mut parts = parts_with(alloc, parts, accounts)?;
     parts.workers = workers;
-    parts.info = Numbers::of(info);
-    Ok(Setup::of(parts).ok().ok_or("in range")?)
+    parts.info = info;
+    Ok(parts)
 }
 
-/// A setup with these workers and accounts.
-fn setup_of(alloc: Global, workers: u32, accounts: Vec<Account>) -> Result<Setup, Fail> {
-    let plain = Setup::plain(alloc)?;
-    setup_with(alloc, plain.parts(), workers, Accounts::of(accounts))
-}
-
-/// Two workers and the one account `alice`.
-fn one_account(alloc: Global) -> Result<Setup, Fail> {
-    let mut accounts = Vec::new(alloc);
-    accounts.push(account(alloc, "alice", 1000, 1, STORED)?)?;
-    setup_of(alloc, 2, accounts)
-}
+/// The user with the last password of a chain.
+const ALICE: User = User {
+    name: "alice",
+    uid: 1000,
+    sequence: 1,
+    password: STORED,
+};
 
 /// Whether the core gives each journal back.
-fn all_replay(alloc: Global, setup: &Setup, texts: &[&str]) -> Result<bool, Fail> {
-    for text in texts {
-        if !replays(alloc, setup, text)? {
+fn tables_replay(alloc: Global, setup: &Setup, tables: &[&[Line]]) -> Result<bool, AllocError> {
+    for lines in tables {
+        if !replays(alloc, setup, lines)? {
             return Ok(false);
         }
     }
     Ok(true)
 }
 
-/// Whether it does so over the one account. That the setup is alive in no other function keeps the
-/// proofs short.
-fn replay_over_one_account(alloc: Global, texts: &[&str]) -> Result<bool, Fail> {
-    let setup = one_account(alloc)?;
-    all_replay(alloc, &setup, texts)
+/// What is asked over a setup.
+#[derive(Clone, Copy)]
+enum Asking<'a> {
+    /// Whether the core gives back the journal of each table.
+    Replay(&'a [&'a [Line]]),
+    /// Whether it gives what the plain judge gives, on replies with these passwords.
+    Judge(&'a [u64; 6]),
+}
+
+/// Whether that is so over a setup.
+fn is_so(alloc: Global, setup: &Setup, asking: Asking<'_>) -> Result<bool, AllocError> {
+    match asking {
+        Asking::Replay(tables) => tables_replay(alloc, setup, tables),
+        Asking::Judge(passwords) => is_judged_alike(alloc, setup, passwords),
+    }
+}
+
+/// Whether it is so over a setup that is in range.
+fn is_so_in(alloc: Global, made: &Option<Setup>, asking: Asking<'_>) -> Result<bool, AllocError> {
+    match made {
+        Some(setup) => is_so(alloc, setup, asking),
+        None => Ok(false),
+    }
+}
+
+/// Whether it is so over a setup with these workers and users, by the parts of another.
+fn is_so_by(
+    alloc: Global,
+    parts: &SetupParts,
+    workers: u32,
+    users: &[User],
+    asking: Asking<'_>,
+) -> Result<bool, AllocError> {
+    let made = Setup::of(parts_of(alloc, parts, workers, users)?).ok();
+    is_so_in(alloc, &made, asking)
+}
+
+/// Whether it is so over a setup with these workers and users.
+fn is_so_of(
+    alloc: Global,
+    workers: u32,
+    users: &[User],
+    asking: Asking<'_>,
+) -> Result<bool, AllocError> {
+    is_so_by(alloc, Setup::plain(alloc)?.parts(), workers, users, asking)
+}
+
+/// Whether the core gives each journal back over the one account of alice, with two workers.
+fn replay_over_alice(alloc: Global, tables: &[&[Line]]) -> Result<bool, AllocError> {
+    is_so_of(alloc, 2, &[ALICE], Asking::Replay(tables))
 }
 
 #[test]
 fn takeovers(rt: HostRuntime) -> Result<(), Fail> {
-    let texts = [TAKEOVER, TAKEOVER_LATE, BEHIND_A_TAKEOVER];
-    assert!(rt; replay_over_one_account(rt.alloc(), &texts)?);
-    Ok(())
+    let tables = [TAKEOVER, TAKEOVER_LATE, BEHIND_A_TAKEOVER];
+    holds(replay_over_alice(rt.alloc(), &tables)?)
 }
 
 #[test]
 fn phases(rt: HostRuntime) -> Result<(), Fail> {
-    let early = [EARLY_EXPORT, EARLY_REPLY];
-    assert!(rt; replay_over_one_account(rt.alloc(), &early)?);
-    let twice = [TWO_BANNERS, TWO_IMPORTS, TWO_EXPORTS];
-    assert!(rt; replay_over_one_account(rt.alloc(), &twice)?);
-    Ok(())
+    let tables = [
+        EARLY_EXPORT,
+        EARLY_REPLY,
+        TWO_BANNERS,
+        TWO_IMPORTS,
+        TWO_EXPORTS,
+    ];
+    holds(replay_over_alice(rt.alloc(), &tables)?)
 }
 
 #[test]
 fn logins_and_files(rt: HostRuntime) -> Result<(), Fail> {
-    let texts = [LAST_PASSWORD, DENIED_REPLIES, HANDLES, OPENINGS_AND_ENDS];
-    assert!(rt; replay_over_one_account(rt.alloc(), &texts)?);
-    Ok(())
+    let tables = [LAST_PASSWORD, DENIED_REPLIES, HANDLES, OPENINGS_AND_ENDS];
+    holds(replay_over_alice(rt.alloc(), &tables)?)
 }
 
 /// A password and its images by MD5, the first last: `chain[k]` hashes to `chain[k - 1]`.
@@ -456,17 +538,17 @@ fn draw(seed: &mut u32) -> u32 {
 }
 
 /// A user by a number: two that can log in, and one without an account.
-fn random_user(n: u32) -> Result<Name, Fail> {
+fn random_user(n: u32) -> Option<Name> {
     match n % 5 {
-        0 | 1 => name("alice"),
-        2 | 3 => name("bob"),
-        _ => name("carol"),
+        0 | 1 => Name::of(b"alice"),
+        2 | 3 => Name::of(b"bob"),
+        _ => Name::of(b"carol"),
     }
 }
 
 /// A CHALLENGE by a number.
-fn random_challenge(n: u32, now: u64) -> Result<Ask, Fail> {
-    Ok(Ask::Challenge {
+fn random_challenge(n: u32, now: u64) -> Option<Ask> {
+    Some(Ask::Challenge {
         user: random_user(n)?,
         now,
     })
@@ -481,37 +563,37 @@ fn random_reply(n: u32, passwords: &[u64; 6]) -> Ask {
 }
 
 /// A use of files by a number.
-fn random_use(n: u32) -> Result<Ask, Fail> {
-    Ok(match n % 6 {
-        0 | 1 => Ask::OpenFile {
+fn random_use(n: u32) -> Option<Ask> {
+    match n % 6 {
+        0 | 1 => Some(Ask::OpenFile {
             mode: 1,
-            name: label(if n / 6 % 2 == 0 { "f1" } else { "f2" })?,
-        },
-        2 => Ask::CloseFile { handle: n / 6 % 3 },
-        3 => Ask::ReadAt {
+            name: Label::of(if n / 6 % 2 == 0 { b"f1" } else { b"f2" })?,
+        }),
+        2 => Some(Ask::CloseFile { handle: n / 6 % 3 }),
+        3 => Some(Ask::ReadAt {
             handle: n / 6 % 3,
             offset: 0,
             max: 1,
-        },
-        4 => Ask::Info { number: 1 },
-        _ => Ask::Note {
-            text: Note::of(b"a").ok_or("a note")?,
-        },
-    })
+        }),
+        4 => Some(Ask::Info { number: 1 }),
+        _ => Some(Ask::Note {
+            text: Note::of(b"a")?,
+        }),
+    }
 }
 
 /// An ask by a number, whatever came before.
-fn random_ask(n: u32, now: u64, passwords: &[u64; 6]) -> Result<Ask, Fail> {
+fn random_ask(n: u32, now: u64, passwords: &[u64; 6]) -> Option<Ask> {
     match n % 10 {
-        0 => Ok(Ask::Begin),
-        1 => Ok(Ask::End { why: Why::Finished }),
-        2 => Ok(Ask::Banner),
-        3 => Ok(Ask::Abandon),
-        4 => Ok(Ask::Export { len: 21 }),
-        5 => Ok(Ask::Import),
-        6 => Ok(Ask::Finish),
+        0 => Some(Ask::Begin),
+        1 => Some(Ask::End { why: Why::Finished }),
+        2 => Some(Ask::Banner),
+        3 => Some(Ask::Abandon),
+        4 => Some(Ask::Export { len: 21 }),
+        5 => Some(Ask::Import),
+        6 => Some(Ask::Finish),
         7 => random_challenge(n / 10, now),
-        8 => Ok(random_reply(n / 10, passwords)),
+        8 => Some(random_reply(n / 10, passwords)),
         _ => random_use(n / 10),
     }
 }
@@ -522,14 +604,14 @@ fn is_last(event: &Event) -> bool {
 }
 
 /// An ask by a number that a child would make after an event of its session.
-fn likely_ask(last: &Event, n: u32, now: u64, passwords: &[u64; 6]) -> Result<Ask, Fail> {
+fn likely_ask(last: &Event, n: u32, now: u64, passwords: &[u64; 6]) -> Option<Ask> {
     let permitted = last.decision.is_permit();
     match last.ask {
-        Ask::End { .. } => Ok(Ask::Begin),
-        _ if is_last(last) => Ok(Ask::End { why: Why::Finished }),
+        Ask::End { .. } => Some(Ask::Begin),
+        _ if is_last(last) => Some(Ask::End { why: Why::Finished }),
         Ask::Begin | Ask::Banner | Ask::Abandon => random_challenge(n, now),
-        Ask::Challenge { .. } if permitted => Ok(random_reply(n, passwords)),
-        Ask::Reply { .. } if permitted => Ok(Ask::Export { len: 21 }),
+        Ask::Challenge { .. } if permitted => Some(random_reply(n, passwords)),
+        Ask::Reply { .. } if permitted => Some(Ask::Export { len: 21 }),
         Ask::Reply { .. } => random_challenge(n, now),
         _ => random_use(n),
     }
@@ -546,24 +628,44 @@ fn last_of(journal: &[Event], worker: u32) -> Event {
     last
 }
 
+/// An ask by draws, of which every fourth is any and the others are likely ones.
+fn drawn_ask(last: &Event, seed: &mut u32, now: u64, passwords: &[u64; 6]) -> Option<Ask> {
+    if draw(seed) % 4 == 0 {
+        random_ask(draw(seed), now, passwords)
+    } else {
+        likely_ask(last, draw(seed), now, passwords)
+    }
+}
+
+/// The next event that the plain judge gives, of one of four workers.
+fn drawn_event(
+    setup: &Setup,
+    journal: &[Event],
+    seed: &mut u32,
+    now: u64,
+    passwords: &[u64; 6],
+) -> Option<Event> {
+    if journal.len() > 1000 {
+        return None;
+    }
+    let worker = draw(seed) % 4;
+    let ask = drawn_ask(&last_of(journal, worker), seed, now, passwords)?;
+    let given = judge(setup, journal, worker, &ask);
+    Some(event_after(journal, worker, &ask, &given))
+}
+
+/// How many events are drawn.
+const EVENTS: u64 = 400;
+
 /// Events that the plain judge gives, of four workers.
-fn judged(alloc: Global, setup: &Setup, passwords: &[u64; 6]) -> Result<Vec<Event>, Fail> {
+fn judged(alloc: Global, setup: &Setup, passwords: &[u64; 6]) -> Result<Vec<Event>, AllocError> {
     let mut journal: Vec<Event> = Vec::new(alloc);
     let mut seed: u32 = 1;
-    for place in 0..400 {
-        let worker = draw(&mut seed) % 4;
-        let last = last_of(journal.as_slice(), worker);
+    for place in 0..EVENTS {
         let now = place * 1000;
-        let ask = if draw(&mut seed) % 4 == 0 {
-            random_ask(draw(&mut seed), now, passwords)?
-        } else {
-            likely_ask(&last, draw(&mut seed), now, passwords)?
-        };
-        if journal.len() > 1000 {
-            return Err(Fail::from("few events"));
+        if let Some(event) = drawn_event(setup, journal.as_slice(), &mut seed, now, passwords) {
+            journal.push(event)?;
         }
-        let given = judge(setup, journal.as_slice(), worker, &ask);
-        journal.push(event_after(journal.as_slice(), worker, &ask, &given))?;
     }
     Ok(journal)
 }
@@ -579,34 +681,44 @@ fn logins(journal: &[Event]) -> u32 {
     count
 }
 
-/// A setup with four workers, and two users with one chain.
-fn two_accounts(alloc: Global, password: u64) -> Result<Setup, Fail> {
-    let mut accounts = Vec::new(alloc);
-    accounts.push(account(alloc, "alice", 1000, 5, password)?)?;
-    accounts.push(account(alloc, "bob", 1001, 1, password)?)?;
-    setup_of(alloc, 4, accounts)
+/// Two users with one chain.
+fn two_users(password: u64) -> [User; 2] {
+    let alice = User {
+        sequence: 5,
+        password,
+        ..ALICE
+    };
+    let bob = User {
+        name: "bob",
+        uid: 1001,
+        sequence: 1,
+        password,
+    };
+    [alice, bob]
+}
+
+/// Whether these are all events, with four logins or more, and the core gives them too.
+fn are_alike(alloc: Global, setup: &Setup, wanted: &[Event]) -> Result<bool, AllocError> {
+    Ok(logins(wanted) >= 4 && all_replay(alloc, setup, wanted, EVENTS as usize)?)
 }
 
 /// Whether the core gives what the plain judge gives, which looks through the whole list.
-fn is_judged_alike(alloc: Global, setup: &Setup, passwords: &[u64; 6]) -> Result<bool, Fail> {
-    let wanted = judged(alloc, setup, passwords)?;
-    let steps = steps_of(alloc, setup, wanted.as_slice())?;
-    if steps.len() > 400 {
-        return Ok(false);
-    }
-    let journal = replay(alloc, setup, steps.as_slice())?;
-    Ok(are_same(journal.as_slice(), wanted.as_slice()) && logins(journal.as_slice()) >= 4)
+fn is_judged_alike(alloc: Global, setup: &Setup, passwords: &[u64; 6]) -> Result<bool, AllocError> {
+    are_alike(alloc, setup, &judged(alloc, setup, passwords)?)
 }
 
-/// Whether it does so over the two users.
-fn two_are_judged_alike(alloc: Global) -> Result<bool, Fail> {
+/// Whether it does so over the two users, with four workers.
+fn two_are_judged_alike(alloc: Global) -> Result<bool, AllocError> {
     let passwords = chain(1);
-    let setup = two_accounts(alloc, passwords[0])?;
-    is_judged_alike(alloc, &setup, &passwords)
+    is_so_of(
+        alloc,
+        4,
+        &two_users(passwords[0]),
+        Asking::Judge(&passwords),
+    )
 }
 
 #[test]
 fn beside_the_plain_judge(rt: HostRuntime) -> Result<(), Fail> {
-    assert!(rt; two_are_judged_alike(rt.alloc())?);
-    Ok(())
+    holds(two_are_judged_alike(rt.alloc())?)
 }

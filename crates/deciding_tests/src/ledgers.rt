@@ -1,13 +1,14 @@
 ghost use Rattle.std.specs.Prelude.{◌<◌, length};
 
+use super::asked::holds;
+use super::said::{Said, decision_of};
 use otp_extended::parts_with;
 use otp_hash::{Algo, Seed, step};
 use otp_ledger::*;
 use policy_model::{Account, Accounts, Decision, Grants, Setup, SetupParts};
 use request_catalogue::Name;
-use std::alloc::Global;
-use std::str::SplitWhitespace;
-use std::test::*;
+use std::alloc::{AllocError, Global};
+use std::test::Fail;
 
 /// The password 0 of `This is a test.` with the seed `test` by MD5, and the one before it (RFC
 /// 2289, appendix C).
@@ -15,97 +16,70 @@ const LAST: u64 = 0x9E87_6134_D904_99DD;
 
 const STORED: u64 = 0x7965_E054_36F5_029F;
 
-/// An account with the stored password.
-fn account(
-    text: &str,
+/// A user with a chain by MD5 of the seed `test`.
+#[derive(Clone, Copy)]
+struct User {
+    name: &'static str,
     uid: u32,
     sequence: u16,
+    password: u64,
     enabled: bool,
-    alloc: Global,
-) -> Result<Account, Fail> {
-    let name = Name::of(text.as_bytes()).ok_or("a name")?;
-    let seed = Seed::of(b"test").ok_or("a seed")?;
-    Ok(Account {
+}
+
+/// The account of a user.
+fn account_of(alloc: Global, user: &User) -> Option<Account> {
+    let name = Name::of(user.name.as_bytes())?;
+    let seed = Seed::of(b"test")?;
+    Some(Account {
         name,
-        uid,
+        uid: user.uid,
         algo: Algo::Md5,
         seed,
-        sequence,
-        password: STORED,
-        enabled,
+        sequence: user.sequence,
+        password: user.password,
+        enabled: user.enabled,
         grants: Grants::of(Vec::new(alloc)),
     })
 }
 
-/// A setup with these accounts, by the parts of another.
-fn setup_with(alloc: Global, parts: &SetupParts, accounts: Accounts) -> Result<Setup, Fail> {
+/// The accounts of users.
+fn accounts_of(alloc: Global, users: &[User]) -> Result<Accounts, AllocError> {
+    let mut accounts = Vec::new(alloc);
+    for user in users {
+        if let Some(account) = account_of(alloc, user) {
+            accounts.push(account)?;
+        }
+    }
+    Ok(Accounts::of(accounts))
+}
+
+/// The parts of a setup with these users, by those of another.
+fn parts_of(alloc: Global, parts: &SetupParts, users: &[User]) -> Result<SetupParts, AllocError> {
+    let accounts = accounts_of(alloc, users)?;
     let mut parts = parts_with(alloc, parts, accounts)?;
     parts.workers = 2;
-    Ok(Setup::of(parts).ok().ok_or("in range")?)
+    Ok(parts)
 }
 
-/// A setup with these accounts that holds a user for half a minute.
-fn setup_of(alloc: Global, accounts: Vec<Account>) -> Result<Setup, Fail> {
-    let plain = Setup::plain(alloc)?;
-    setup_with(alloc, plain.parts(), Accounts::of(accounts))
+/// What is done with an account, or is so of it.
+#[derive(Clone, Copy)]
+enum Step {
+    /// What is decided on a challenge of a session at a time.
+    Challenge(u32, u64, Said),
+    /// A session takes the user at a time.
+    Hold(u32, u64),
+    /// A session gives the user up.
+    Release(u32),
+    /// A session may spend this password, and does.
+    Spend(u32, u64),
+    /// What is decided on a session's reply with these readings of its text.
+    Reply(u32, Option<u64>, Option<u64>, Said),
+    /// The account's sequence and password.
+    Current(u16, u64),
 }
 
-/// A ledger of a setup, with room for all passwords that a test accepts.
-fn new_ledger(alloc: Global, setup: &Setup) -> Result<Ledger, Fail> {
-    Ok(Ledger::new(alloc, setup, 2_200)?)
-}
-
-/// The ledger of these accounts.
-fn ledger_of(alloc: Global, accounts: Vec<Account>) -> Result<Ledger, Fail> {
-    let setup = setup_of(alloc, accounts)?;
-    new_ledger(alloc, &setup)
-}
-
-/// The next word of a line.
-fn word<'a>(words: &mut SplitWhitespace<'a>) -> Result<&'a str, Fail> {
-    Ok(words.next().ok_or("a word")?)
-}
-
-/// A number; the last password, the stored one, and the greatest moment have words.
-fn value_of(text: &str) -> Result<u64, Fail> {
-    match text {
-        "last" => Ok(LAST),
-        "stored" => Ok(STORED),
-        "end" => Ok(u64::MAX),
-        digits => Ok(digits.parse::<u64>().map_err(|_| "a number")?),
-    }
-}
-
-/// The number that comes next.
-fn number(words: &mut SplitWhitespace<'_>) -> Result<u64, Fail> {
-    value_of(word(words)?)
-}
-
-/// A number below 2^32.
-fn small(words: &mut SplitWhitespace<'_>) -> Result<u32, Fail> {
-    Ok(word(words)?.parse::<u32>().map_err(|_| "a number")?)
-}
-
-/// A permit with its value, a denial with its rule and detail.
-fn decision(words: &mut SplitWhitespace<'_>) -> Result<Decision, Fail> {
-    match word(words)? {
-        "permit" => Ok(Decision::Permit {
-            value: number(words)?,
-        }),
-        _ => Ok(Decision::Deny {
-            rule: word(words)?.parse::<u8>().map_err(|_| "a rule")?,
-            detail: small(words)?,
-        }),
-    }
-}
-
-/// A reading; `-` is none.
-fn reading(words: &mut SplitWhitespace<'_>) -> Result<Option<u64>, Fail> {
-    match word(words)? {
-        "-" => Ok(None),
-        text => Ok(Some(value_of(text)?)),
-    }
-}
+/// A user and a step.
+type Line = (&'static str, Step);
 
 /// Whether the session may spend the password, and it is spent.
 fn spend(ledger: &mut Ledger, account: u32, session: u32, password: u64) -> bool
@@ -120,165 +94,270 @@ fn spend(ledger: &mut Ledger, account: u32, session: u32, password: u64) -> bool
     }
 }
 
-/// Whether an account's line holds: what it says is done, or is so.
-fn account_holds(
-    ledger: &mut Ledger,
-    account: u32,
-    kind: &str,
-    words: &mut SplitWhitespace<'_>,
-) -> Result<bool, Fail>
+/// True, once a session has taken an account.
+fn is_held(ledger: &mut Ledger, account: u32, session: u32, now: u64) -> bool
     requires { account < length ledger.old.accounts }
 {
-    match kind {
-        "hold" => ledger.hold(account, small(words)?, number(words)?),
-        "release" => ledger.release(account, small(words)?),
-        "spend" => return Ok(spend(ledger, account, small(words)?, number(words)?)),
-        "reply" => {
-            let session = small(words)?;
-            let reply = ledger.judge_reply(account, session, reading(words)?, reading(words)?);
-            return Ok(reply == decision(words)?);
-        }
-        _ => {
-            let current = ledger.current(account);
-            return Ok(
-                u64::from(current.sequence) == number(words)? && current.password == number(words)?,
-            );
-        }
-    }
-    Ok(true)
+    ledger.hold(account, session, now);
+    true
 }
 
-/// Whether a line holds: what it says is done, or is so.
-fn line_holds(ledger: &mut Ledger, line: &str) -> Result<bool, Fail> {
-    let mut words = line.split_whitespace();
-    let kind = word(&mut words)?;
-    let user = Name::of(word(&mut words)?.as_bytes()).ok_or("a name")?;
-    if kind == "challenge" {
-        let session = small(&mut words)?;
-        let challenge = ledger.judge_challenge(&user, session, number(&mut words)?);
-        return Ok(challenge == decision(&mut words)?);
+/// True, once a session has given an account up.
+fn is_released(ledger: &mut Ledger, account: u32, session: u32) -> bool
+    requires { account < length ledger.old.accounts }
+{
+    ledger.release(account, session);
+    true
+}
+
+/// Whether an account has this sequence and password.
+fn is_current(ledger: &Ledger, account: u32, sequence: u16, password: u64) -> bool
+    requires { account < length ledger.now.accounts }
+{
+    let current = ledger.current(account);
+    current.sequence == sequence && current.password == password
+}
+
+/// Whether an account's step holds: what it says is done, or is so.
+fn account_holds(ledger: &mut Ledger, account: u32, step: Step) -> bool
+    requires { account < length ledger.old.accounts }
+{
+    match step {
+        Step::Challenge(..) => false,
+        Step::Hold(session, now) => is_held(ledger, account, session, now),
+        Step::Release(session) => is_released(ledger, account, session),
+        Step::Spend(session, password) => spend(ledger, account, session, password),
+        Step::Reply(session, words, hex, want) => {
+            ledger.judge_reply(account, session, words, hex) == decision_of(want)
+        }
+        Step::Current(sequence, password) => is_current(ledger, account, sequence, password),
     }
-    match ledger.find(&user) {
-        None => Ok(false),
-        Some(account) => account_holds(ledger, account, kind, &mut words),
+}
+
+/// Whether a user's step holds.
+fn step_holds(ledger: &mut Ledger, user: &Name, step: Step) -> bool {
+    if let Step::Challenge(session, now, want) = step {
+        return ledger.judge_challenge(user, session, now) == decision_of(want);
+    }
+    match ledger.find(user) {
+        None => false,
+        Some(account) => account_holds(ledger, account, step),
+    }
+}
+
+/// Whether a line holds.
+fn line_holds(ledger: &mut Ledger, line: &Line) -> bool {
+    let (user, step) = line;
+    match Name::of(user.as_bytes()) {
+        Some(user) => step_holds(ledger, &user, *step),
+        None => false,
     }
 }
 
 /// Whether each line holds, one after the other.
-fn holds(ledger: &mut Ledger, text: &str) -> Result<bool, Fail> {
-    for line in text.trim().lines() {
-        if !line_holds(ledger, line)? {
-            return Ok(false);
+fn lines_hold(ledger: &mut Ledger, lines: &[Line]) -> bool {
+    for line in lines {
+        if !line_holds(ledger, line) {
+            return false;
         }
     }
-    Ok(true)
-}
-
-/// Whether these are the accepted passwords: each line is an account's number and a password.
-fn are_kept(kept: &[Kept], text: &str) -> Result<bool, Fail> {
-    let mut entries = kept.iter();
-    for line in text.trim().lines() {
-        let mut words = line.split_whitespace();
-        let entry = *entries.next().ok_or("an entry")?;
-        if entry.account != small(&mut words)? || entry.password != number(&mut words)? {
-            return Ok(false);
-        }
-    }
-    Ok(entries.next().is_none())
+    true
 }
 
 /// Whether each line holds, and these are the accepted passwords then.
-fn leaves(ledger: &mut Ledger, text: &str, kept: &str) -> Result<bool, Fail> {
-    Ok(holds(ledger, text)? && are_kept(ledger.kept(), kept)?)
+fn leaves(ledger: &mut Ledger, lines: &[Line], kept: &[Kept]) -> bool {
+    lines_hold(ledger, lines) && ledger.kept() == kept
 }
 
-/// Whether that is so over a ledger of these accounts, which is alive in no other function: that keeps
-/// the proofs short.
-fn accounts_leave(
-    alloc: Global,
-    accounts: Vec<Account>,
-    text: &str,
-    kept: &str,
-) -> Result<bool, Fail> {
-    let mut ledger = ledger_of(alloc, accounts)?;
-    leaves(&mut ledger, text, kept)
+/// What is asked of a ledger.
+#[derive(Clone, Copy)]
+enum Asked<'a> {
+    /// Whether each line holds, and these are the accepted passwords then.
+    Leaves(&'a [Line], &'a [Kept]),
+    /// Whether it accepts these passwords after the two stored ones, and lends just these, as they rise.
+    Keeps(&'a [Kept], &'a [Kept]),
 }
+
+/// Whether that is so of a ledger.
+fn is_so(ledger: &mut Ledger, asked: Asked<'_>) -> bool {
+    match asked {
+        Asked::Leaves(lines, kept) => leaves(ledger, lines, kept),
+        Asked::Keeps(all, rising) => keeps_all(ledger, all, rising),
+    }
+}
+
+/// Whether it is so of a setup's ledger, with room for all passwords that a test accepts.
+fn is_so_over(alloc: Global, setup: &Setup, asked: Asked<'_>) -> bool {
+    match Ledger::new(alloc, setup, 2_200) {
+        Ok(mut ledger) => is_so(&mut ledger, asked),
+        Err(_) => false,
+    }
+}
+
+/// Whether it is so of that of a setup that is in range.
+fn is_so_in(alloc: Global, made: &Option<Setup>, asked: Asked<'_>) -> bool {
+    match made {
+        Some(setup) => is_so_over(alloc, setup, asked),
+        None => false,
+    }
+}
+
+/// Whether it is so of these users, in a setup by the parts of another.
+fn is_so_by(
+    alloc: Global,
+    parts: &SetupParts,
+    users: &[User],
+    asked: Asked<'_>,
+) -> Result<bool, AllocError> {
+    let made = Setup::of(parts_of(alloc, parts, users)?).ok();
+    Ok(is_so_in(alloc, &made, asked))
+}
+
+/// Whether it is so of these users, in a setup that holds a user for half a minute.
+fn is_so_of(alloc: Global, users: &[User], asked: Asked<'_>) -> Result<bool, AllocError> {
+    is_so_by(alloc, Setup::plain(alloc)?.parts(), users, asked)
+}
+
+/// The user with the last password of a chain.
+const ALICE: User = User {
+    name: "alice",
+    uid: 1000,
+    sequence: 1,
+    password: STORED,
+    enabled: true,
+};
 
 /// A takeover, the last password of a chain, and what is left of it.
-const LAST_PASSWORD: &str = "
-    challenge alice 1 1000 permit 0
-    hold alice 1 1000
-    challenge alice 2 30999 deny 12 1
-    challenge alice 2 31000 permit 0
-    hold alice 2 31000
-    reply alice 1 - last deny 13 2
-    reply alice 2 - - deny 14 0
-    reply alice 2 stored - deny 15 0
-    reply alice 2 0 - deny 16 0
-    reply alice 2 stored last permit last
-    reply alice 2 - last permit last
-    spend alice 2 last
-    release alice 2
-    current alice 0 last
-    challenge alice 3 31001 permit 10532";
+const LAST_PASSWORD: &[Line] = &[
+    ("alice", Step::Challenge(1, 1000, Said::Permit(0))),
+    ("alice", Step::Hold(1, 1000)),
+    ("alice", Step::Challenge(2, 30999, Said::Deny(12, 1))),
+    ("alice", Step::Challenge(2, 31000, Said::Permit(0))),
+    ("alice", Step::Hold(2, 31000)),
+    ("alice", Step::Reply(1, None, Some(LAST), Said::Deny(13, 2))),
+    ("alice", Step::Reply(2, None, None, Said::Deny(14, 0))),
+    (
+        "alice",
+        Step::Reply(2, Some(STORED), None, Said::Deny(15, 0)),
+    ),
+    ("alice", Step::Reply(2, Some(0), None, Said::Deny(16, 0))),
+    (
+        "alice",
+        Step::Reply(2, Some(STORED), Some(LAST), Said::Permit(LAST)),
+    ),
+    (
+        "alice",
+        Step::Reply(2, None, Some(LAST), Said::Permit(LAST)),
+    ),
+    ("alice", Step::Spend(2, LAST)),
+    ("alice", Step::Release(2)),
+    ("alice", Step::Current(0, LAST)),
+    ("alice", Step::Challenge(3, 31001, Said::Permit(10532))),
+];
+
+/// The stored password of the first account, and its last.
+const FIRST_STORED: Kept = Kept {
+    account: 0,
+    password: STORED,
+};
+
+const FIRST_LAST: Kept = Kept {
+    account: 0,
+    password: LAST,
+};
 
 #[test]
 fn the_last_password(rt: HostRuntime) -> Result<(), Fail> {
-    let alloc = rt.alloc();
-    let mut accounts = Vec::new(alloc);
-    accounts.push(account("alice", 1000, 1, true, alloc)?)?;
-    assert!(rt; accounts_leave(alloc, accounts, LAST_PASSWORD, "0 stored\n0 last")?);
-    Ok(())
+    let kept = [FIRST_STORED, FIRST_LAST];
+    holds(is_so_of(rt.alloc(), &[ALICE], Asked::Leaves(LAST_PASSWORD, &kept))?)
 }
 
 /// Zoe and bob stand out of order and have one chain; carol is disabled, nobody has the name dora.
-const FOUR_USERS: &str = "
-    challenge zoe 1 5 permit 1
-    hold zoe 1 5
-    challenge bob 1 5 permit 0
-    hold bob 2 end
-    challenge bob 3 end deny 12 2
-    challenge bob 2 0 permit 0
-    challenge carol 3 5 permit 10148
-    challenge dora 3 5 permit 10754
-    release bob 1
-    reply bob 2 - last permit last
-    spend bob 2 last
-    release bob 2
-    reply bob 2 - last deny 13 2
-    current bob 0 last
-    current zoe 2 stored
-    reply zoe 1 last - permit last
-    spend zoe 1 last
-    hold zoe 4 6
-    reply zoe 4 last stored deny 15 0
-    challenge zoe 5 6 deny 12 4
-    release zoe 4
-    challenge zoe 5 6 permit 0";
+const FOUR_USERS: &[Line] = &[
+    ("zoe", Step::Challenge(1, 5, Said::Permit(1))),
+    ("zoe", Step::Hold(1, 5)),
+    ("bob", Step::Challenge(1, 5, Said::Permit(0))),
+    ("bob", Step::Hold(2, u64::MAX)),
+    ("bob", Step::Challenge(3, u64::MAX, Said::Deny(12, 2))),
+    ("bob", Step::Challenge(2, 0, Said::Permit(0))),
+    ("carol", Step::Challenge(3, 5, Said::Permit(10148))),
+    ("dora", Step::Challenge(3, 5, Said::Permit(10754))),
+    ("bob", Step::Release(1)),
+    ("bob", Step::Reply(2, None, Some(LAST), Said::Permit(LAST))),
+    ("bob", Step::Spend(2, LAST)),
+    ("bob", Step::Release(2)),
+    ("bob", Step::Reply(2, None, Some(LAST), Said::Deny(13, 2))),
+    ("bob", Step::Current(0, LAST)),
+    ("zoe", Step::Current(2, STORED)),
+    ("zoe", Step::Reply(1, Some(LAST), None, Said::Permit(LAST))),
+    ("zoe", Step::Spend(1, LAST)),
+    ("zoe", Step::Hold(4, 6)),
+    (
+        "zoe",
+        Step::Reply(4, Some(LAST), Some(STORED), Said::Deny(15, 0)),
+    ),
+    ("zoe", Step::Challenge(5, 6, Said::Deny(12, 4))),
+    ("zoe", Step::Release(4)),
+    ("zoe", Step::Challenge(5, 6, Said::Permit(0))),
+];
 
 /// The four users.
-fn four_users(alloc: Global) -> Result<Vec<Account>, Fail> {
-    let mut accounts = Vec::new(alloc);
-    accounts.push(account("zoe", 1000, 2, true, alloc)?)?;
-    accounts.push(account("alice", 1001, 0, true, alloc)?)?;
-    accounts.push(account("carol", 1002, 1, false, alloc)?)?;
-    accounts.push(account("bob", 1003, 1, true, alloc)?)?;
-    Ok(accounts)
-}
+const USERS: &[User] = &[
+    User {
+        name: "zoe",
+        sequence: 2,
+        ..ALICE
+    },
+    User {
+        uid: 1001,
+        sequence: 0,
+        ..ALICE
+    },
+    User {
+        name: "carol",
+        uid: 1002,
+        enabled: false,
+        ..ALICE
+    },
+    User {
+        name: "bob",
+        uid: 1003,
+        ..ALICE
+    },
+];
+
+/// Their accepted passwords after all lines.
+const KEPT: &[Kept] = &[
+    FIRST_STORED,
+    FIRST_LAST,
+    Kept {
+        account: 1,
+        ..FIRST_STORED
+    },
+    Kept {
+        account: 2,
+        ..FIRST_STORED
+    },
+    Kept {
+        account: 3,
+        ..FIRST_STORED
+    },
+    Kept {
+        account: 3,
+        ..FIRST_LAST
+    },
+];
 
 #[test]
 fn several_users(rt: HostRuntime) -> Result<(), Fail> {
-    let kept = "0 stored\n0 last\n1 stored\n2 stored\n3 stored\n3 last";
-    let accounts = four_users(rt.alloc())?;
-    assert!(rt; accounts_leave(rt.alloc(), accounts, FOUR_USERS, kept)?);
-    Ok(())
+    holds(is_so_of(rt.alloc(), USERS, Asked::Leaves(FOUR_USERS, KEPT))?)
 }
 
 /// How many passwords each of two accounts accepts: together more than twice as many as the small array holds.
 const MANY: u16 = 1_100;
 
 /// So many passwords in the order of acceptance, each the hash of the next, and the stored one before them.
-fn chain_of(alloc: Global, last: u64) -> Result<Vec<u64>, Fail> {
+fn chain_of(alloc: Global, last: u64) -> Result<Vec<u64>, AllocError> {
     let mut passwords = Vec::new(alloc);
     let mut password = last;
     for _ in 0..=MANY {
@@ -289,34 +368,32 @@ fn chain_of(alloc: Global, last: u64) -> Result<Vec<u64>, Fail> {
     Ok(passwords)
 }
 
-/// An account that stores the first password of a chain.
-fn chained(text: &str, uid: u32, chain: &[u64], alloc: Global) -> Result<Account, Fail> {
-    let stored = *chain.first().ok_or("a password")?;
-    let mut account = account(text, uid, MANY, true, alloc)?;
-    account.password = stored;
-    Ok(account)
+/// A user for each of two chains, who stores the chain's first password.
+fn two_chained(first: u64, second: u64) -> [User; 2] {
+    let alice = User {
+        sequence: MANY,
+        password: first,
+        ..ALICE
+    };
+    let bob = User {
+        name: "bob",
+        uid: 1001,
+        password: second,
+        ..alice
+    };
+    [alice, bob]
 }
 
-/// An account for each of two chains.
-fn two_chained(alloc: Global, first: &[u64], second: &[u64]) -> Result<Vec<Account>, Fail> {
-    let mut accounts = Vec::new(alloc);
-    accounts.push(chained("alice", 1000, first, alloc)?)?;
-    accounts.push(chained("bob", 1001, second, alloc)?)?;
-    Ok(accounts)
+/// A password that an account accepts.
+fn kept(account: u32, password: u64) -> Kept {
+    Kept { account, password }
 }
 
 /// The passwords of two chains in turn.
-fn in_turn(alloc: Global, first: &[u64], second: &[u64]) -> Result<Vec<Kept>, Fail> {
+fn in_turn(alloc: Global, first: &[u64], second: &[u64]) -> Result<Vec<Kept>, AllocError> {
     let mut all = Vec::new(alloc);
     for (one, other) in first.iter().zip(second) {
-        all.push(Kept {
-            account: 0,
-            password: *one,
-        })?;
-        all.push(Kept {
-            account: 1,
-            password: *other,
-        })?;
+        all.extend_from_slice(&[kept(0, *one), kept(1, *other)])?;
     }
     Ok(all)
 }
@@ -347,7 +424,12 @@ fn accepts_all(ledger: &mut Ledger, all: &[Kept]) -> bool {
 
 /// Whether the ledger says of all that they were accepted.
 fn has_all(ledger: &Ledger, all: &[Kept]) -> bool {
-    all.iter().all(|entry| has_accepted(ledger, entry))
+    for entry in all {
+        if !has_accepted(ledger, entry) {
+            return false;
+        }
+    }
+    true
 }
 
 /// Whether the ledger accepts these passwords, and lends just these, as they rise.
@@ -358,37 +440,36 @@ fn keeps_all(ledger: &mut Ledger, all: &[Kept], rising: &[Kept]) -> bool {
         && has_all(ledger, all)
 }
 
-/// Whether that is so of a ledger of these accounts.
-fn accounts_keep(
-    alloc: Global,
-    accounts: Vec<Account>,
-    all: &[Kept],
-    rising: &[Kept],
-) -> Result<bool, Fail> {
-    let mut ledger = ledger_of(alloc, accounts)?;
-    Ok(keeps_all(&mut ledger, all, rising))
-}
-
 /// These passwords, rising.
-fn rising_of(alloc: Global, all: &[Kept]) -> Result<Vec<Kept>, Fail> {
+fn rising_of(alloc: Global, all: &[Kept]) -> Result<Vec<Kept>, AllocError> {
     let mut rising = Vec::from_slice(alloc, all)?;
     rising.sort()?;
     Ok(rising)
 }
 
-/// Whether a ledger of two accounts keeps all passwords of their chains.
-fn chains_are_kept(alloc: Global, first: &[u64], second: &[u64]) -> Result<bool, Fail> {
-    let all = in_turn(alloc, first, second)?;
-    let rising = rising_of(alloc, all.as_slice())?;
-    let accounts = two_chained(alloc, first, second)?;
-    accounts_keep(alloc, accounts, all.as_slice(), rising.as_slice())
+/// Whether a ledger of these users keeps all these passwords.
+fn all_are_kept(alloc: Global, users: &[User], all: &[Kept]) -> Result<bool, AllocError> {
+    let rising = rising_of(alloc, all)?;
+    is_so_of(alloc, users, Asked::Keeps(all, rising.as_slice()))
+}
+
+/// Whether a ledger of two users keeps all passwords of their chains.
+fn chains_are_kept(alloc: Global, first: &[u64], second: &[u64]) -> Result<bool, AllocError> {
+    match (first.first(), second.first()) {
+        (Some(one), Some(other)) => {
+            let all = in_turn(alloc, first, second)?;
+            all_are_kept(alloc, &two_chained(*one, *other), all.as_slice())
+        }
+        _ => Ok(false),
+    }
+}
+
+/// Whether that is so of two chains.
+fn two_are_kept(alloc: Global) -> Result<bool, AllocError> {
+    chains_are_kept(alloc, &chain_of(alloc, LAST)?, &chain_of(alloc, 1)?)
 }
 
 #[test]
 fn more_passwords_than_the_small_array_holds(rt: HostRuntime) -> Result<(), Fail> {
-    let alloc = rt.alloc();
-    let first = chain_of(alloc, LAST)?;
-    let second = chain_of(alloc, 1)?;
-    assert!(rt; chains_are_kept(alloc, first.as_slice(), second.as_slice())?);
-    Ok(())
+    holds(two_are_kept(rt.alloc())?)
 }

@@ -2,6 +2,10 @@
 #![tactic(auto)]
 
 #[cfg(test)]
+mod asked;
+#[cfg(test)]
 mod ledgers;
+#[cfg(test)]
+mod said;
 #[cfg(test)]
 mod tables;
