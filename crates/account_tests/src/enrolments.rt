@@ -1,6 +1,6 @@
 use account_file::{SetupError, read_setup};
 use enrol_mode::*;
-use outside::{CallKind, Fail, MemStream};
+use outside_memory::{CallKind, Fail, MemStream};
 use policy_model::{Account, Setup};
 use std::alloc::{AllocError, Global};
 use std::test::Fail as Fault;

@@ -1,6 +1,7 @@
 //! Files in memory over which the modes are tried.
 
-use outside::{Bytes, CallKind, Fail, MemFiles, Word};
+use outside::{Bytes, Word};
+use outside_memory::{CallKind, Fail, MemFiles};
 use std::alloc::{AllocError, Global};
 
 /// What a file holds where it isn't there.

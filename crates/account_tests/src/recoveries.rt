@@ -1,6 +1,6 @@
 use crate::files::{NONE, bytes_in, fail, holds};
 use account_file::{SetupError, read_setup};
-use outside::{CallKind, Fail, MemFiles, MemStream};
+use outside_memory::{CallKind, Fail, MemFiles, MemStream};
 use policy_model::{Account, Setup};
 use recover_mode::*;
 use std::alloc::{AllocError, Global};

@@ -1,7 +1,7 @@
 use crate::files::{NONE, bytes_in, fail, files_of, holds};
 use account_file::{SetupError, read_setup};
 use otp_extended::{RenewCommand, Renewed, read_renew_command};
-use outside::{CallKind, Fail, MemFiles, MemStream};
+use outside_memory::{CallKind, Fail, MemFiles, MemStream};
 use policy_model::{Account, Setup, SetupParts};
 use renew_mode::*;
 use std::alloc::{AllocError, Global};

@@ -7,7 +7,7 @@ ghost use Rattle.std.specs.Prelude.{◌≡◌, ◌<◌, ◌≤◌, IfSome};
 
 use child_protocol::{ChildCore, ChildEnd, PreChild, Turn, UserChild, run_child};
 use imsg_frame::{Frame, Header, Reader};
-use outside::{CallKind, Fail, MemStream};
+use outside_memory::{CallKind, Fail, MemStream};
 use request_catalogue::{Name, Width};
 use std::alloc::{AllocError, Global};
 use std::test::Fail as Fault;

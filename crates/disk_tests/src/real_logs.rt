@@ -3,7 +3,7 @@
 use durable_log::Disk;
 use line_log::LineLog;
 use outside::{Sink, Word};
-use outside_real::RealSink;
+use real_files::RealSink;
 use real_log::*;
 use std::io::Stderr;
 use std::rt::{Env, Files, Process};

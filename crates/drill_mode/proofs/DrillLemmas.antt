@@ -13,8 +13,8 @@ use Rattle.policy_model.specs.declared.event.Event.{Event}
 use Rattle.policy_model.specs.Asks.{is_lost}
 use Rattle.policy_model.specs.Journal.{has_lost}
 use Rattle.policy_model.specs.Settings.{Settings}
-use Rattle.outside.specs.declared.memory.quiet_post.QuietPost.{QuietPost}
-use Rattle.outside.specs.QuietPost.{faults_of, scene_of}
+use Rattle.outside_memory.specs.declared.quiet_post.QuietPost.{QuietPost}
+use Rattle.outside_memory.specs.QuietPost.{faults_of, scene_of}
 use Rattle.service_model.specs.Service.{Service}
 use Rattle.service_model.specs.Sittings.{AreSittingsOf, Sitting}
 use Rattle.service_model.specs.Stories.{ArePlanned, IsStory, LastAccept, is_stop}

@@ -2,8 +2,8 @@
 use Rattle.std.specs.Prelude.{◌≡◌, ℕ, Bool, false, not, List, [], slice_get, Option, Some, None}
 use Rattle.std.specs.List.{list_any}
 use Rattle.outside.specs.Scene.{Scene}
-use Rattle.outside.specs.declared.memory.quiet_post.QuietPost.{QuietPost}
-use Rattle.outside.specs.QuietPost.{scene_of}
+use Rattle.outside_memory.specs.declared.quiet_post.QuietPost.{QuietPost}
+use Rattle.outside_memory.specs.QuietPost.{scene_of}
 use Rattle.service_model.specs.Stories.{is_stop}
 use Rattle.drill_plan.specs.Plan.{drill_plan}
 

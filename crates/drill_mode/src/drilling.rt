@@ -9,7 +9,7 @@ use crate::posts::{drill_posts, tell_whole};
 use drill_plan::drill_setup;
 use monitor_run::{Ran, prepare, run};
 use otp_words::Dictionary;
-use outside::QuietSink;
+use outside_memory::QuietSink;
 use policy_model::Event;
 use std::alloc::{AllocError, Global};
 use std::sync::Wait;

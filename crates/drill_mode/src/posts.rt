@@ -2,12 +2,13 @@
 
 ghost use Rattle.std.specs.Prelude.{◌≡◌, ◌<◌, ◌≤◌, IfOk, IsTrue, length};
 ghost use Rattle.std.specs.List.{list_all, list_any};
-ghost use Rattle.outside.specs.QuietPost.{scene_of};
+ghost use Rattle.outside_memory.specs.QuietPost.{scene_of};
 ghost use Rattle.service_model.specs.Stories.{is_stop};
 ghost use Rattle.drill_mode.specs.Posts.{AreNewPosts, IsNewPost, tells_whole};
 
 use drill_plan::{WORKERS, drill_scripts};
-use outside::{Accepted, Act, Pieces, PostRoom, QuietPost};
+use outside::{Accepted, Act};
+use outside_memory::{Pieces, PostRoom, QuietPost};
 use std::alloc::{AllocError, Global};
 
 /// How many acts a worker has at most in the drill of 1: eight sessions, and a last accept.

@@ -3,8 +3,8 @@ use Rattle.std.proofs.Common.{◌≡◌, ℕ, ◌+◌, ◌-◌, ◌*◌, ◌<◌
 use Rattle.std.specs.List.{range_with_len}
 use Rattle.std.proofs.lemmas.List.{map-append}
 use Rattle.std.proofs.lemmas.List.FromFn.{map-range_with_len_more, sum_by-map-range_with_len_more}
-use Rattle.outside.specs.declared.memory.script.Script.{Script}
-use Rattle.outside.specs.Script.{plan_of}
+use Rattle.outside_memory.specs.declared.script.Script.{Script}
+use Rattle.outside_memory.specs.Script.{plan_of}
 use Rattle.request_catalogue.specs.declared.texts.Name.{Name}
 use Rattle.request_catalogue.specs.TextBytes.{name_bytes}
 use Rattle.drill_plan.specs.declared.class.Class.{Class}

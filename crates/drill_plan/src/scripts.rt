@@ -2,7 +2,7 @@
 
 ghost use Rattle.std.specs.Prelude.{◌≡◌, ◌<◌, ◌≤◌, IfOk, if◌then◌else◌};
 ghost use Rattle.request_catalogue.specs.TextBytes.{name_bytes};
-ghost use Rattle.outside.specs.Script.{plan_of};
+ghost use Rattle.outside_memory.specs.Script.{plan_of};
 ghost use Rattle.drill_plan.specs.Classes.{is_login};
 ghost use Rattle.drill_plan.specs.Plan.{drill_plan, early_bytes_by, requests_bytes};
 ghost use Rattle.drill_plan.specs.Requests.{user_requests_by};
@@ -12,7 +12,8 @@ use crate::early::{Login, early_bytes};
 use crate::passwords::{own_name, own_passwords};
 use crate::pen::Pen;
 use crate::user::user_bytes;
-use outside::{Bytes, Script};
+use outside::Bytes;
+use outside_memory::Script;
 use std::alloc::{AllocError, Global};
 
 /// The scripts of a worker's connections in the drill of `n`, from which its post is made: `8 * n` of them.

@@ -1,5 +1,6 @@
 use file_front::*;
-use outside::{Bytes, CallKind, Fail, MemFiles, Word};
+use outside::{Bytes, Word};
+use outside_memory::{CallKind, Fail, MemFiles};
 use std::alloc::{AllocError, Global};
 use std::test::Fail as Fault;
 

@@ -1,6 +1,7 @@
 use file_front::FrontError;
 use kept_files::*;
-use outside::{Bytes, CallKind, Fail, Files, MemFiles, Word};
+use outside::{Bytes, Files, Word};
+use outside_memory::{CallKind, Fail, MemFiles};
 use std::alloc::{AllocError, Global};
 use std::test::Fail as Fault;
 

@@ -1,5 +1,6 @@
 use account_file::{SetupFault, SetupKey, SetupRule};
-use outside::{Bytes, CallKind, Fail, MemFiles, Word};
+use outside::{Bytes, Word};
+use outside_memory::{CallKind, Fail, MemFiles};
 use setup_reading::*;
 use std::alloc::{AllocError, Global};
 use std::test::Fail as Fault;

@@ -8,3 +8,5 @@ mod audits;
 mod log_lines;
 #[cfg(test)]
 mod recoveries;
+#[cfg(test)]
+mod tallies;

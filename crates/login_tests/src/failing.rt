@@ -2,7 +2,8 @@
 
 use super::logins::{LOG, holds, left_in};
 use account_file::read_setup;
-use outside::{Accepted, Act, CallKind, Fail, MemPost};
+use outside::{Accepted, Act};
+use outside_memory::{CallKind, Fail, MemPost};
 use policy_model::{Decision, Event, Setup, judge};
 use service_play::{Came, ONE, Play, Session, come, lines_of, sent};
 use service_rows::{CLIENT, Login, log_in};

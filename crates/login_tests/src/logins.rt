@@ -2,7 +2,7 @@
 
 ghost use Rattle.std.specs.Prelude.{◌≤◌};
 
-use outside::{MemFiles, MemPost};
+use outside_memory::{MemFiles, MemPost};
 use service_play::{Came, ONE, chain_in, notes, setup_in, told};
 use service_rows::log_in;
 use std::alloc::Global;

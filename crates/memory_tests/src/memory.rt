@@ -1,10 +1,13 @@
 ghost use Rattle.std.specs.Prelude.{◌≡◌, ◌<◌, ◌≤◌, IfOk, IfSome, length};
-ghost use Rattle.outside.specs.MemPost.{faults_of, scene_of};
+ghost use Rattle.outside_memory.specs.MemPost.{faults_of, scene_of};
 ghost use Rattle.outside.specs.Scene.{IsFresh};
 
 use outside::{
-    Accepted, Act, Bytes, CallKind, Fail, Failed, Files, MemConn, MemFiles, MemPost, MemSink,
-    MemSite, MemStream, Place, Post, Receiving, Role, Script, Sink, Site, Stream, Talk, Word,
+    Accepted, Act, Bytes, Failed, Files, Place, Post, Receiving, Role, Sink, Site, Stream, Talk,
+    Word,
+};
+use outside_memory::{
+    CallKind, Fail, MemConn, MemFiles, MemPost, MemSink, MemSite, MemStream, Script,
 };
 use request_catalogue::Label;
 use std::alloc::{AllocError, Global};

@@ -1,10 +1,12 @@
 ghost use Rattle.std.specs.Prelude.{IfOk};
 ghost use Rattle.outside.specs.Scene.{IsFresh};
-ghost use Rattle.outside.specs.QuietPost.{faults_of, scene_of};
+ghost use Rattle.outside_memory.specs.QuietPost.{faults_of, scene_of};
 
 use outside::{
-    Accepted, Act, Bytes, Failed, Files, MemSite, Pieces, Place, Post, PostRoom, QuietFiles,
-    QuietPost, QuietSink, QuietStream, Role, Script, Sink, Site, Stream, Talk, Word,
+    Accepted, Act, Bytes, Failed, Files, Place, Post, Role, Sink, Site, Stream, Talk, Word,
+};
+use outside_memory::{
+    MemSite, Pieces, PostRoom, QuietFiles, QuietPost, QuietSink, QuietStream, Script,
 };
 use request_catalogue::Label;
 use std::alloc::{AllocError, Global};

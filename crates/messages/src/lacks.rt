@@ -1,10 +1,10 @@
 //! What a right setup lacks on this machine.
 
 use outside::{Files, Word};
-use outside_real::{has_folder, is_folder, is_launcher};
 use setup_reading::read_setup_file;
 use std::alloc::Global;
 use std::rt::Files as FileSystem;
+use system_calls::{has_folder, is_folder, is_launcher};
 
 /// Says on standard error which of a setup's vault, launcher and socket's folder isn't there, in a line
 /// each, where the arguments are those of `check` and the setup is right (`status` is 0).

@@ -3,7 +3,8 @@ use account_file::{SetupFault, SetupKey, SetupRule};
 use audit_check::{Audit, AuditWhy};
 use audit_mode::*;
 use durable_log::{JournalLog, MemDisk};
-use outside::{CallKind, Fail, MemFiles, MemStream, Sink};
+use outside::Sink;
+use outside_memory::{CallKind, Fail, MemFiles, MemStream};
 use std::alloc::{AllocError, Global};
 use std::test::Fail as Fault;
 

@@ -4,7 +4,7 @@ ghost use Rattle.info_hooks.specs.Texts.{info_bytes};
 use crate::files::files_of;
 use check_mode::*;
 use info_hooks::{Card, Form, Hook, Hooks, InfoText};
-use outside::{CallKind, Fail, MemFiles, MemStream};
+use outside_memory::{CallKind, Fail, MemFiles, MemStream};
 use std::alloc::{AllocError, Global};
 use std::test::Fail as Fault;
 

@@ -1,6 +1,6 @@
 use child_mode::*;
 use child_protocol::ChildEnd;
-use outside::{CallKind, Fail, MemStream};
+use outside_memory::{CallKind, Fail, MemStream};
 use std::alloc::{AllocError, Global};
 use std::test::Fail as Fault;
 

@@ -1,6 +1,7 @@
 //! Files in memory over which the modes are tried.
 
-use outside::{Bytes, Fail, MemFiles, Word};
+use outside::{Bytes, Word};
+use outside_memory::{Fail, MemFiles};
 use std::alloc::{AllocError, Global};
 
 /// What a file holds where it isn't there.

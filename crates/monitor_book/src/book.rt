@@ -79,6 +79,13 @@ impl<K: Sink> Book<K> {
         }
     }
 
+    /// All events so far.
+    pub fn journal(&self) -> &[Event]
+        ensures { result.now ≡ self.now.journal }
+    {
+        self.journal.as_slice()
+    }
+
     /// The core, all events and the log, with what a book keeps of them.
     pub fn parts(self) -> (Core, Vec<Event>, K)
         ensures core { result.0 ≡ self.core }
@@ -152,6 +159,3 @@ impl<K: Sink> Object for Book<K> {
         u64::from(setup.connections()) * (u64::from(setup.requests()) + 3)
     }
 }
-
-#[cfg(test)]
-mod tests;

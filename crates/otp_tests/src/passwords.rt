@@ -3,7 +3,8 @@ ghost use Rattle.std.specs.Prelude.{◌<◌, ◌≤◌, All, length};
 use otp_hash::Algo;
 use otp_mode::*;
 use otp_words::{DictFault, DictRule, Dictionary};
-use outside::{Bytes, CallKind, Fail, MemFiles, MemStream, Word};
+use outside::{Bytes, Word};
+use outside_memory::{CallKind, Fail, MemFiles, MemStream};
 use std::alloc::{AllocError, Global};
 use std::test::Fail as Fault;
 

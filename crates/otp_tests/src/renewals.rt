@@ -3,7 +3,7 @@ ghost use Rattle.std.specs.Prelude.{◌≤◌};
 use otp_extended::*;
 use otp_hash::{Algo, Seed};
 use otp_words::Dictionary;
-use outside::{CallKind, Fail as Failing, MemStream};
+use outside_memory::{CallKind, Fail as Failing, MemStream};
 use policy_model::{Account, Accounts, Grants, Setup, SetupParts};
 use request_catalogue::Name;
 use std::alloc::{AllocError, Global};

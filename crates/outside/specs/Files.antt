@@ -1,9 +1,14 @@
 -- Believed: what stands in files, and what a reading gives of it.
-use Rattle.std.specs.Prelude.{◌≡◌, ◌≢◌, ◌⊎◌, ℕ, List, take, drop, Option, Some, None, option_map}
+use Rattle.std.specs.Prelude.{◌≡◌, ◌≢◌, ◌⊎◌, ℕ, List, take, drop, find, Option, Some, None, option_map}
+use Rattle.std.specs.Str.{bytes_eq}
 
 -- all files: for each name the bytes of its file, if there is one
 abbrev pub Contents : Type 0
 Contents = List ℕ → Option (List ℕ)
+
+-- the bytes of the first of these pairs that has the name, if there is one
+abbrev pub file_of : List (List ℕ × List ℕ) → List ℕ → Option (List ℕ)
+file_of pairs name = option_map (λ p. p.1) (find (λ p. bytes_eq p.0 name) pairs)
 
 -- the bytes that a reading put to the front of the buffer, if there is a file
 abbrev pub bytes_read : Option ℕ → List ℕ → Option (List ℕ)

@@ -1,14 +1,13 @@
 //! The outside of the monitor: the traits through which it reaches children, clients, logs, files and
-//! its site, and objects in memory that stand in for them. Believe `specs/Scene.antt`,
-//! `specs/Link.antt`, `specs/Files.antt` and `specs/Told.antt`; all that reaches the outside stands
-//! above.
+//! its site. Objects in memory and those of the real machine stand in crates of their own. Believe
+//! `specs/Scene.antt`, `specs/Link.antt`, `specs/Files.antt` and `specs/Told.antt`; all that reaches
+//! the outside stands above.
 #![tactic(auto)]
 
 mod act;
 mod bytes;
 mod faults;
 mod files;
-mod memory;
 mod place;
 mod post;
 mod receiving;
@@ -21,10 +20,6 @@ pub use act::{Accepted, Act, Failed, Role, Talk};
 pub use bytes::{Bytes, Word};
 pub use faults::{Faults, link_count};
 pub use files::Files;
-pub use memory::{
-    CallKind, Fail, MemConn, MemFiles, MemPost, MemSink, MemSite, MemStream, Pieces, PostRoom,
-    QuietFiles, QuietPost, QuietSink, QuietStream, Repeating, Script,
-};
 pub use place::Place;
 pub use post::Post;
 pub use receiving::{Receiving, Receivings};

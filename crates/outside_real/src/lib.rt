@@ -5,37 +5,14 @@
 //! stands above.
 #![tactic(auto)]
 
-mod again;
-mod clock;
-pub mod counted;
-mod ends;
-mod files;
 mod limits;
-mod log_stderr;
 mod look;
-mod named;
-mod patience;
 mod post;
-mod replacing;
-mod seat;
-mod seen;
-mod sink;
 mod site;
-mod socket;
-mod standard;
 mod stream;
 mod vault;
 
-pub use clock::PostClock;
-pub use ends::RealEnds;
-pub use files::RealFiles;
 pub use limits::Limits;
-pub use log_stderr::LogStderr;
-pub use look::{has_folder, is_folder, is_launcher};
-pub use named::{leads_to, open_alone};
-pub use patience::Patience;
 pub use post::RealPost;
-pub use sink::RealSink;
 pub use site::{ListenFailure, Notice, RealSite};
-pub use standard::fill_standard_streams;
 pub use stream::{RealStream, close, launch};

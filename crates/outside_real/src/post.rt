@@ -6,12 +6,7 @@ ghost use Rattle.outside.specs.Launching.{launch_words};
 ghost use Rattle.request_catalogue.specs.TextBytes.{label_bytes};
 ghost use Rattle.std.specs.Process.{command_args, command_program};
 
-use crate::clock::PostClock;
-use crate::counted::counted;
 use crate::limits::Limits;
-use crate::patience::{Patience, read_within, write_within};
-use crate::seat::Seat;
-use crate::socket;
 use crate::stream::{RealStream, close, command_of, start_child};
 use crate::vault::UserFile;
 use outside::{Failed, Faults, Place, Post, Role, link_count};
@@ -24,6 +19,8 @@ use std::os::unix::net::UnixStream;
 use std::process::{Command, Processes, SystemProcess};
 use std::rt::Files;
 use std::time::{Clock, Duration};
+use system_calls::counted::counted;
+use system_calls::{Patience, PostClock, Seat, read_within, socket, write_within};
 
 /// Where the system tells which thread asks.
 const THREAD: &str = "/proc/thread-self";
@@ -127,15 +124,9 @@ impl<
         ensures kept { NoneFell (faults_of self.old) (faults_of self.new) }
         ensures at { place_of self.new ≡ place_of self.old }
     {
-        self.note_thread();
-        let accepted = self.seat.accept();
-        self.accept_error = match &accepted {
-            Ok(_) => None,
-            Err(error) => Some(*error),
-        };
+        let accepted = self.next_conn();
         let conn = counted(&mut self.faults.accept, accepted)?;
-        self.begun = self.clock.now(&self.rt);
-        self.until = moment_after(self.begun, self.limits.login);
+        self.begin();
         Ok(Some(conn))
     }
 
@@ -263,9 +254,22 @@ impl<R: Processes<Started = SystemProcess> + Net + Clone + Drop> RealPost<R> {
         ensures role { IfOk result (λ child. role_of child ≡ role.now) }
         ensures faultless { IfOk result (λ child. stream_faults child ≡ 0) }
     {
-        let command = self.command_for(role)?;
+        let command = &mut self.command_for(role)?;
         let launcher = self.place.launcher.as_str();
         start_child(&self.rt, launcher, command, *role, patience)
+    }
+}
+
+impl<R: Clock> RealPost<R> {
+    ghost use Rattle.outside_real.specs.RealPost.{faults_of, place_of};
+
+    /// Keeps when the session that was just accepted began, and until when it has time for its login.
+    fn begin(&mut self)
+        ensures faults { faults_of self.new ≡ faults_of self.old }
+        ensures at { place_of self.new ≡ place_of self.old }
+    {
+        self.begun = self.clock.now(&self.rt);
+        self.until = moment_after(self.begun, self.limits.login);
     }
 }
 
@@ -284,6 +288,20 @@ impl<R: Files<File = File>> RealPost<R> {
                 Err(_) => None,
             };
         }
+    }
+
+    /// The next connection. Why there is none is kept.
+    fn next_conn(&mut self) -> io::Result<UnixStream>
+        ensures faults { faults_of self.new ≡ faults_of self.old }
+        ensures at { place_of self.new ≡ place_of self.old }
+    {
+        self.note_thread();
+        let accepted = self.seat.accept();
+        self.accept_error = match &accepted {
+            Ok(_) => None,
+            Err(error) => Some(*error),
+        };
+        accepted
     }
 
     /// The file of this user and name in the place's vault.

@@ -2,13 +2,9 @@ ghost use Rattle.std.specs.Prelude.{◌≡◌, All, IfOk, None, vec_len};
 ghost use Rattle.outside.specs.Faults.{count_after};
 ghost use Rattle.outside_real.specs.RealPost.{IsFreshPost, IsPostAt};
 
-use crate::clock::PostClock;
-use crate::counted::counted;
 use crate::limits::Limits;
-use crate::log_stderr::LogStderr;
 use crate::look::{lacking_path, look_at};
 use crate::post::RealPost;
-use crate::seat::Seat;
 use outside::{Failed, Place, Site, Word};
 use std::alloc::Global;
 use std::fs::File;
@@ -18,6 +14,8 @@ use std::net::Net;
 use std::process::{Processes, SystemProcess};
 use std::rt::Files;
 use std::time::Clock;
+use system_calls::counted::counted;
+use system_calls::{LogStderr, PostClock, Seat};
 
 /// The machine's site: it listens on a Unix socket.
 #[derive(Drop)]
@@ -116,14 +114,25 @@ impl<
             ≡ count_after result (listen_faults_of self.old) }
     {
         let opened = open_posts(self, place);
-        self.failure = match &opened {
-            Ok(_) => None,
-            Err(error) => failure_at(self, place, *error),
+        self.note(place, opened.as_ref().err().copied());
+        counted(&mut self.listen_faults, opened)
+    }
+}
+
+impl<R: Files<File = File>> RealSite<R> {
+    ghost use Rattle.outside_real.specs.RealSite.{listen_faults_of};
+
+    /// Keeps why it could not listen at a place, or says what is to be said where it could.
+    fn note(&mut self, place: &Place, error: Option<io::Error>)
+        ensures { listen_faults_of self.new ≡ listen_faults_of self.old }
+    {
+        self.failure = match error {
+            Some(error) => failure_at(self, place, error),
+            None => None,
         };
-        if opened.is_ok() {
+        if error.is_none() {
             say(&mut self.notice);
         }
-        counted(&mut self.listen_faults, opened)
     }
 }
 
@@ -192,8 +201,21 @@ fn post_on<R: Clone + Drop>(
     ensures fresh { IfOk result (λ post. IsFreshPost post) }
     ensures from { IfOk result (λ post. IsPostAt place.now post) }
 {
-    let seat = seat.try_clone()?;
-    let rt = site.rt.clone()?;
     let place = place.copy(site.alloc)?;
+    post_at(site, seat, place, clock)
+}
+
+/// The same, which takes the place.
+fn post_at<R: Clone + Drop>(
+    site: &RealSite<R>,
+    seat: &Seat,
+    place: Place,
+    clock: PostClock,
+) -> io::Result<RealPost<R>>
+    ensures fresh { IfOk result (λ post. IsFreshPost post) }
+    ensures from { IfOk result (λ post. IsPostAt place post) }
+{
+    let rt = site.rt.clone()?;
+    let seat = seat.try_clone()?;
     Ok(RealPost::new(rt, site.alloc, seat, place, site.limits, clock))
 }

@@ -3,30 +3,23 @@ ghost use Rattle.std.specs.Process.{command_args, command_program};
 ghost use Rattle.outside.specs.Faults.{count_after};
 ghost use Rattle.outside.specs.Launching.{launch_words};
 
-use crate::counted::counted;
-use crate::patience::{Patience, read_within, write_within};
-use crate::socket;
 use outside::{Failed, Role, Stream};
 use std::alloc::Global;
+use std::io;
 use std::io::ErrorKind;
 use std::net::Net;
 use std::os::fd::OwnedFd;
 use std::os::unix::net::UnixStream;
 use std::process::{Child, Command, Processes, Stdio, SystemProcess};
-use std::time::{Clock, Duration, Instant};
-use std::{io, thread};
+use std::time::{Clock, Duration};
+use system_calls::counted::counted;
+use system_calls::{Patience, has_ended, read_within, socket, write_within};
 
 /// The word that tells a launcher to start the child before the login.
 const PRE_MODE: &str = "child-pre";
 
 /// The word that tells a launcher to start a user's child.
 const USER_MODE: &str = "child-user";
-
-/// How many microseconds are slept before a child's end is looked for a second time.
-const FIRST_NAP: u64 = 50;
-
-/// The most microseconds that are slept before it is looked for once more.
-const LONGEST_NAP: u64 = 1_000;
 
 /// A child program, over a socket that is both its standard input and its standard output.
 #[derive(Drop)]
@@ -105,8 +98,7 @@ fn give_words(alloc: Global, command: &mut Command, role: &Role) -> io::Result<(
     match role {
         Role::Pre { session } => {
             let session = format!(in alloc; "{session}")?;
-            command.arg(PRE_MODE)?.arg(session.as_str())?;
-            Ok(())
+            give_session(command, session.as_str())
         }
         Role::User { session, uid, user } => {
             let session = format!(in alloc; "{session}")?;
@@ -114,6 +106,16 @@ fn give_words(alloc: Global, command: &mut Command, role: &Role) -> io::Result<(
             give_user(command, session.as_str(), uid.as_str(), user.as_slice())
         }
     }
+}
+
+/// Gives a command without words those of a child before the login.
+fn give_session(command: &mut Command, session: &str) -> io::Result<()>
+    requires { command_args command.now ≡ [] }
+    ensures program { OnOk result (command_program command.new ≡ command_program command.old) }
+    ensures words { OnOk result (command_args command.new ≡ codes "child-pre" ∷ session.now ∷ []) }
+{
+    command.arg(PRE_MODE)?.arg(session)?;
+    Ok(())
 }
 
 /// Gives a command without words those of a user's child.
@@ -142,7 +144,7 @@ pub fn launch<R: Processes<Started = SystemProcess> + Net + Clone + Drop>(
     ensures role { IfOk result (λ child. child.role ≡ role) }
     ensures faultless { IfOk result (λ child. child.faults ≡ 0) }
 {
-    let command = command_of(alloc, launcher, &role)?;
+    let command = &mut command_of(alloc, launcher, &role)?;
     start_child(rt, launcher, command, role, patience)
 }
 
@@ -150,18 +152,33 @@ pub fn launch<R: Processes<Started = SystemProcess> + Net + Clone + Drop>(
 pub(crate) fn start_child<R: Processes<Started = SystemProcess> + Net + Clone + Drop>(
     rt: &R,
     launcher: &str,
-    command: Command,
+    command: &mut Command,
     role: Role,
     patience: Patience,
 ) -> io::Result<RealStream<R>>
-    requires program { command_program command ≡ launcher.now }
-    requires words { command_args command ≡ launch_words role }
+    requires program { command_program command.now ≡ launcher.now }
+    requires words { command_args command.now ≡ launch_words role }
     ensures role { IfOk result (λ child. child.role ≡ role) }
     ensures faultless { IfOk result (λ child. child.faults ≡ 0) }
 {
-    let (program, socket) = start_pair(rt, launcher, command, &role)?;
+    let pair = start_pair(rt, launcher, command, &role)?;
+    stream_of(rt, pair, role, patience)
+}
+
+/// The stream of a child that was just started, over its program and its socket.
+fn stream_of<R: Clone>(
+    rt: &R,
+    pair: (Child<SystemProcess>, UnixStream),
+    role: Role,
+    patience: Patience,
+) -> io::Result<RealStream<R>>
+    ensures role { IfOk result (λ child. child.role ≡ role) }
+    ensures faultless { IfOk result (λ child. child.faults ≡ 0) }
+{
+    let rt = rt.clone()?;
+    let (program, socket) = pair;
     Ok(RealStream {
-        rt: rt.clone()?,
+        rt,
         program,
         socket,
         patience,
@@ -174,14 +191,17 @@ pub(crate) fn start_child<R: Processes<Started = SystemProcess> + Net + Clone + 
 fn start_pair<R: Processes<Started = SystemProcess> + Net>(
     rt: &R,
     launcher: &str,
-    mut command: Command,
+    command: &mut Command,
     role: &Role,
 ) -> io::Result<(Child<SystemProcess>, UnixStream)>
-    requires program { command_program command ≡ launcher.now }
-    requires words { command_args command ≡ launch_words role.now }
+    requires program { command_program command.now ≡ launcher.now }
+    requires words { command_args command.now ≡ launch_words role.now }
 {
     let (ours, theirs) = UnixStream::pair(rt)?;
-    Ok((start(rt, launcher, &mut command, role, theirs)?, ours))
+    match start(rt, launcher, command, role, theirs) {
+        Ok(program) => Ok((program, ours)),
+        Err(error) => Err(error),
+    }
 }
 
 /// Starts the program of a child, whose standard input and output are both this socket.
@@ -235,26 +255,4 @@ pub fn close<R: Clock + Drop>(rt: &R, child: RealStream<R>, limit: Duration) -> 
         let _ = program.wait();
     }
     faults.saturating_add(1)
-}
-
-/// Whether a child ends within a time. It is looked for again after naps that grow, since most
-/// children are gone at once.
-fn has_ended<R: Clock>(
-    rt: &R,
-    program: &mut Child<SystemProcess>,
-    limit: Duration,
-) -> io::Result<bool> {
-    let start = Instant::now(rt)?;
-    let mut nap = FIRST_NAP;
-    for _ in 0..u64::MAX {
-        if program.try_wait()?.is_some() {
-            return Ok(true);
-        }
-        if start.elapsed(rt)? >= limit {
-            break;
-        }
-        thread::sleep(rt, Duration::from_micros(nap));
-        nap = nap.saturating_mul(2).min(LONGEST_NAP);
-    }
-    Ok(false)
 }

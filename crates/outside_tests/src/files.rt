@@ -1,6 +1,6 @@
 use crate::real::temporary_path;
 use outside::{Failed, Files, Word};
-use outside_real::RealFiles;
+use real_files::RealFiles;
 use std::fs;
 use std::os::unix::fs::symlink;
 use std::rt::Process;

@@ -1,7 +1,8 @@
 ghost use Rattle.std.specs.Prelude.{◌≡◌, ◌≤◌, IfOk};
 
 use outside::{Failed, Place, Post, Role, Sink, Site, Stream, Word};
-use outside_real::{Limits, Patience, PostClock, RealEnds, RealSink, RealSite, close, launch};
+use outside_real::{Limits, RealSite, close, launch};
+use real_files::{RealEnds, RealSink};
 use request_catalogue::{Label, Name};
 use std::alloc::{AllocError, Global};
 use std::fs::OpenOptions;
@@ -13,6 +14,7 @@ use std::rt::{Env, Files as FileSystem, Process};
 use std::test::Fail as Fault;
 use std::time::Duration;
 use std::{env, fs, io, process};
+use system_calls::{Patience, PostClock};
 
 const PRE: Role = Role::Pre { session: 1 };
 

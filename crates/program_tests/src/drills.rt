@@ -1,7 +1,7 @@
 ghost use Rattle.std.specs.Prelude.{◌≤◌};
 
 use drill_mode::*;
-use outside::MemStream;
+use outside_memory::MemStream;
 use std::alloc::Global;
 use std::sync::Wait;
 use std::test::*;

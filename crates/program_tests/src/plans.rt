@@ -2,7 +2,7 @@ ghost use Rattle.std.specs.Prelude.{◌<◌, ◌≤◌};
 
 use drill_plan::*;
 use otp_hash::Algo;
-use outside::Script;
+use outside_memory::Script;
 use policy_model::{Account, Grant, SetupParts};
 use request_catalogue::Label;
 use std::alloc::{AllocError, Global};

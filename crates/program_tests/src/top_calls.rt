@@ -1,5 +1,5 @@
 ghost use Rattle.std.specs.Prelude.{◌<◌, ◌≤◌, All, IfOk, length};
-ghost use Rattle.outside.specs.MemPost.{faults_of, scene_of};
+ghost use Rattle.outside_memory.specs.MemPost.{faults_of, scene_of};
 ghost use Rattle.outside.specs.Scene.{IsFresh};
 
 use account_file::{SetupFault, SetupKey, SetupRule};
@@ -7,9 +7,8 @@ use audit_check::AuditWhy;
 use info_hooks::Hooks;
 use monitor_server::{Detail, Ended, FileKind, World, otplogd};
 use otp_words::{DictFault, DictRule};
-use outside::{
-    Accepted, Act, Bytes, MemFiles, MemPost, MemSink, MemSite, MemStream, Role, Script, Word,
-};
+use outside::{Accepted, Act, Bytes, Role, Word};
+use outside_memory::{MemFiles, MemPost, MemSink, MemSite, MemStream, Script};
 use std::alloc::{AllocError, Global};
 use std::sync::Wait;
 use std::test::Fail as Fault;

@@ -5,9 +5,9 @@ use Rattle.durable_log.specs.Appending.{IsDone}
 use Rattle.line_log.specs.Kept.{HasFailed, line_faults}
 use Rattle.line_log.specs.Line.{is_line}
 use Rattle.outside.specs.Told.{Rose}
-use Rattle.outside_real.specs.declared.sink.RealSink.{RealSink}
-use Rattle.outside_real.specs.RealSink.{writer_of}
-use Rattle.outside_real.specs.RealSink as stream
+use Rattle.real_files.specs.declared.sink.RealSink.{RealSink}
+use Rattle.real_files.specs.RealSink.{writer_of}
+use Rattle.real_files.specs.RealSink as stream
 use Rattle.real_log.specs.declared.log.RealLog.{RealLog}
 use Rattle.real_log.specs.declared.log.RealLog.TheVariants.{Durable, Stream}
 

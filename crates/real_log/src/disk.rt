@@ -5,13 +5,13 @@ ghost use Rattle.outside.specs.Faults.{count_after};
 
 use durable_log::Disk;
 use outside::{Failed, Word};
-use outside_real::counted::counted;
-use outside_real::{leads_to, open_alone};
 use std::fs::{File, OpenOptions};
 use std::io;
 use std::io::ErrorKind;
 use std::os::unix::fs::FileExt;
 use std::rt::Files;
+use system_calls::counted::counted;
+use system_calls::{leads_to, open_alone};
 
 /// A file of the machine. Its name is a path.
 ///

@@ -6,7 +6,7 @@ ghost use Rattle.outside.specs.Faults.{count_after};
 use crate::disk::FileDisk;
 use line_log::LineLog;
 use outside::{Failed, Sink};
-use outside_real::RealSink;
+use real_files::RealSink;
 use std::fs::File;
 use std::io::Write;
 use std::rt::Files;

@@ -1,13 +1,13 @@
 //! Recovery over files in memory.
 
 ghost use Rattle.std.specs.Prelude.{IfOk};
-ghost use Rattle.outside.specs.MemFiles.{contents_of};
+ghost use Rattle.outside_memory.specs.MemFiles.{contents_of};
 ghost use Rattle.outside.specs.Told.{Goes};
 ghost use Rattle.recover_mode.specs.Outcome.{Spares};
 ghost use Rattle.recover_mode.specs.Returning.{BringsBack};
 ghost use Rattle.recovery_rows.specs.Parts.{row_parts};
 
-use outside::{MemFiles, MemStream};
+use outside_memory::{MemFiles, MemStream};
 use recover_mode::{RecoverCommand, Recovery, RecoveryError, run_recover};
 use std::alloc::{AllocError, Global};
 

@@ -2,7 +2,7 @@
 //! what may be left then.
 
 ghost use Rattle.std.specs.Prelude.{◌≡◌, All, IfOk};
-ghost use Rattle.outside.specs.MemPost.{faults_of, scene_of};
+ghost use Rattle.outside_memory.specs.MemPost.{faults_of, scene_of};
 ghost use Rattle.outside.specs.Scene.{IsFresh};
 
 use super::{Came, recover_files};
@@ -10,7 +10,8 @@ use durable_log::MemDisk;
 use fresh_log::fresh_image;
 use info_hooks::Hooks;
 use line_log::LineLog;
-use outside::{Bytes, CallKind, Fail, MemFiles, MemPost, MemSite, Word};
+use outside::{Bytes, Word};
+use outside_memory::{CallKind, Fail, MemFiles, MemPost, MemSite};
 use policy_model::Event;
 use recover_mode::Recovery;
 use serve_mode::{ServeCommand, ServeError, Served, run_serve};

@@ -6,7 +6,8 @@ ghost use Rattle.outside.specs.Scene.{IsFresh};
 ghost use Rattle.run_tests.specs.Silent.{no_faults, silent_scene};
 
 use info_hooks::Hooks;
-use outside::{Failed, MemPost, Post, Role, Stream};
+use outside::{Failed, Post, Role, Stream};
+use outside_memory::MemPost;
 use policy_model::{Ask, Event, Why};
 use request_catalogue::Label;
 use service_play::{Came, Play, Session, come, is_at, lines_of, serve, setup_with, word_list};

@@ -1,6 +1,6 @@
 //! Frames that are no request before the login, and the limit of requests.
 
-use outside::MemPost;
+use outside_memory::MemPost;
 use service_play::{Came, ONE, Play, Session, come, frame, header, sent, setup_with, word_list};
 use std::alloc::{AllocError, Global};
 use std::sync::Wait;

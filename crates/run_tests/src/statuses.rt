@@ -3,7 +3,8 @@
 ghost use Rattle.std.specs.Prelude.{◌≤◌};
 
 use super::beside::{FINISH, WRITE};
-use outside::{CallKind, Fail, MemFiles, MemPost, Receiving};
+use outside::Receiving;
+use outside_memory::{CallKind, Fail, MemFiles, MemPost};
 use policy_model::{Decision, Event};
 use service_play::{
     Came, ONE, Play, Session, chain_in, come, is_at, sent, setup_in, setup_with, told, word_list,

@@ -8,7 +8,8 @@ mod wide;
 
 use crate::dialogue::{Dialogue, Side, are_told};
 use info_hooks::Hooks;
-use outside::{MemPost, Talk};
+use outside::Talk;
+use outside_memory::MemPost;
 use service_play::{Came, Play, Session, come_with, frame, told, word_list};
 use std::alloc::{AllocError, Global};
 use std::str::SplitWhitespace;

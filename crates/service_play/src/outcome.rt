@@ -2,7 +2,8 @@
 
 use account_file::{SetupError, read_setup};
 use decision_log::line;
-use outside::{Act, Files, MemFiles, MemPost, Place, Word};
+use outside::{Act, Files, Place, Word};
+use outside_memory::{MemFiles, MemPost};
 use policy_model::{Decision, Event, Setup};
 use std::alloc::{AllocError, Global};
 use std::test::Fail as Fault;

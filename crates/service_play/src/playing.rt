@@ -1,11 +1,12 @@
 //! A run of the mode `serve` in memory: what it is made of, and what came of it.
 
 ghost use Rattle.std.specs.Prelude.{◌≤◌, All, IfOk};
-ghost use Rattle.outside.specs.MemPost.{faults_of, scene_of};
+ghost use Rattle.outside_memory.specs.MemPost.{faults_of, scene_of};
 ghost use Rattle.outside.specs.Scene.{IsFresh};
 
 use info_hooks::Hooks;
-use outside::{Bytes, Fail, MemFiles, MemPost, MemSink, MemSite, Place, Post, Script, Word};
+use outside::{Bytes, Place, Post, Word};
+use outside_memory::{Fail, MemFiles, MemPost, MemSink, MemSite, Script};
 use policy_model::Event;
 use request_catalogue::Label;
 use serve_mode::{ServeCommand, Served, run_serve, status};

@@ -5,7 +5,8 @@ ghost use Rattle.welcome_laws.specs.Shipped.{IsSaidWhole, role_session, shipped_
 
 use child_protocol::{ChildCore, ChildEnd, PreChild, UserChild, run_child};
 use imsg_frame::Reader;
-use outside::{MemStream, Role};
+use outside::Role;
+use outside_memory::MemStream;
 use request_catalogue::Width;
 use std::alloc::{AllocError, Global};
 

@@ -4,7 +4,8 @@
 ghost use Rattle.std.specs.Prelude.{◌≡◌, ◌≤◌};
 
 use crate::children::said_by_shipped;
-use outside::{MemPost, Role};
+use outside::Role;
+use outside_memory::MemPost;
 use request_catalogue::Name;
 use service_play::{Came, Play, Session, come, sent, setup_with, word_list};
 use std::alloc::Global;

@@ -4,7 +4,8 @@ ghost use Rattle.child_keeper.specs.Tickets.{NamesAccount};
 
 use child_keeper::*;
 use otp_hash::{Algo, Seed};
-use outside::{Accepted, Act, Bytes, CallKind, Fail, Failed, MemPost, Post, Role, Script, Talk};
+use outside::{Accepted, Act, Bytes, Failed, Post, Role, Talk};
+use outside_memory::{CallKind, Fail, MemPost, Script};
 use policy_model::{
     Account, Accounts, Ask, Decision, Event, Grants, Numbers, Setup, SetupParts, Text, plain_salt,
 };

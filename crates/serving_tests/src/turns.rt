@@ -3,7 +3,7 @@ ghost use Rattle.session_turns.specs.Joins.{KeepsRights};
 ghost use Rattle.session_turns.specs.Passes.{IsCalled, IsPassAt, MayCall, rights_of};
 
 use monitor_book::Book;
-use outside::MemSink;
+use outside_memory::MemSink;
 use policy_model::{Ask, Decision, Setup, Why};
 use session_core::Core;
 use session_turns::{AtCell, Turns, call_cell, close_cell, open_cell};

@@ -133,7 +133,7 @@ pub(crate) fn is_export(event: &Event) -> bool
 }
 
 /// What follows a request that was answered.
-pub(crate) fn turn_of(event: &Event) -> Turn
+pub fn turn_of(event: &Event) -> Turn
     requires request { came_by_frame event.now.ask ≡ true }
     requires unexported { exports event.now ≡ false }
     ensures { IsTurnOf event.now result }

@@ -17,7 +17,7 @@ const FILES: u8 = 2;
 
 /// Does what is to be done, and answers what came of it: what is received or read stands in front of
 /// the piece.
-pub(crate) fn perform<P: Post>(
+pub fn perform<P: Post>(
     post: &mut P,
     conn: &mut P::Conn,
     work: &Work<'_>,

@@ -16,13 +16,12 @@ mod texts;
 mod work;
 mod writing;
 
-pub use asking::Turn;
+pub use asking::{Turn, turn_of};
+pub use doing::perform;
 pub use exported::Exported;
 pub use files::OpenFiles;
-pub use live::{Live, LoggedIn};
+pub use live::{Live, LoggedIn, UserFile};
 pub use replies::Replies;
 pub use serving::serve_message;
 pub use texts::Texts;
-
-#[cfg(test)]
-mod tests;
+pub use work::{Outcome, Work};

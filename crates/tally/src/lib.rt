@@ -3,9 +3,7 @@
 #![tactic(auto)]
 
 pub mod object;
-#[cfg(test)]
-mod tests;
 pub mod threads;
 
 pub use object::{Added, Tally};
-pub use threads::{THREADS, call_all, call_from_all};
+pub use threads::{THREADS, call_all, call_from_all, make_calls};

@@ -13,7 +13,7 @@ use turn_cell::{Object, Pass, TurnCell};
 pub const THREADS: usize = 64;
 
 // Makes the call so many times.
-pub(crate) fn make_calls<O: Object, W: Wait>(
+pub fn make_calls<O: Object, W: Wait>(
     rt: &W,
     cell: &TurnCell<O>,
     pass: &mut Pass<O>,

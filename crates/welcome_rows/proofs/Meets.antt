@@ -13,8 +13,8 @@ use Rattle.request_catalogue.specs.TextBytes.{name_bytes}
 use Rattle.request_catalogue.specs.Texts.{is_typed_reply}
 use Rattle.outside.specs.declared.act.Act.{Act}
 use Rattle.outside.specs.declared.act.Talk.{Talk}
-use Rattle.outside.specs.declared.memory.post.MemPost.{MemPost}
-use Rattle.outside.specs.MemPost.{scene_of}
+use Rattle.outside_memory.specs.declared.post.MemPost.{MemPost}
+use Rattle.outside_memory.specs.MemPost.{scene_of}
 use Rattle.outside.specs.Scene.{Scene, bytes_at, came_count, is_coming}
 use Rattle.policy_model.specs.declared.account.Account.{Account}
 use Rattle.policy_model.specs.declared.event.Event.{Event}

@@ -3,8 +3,8 @@ use Rattle.std.proofs.Common.{◌≡◌, ℕ, zero, suc, ◌<◌, ◌≤◌, ◌
 use Rattle.std.proofs.Common.{Option, Some, None, refl, sym, ap, subst, ◌∙◌, arith, length-append}
 use Rattle.std.specs.Prelude.{All, IfSome, slice_get}
 use Rattle.std.proofs.lemmas.Option.{slice_get-get_or, slice_get_cases, slice_get_within}
-use Rattle.outside.specs.declared.memory.post.MemPost.{MemPost}
-use Rattle.outside.specs.MemPost.{faults_of, scene_of}
+use Rattle.outside_memory.specs.declared.post.MemPost.{MemPost}
+use Rattle.outside_memory.specs.MemPost.{faults_of, scene_of}
 use Rattle.outside.specs.Scene.{IsFresh, Scene}
 use Rattle.outside.specs.Told.{Goes}
 use Rattle.monitor_run.specs.Ran.{PlansStay}

@@ -1,10 +1,10 @@
 -- Inner: a user's session that comes to log in, is welcomed and is served files, and the run that it is of.
 use Rattle.std.specs.Prelude.{◌≡◌, ℕ, List, [], ◌∷◌, length, slice_get, Some, IfSome}
 use Rattle.std.specs.List.{AllByRecursion}
-use Rattle.outside.specs.declared.memory.post.MemPost.{MemPost}
-use Rattle.outside.specs.declared.memory.script.Script.{Script}
+use Rattle.outside_memory.specs.declared.post.MemPost.{MemPost}
+use Rattle.outside_memory.specs.declared.script.Script.{Script}
 use Rattle.outside.specs.Scene.{IsFresh}
-use Rattle.outside.specs.MemPost.{faults_of, scene_of}
+use Rattle.outside_memory.specs.MemPost.{faults_of, scene_of}
 use Rattle.policy_model.specs.declared.account.Account.{Account}
 use Rattle.policy_model.specs.declared.event.Event.{Event}
 use Rattle.policy_model.specs.Settings.{IsInRange, Settings}

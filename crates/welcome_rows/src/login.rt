@@ -6,7 +6,8 @@ ghost use Rattle.welcome_rows.specs.Shown.{HasServed, service_by};
 
 use crate::house::House;
 use crate::serving::{Served, Visit, serve};
-use outside::{Bytes, MemPost, Role, Script, Talk};
+use outside::{Bytes, Role, Talk};
+use outside_memory::{MemPost, Script};
 use request_catalogue::Name;
 use service_rows::said_by_shipped;
 use std::alloc::{AllocError, Global};

@@ -1,12 +1,13 @@
 //! A run by posts in memory.
 
 ghost use Rattle.std.specs.Prelude.{◌≡◌, ◌≤◌, IfOk, length};
-ghost use Rattle.outside.specs.MemPost.{scene_of};
+ghost use Rattle.outside_memory.specs.MemPost.{scene_of};
 ghost use Rattle.welcome_rows.specs.Shown.{AreNewPosts, HasServed, IsNewPost, service_by};
 
 use crate::house::House;
 use monitor_run::{Ran, prepare, run};
-use outside::{Bytes, MemPost, MemSink, Script};
+use outside::Bytes;
+use outside_memory::{MemPost, MemSink, Script};
 use policy_model::Event;
 use request_catalogue::Name;
 use std::alloc::{AllocError, Global};

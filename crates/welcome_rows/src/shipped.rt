@@ -5,7 +5,8 @@ ghost use Rattle.std.specs.List.{AllByRecursion};
 ghost use Rattle.outside.specs.Scene.{bytes_for};
 ghost use Rattle.welcome_rows.specs.Met.{IsShippedTalk};
 
-use outside::{Role, Script, Talk};
+use outside::{Role, Talk};
+use outside_memory::Script;
 use service_rows::said_by_shipped;
 use std::alloc::{AllocError, Global};
 

@@ -2,7 +2,7 @@
 
 use super::{Dialogue, Row, Side, are_told, goes_plainly, no_hooks, serve, silent, talks_of};
 use info_hooks::Hooks;
-use outside::MemPost;
+use outside_memory::MemPost;
 use service_play::{Came, frame};
 use std::alloc::{AllocError, Global};
 use std::sync::Wait;

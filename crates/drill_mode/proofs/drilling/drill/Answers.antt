@@ -2,8 +2,8 @@ use Rattle.std.proofs.Common.{◌≡◌, ℕ, true, List, [], Option, None, Some
 use Rattle.std.specs.List.{list_all}
 use Rattle.monitor_book.specs.declared.opened.Opened.{Opened}
 use Rattle.monitor_run.specs.Headline.{RunPromises}
-use Rattle.outside.specs.QuietPost.{faults_of, scene_of}
-use Rattle.outside.specs.QuietSink.{held_of}
+use Rattle.outside_memory.specs.QuietPost.{faults_of, scene_of}
+use Rattle.outside_memory.specs.QuietSink.{held_of}
 use Rattle.service_model.specs.Service.{Service}
 use Rattle.drill_mode.specs.Posts.{tells_whole}
 use Rattle.drill_mode.specs.Services.{service_by}

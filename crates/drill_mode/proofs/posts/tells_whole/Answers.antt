@@ -1,4 +1,4 @@
-use Rattle.outside.specs.QuietPost.{scene_of}
+use Rattle.outside_memory.specs.QuietPost.{scene_of}
 use Rattle.drill_mode.proofs.DrillLemmas.{told_whole}
 use Rattle.drill_mode.proofs.posts.tells_whole.Goals as goal
 

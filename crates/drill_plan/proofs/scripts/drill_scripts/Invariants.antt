@@ -1,6 +1,6 @@
 use Rattle.std.proofs.Common.{◌≡◌, ℕ, ◌≤◌, map}
 use Rattle.std.specs.List.{range_with_len}
-use Rattle.outside.specs.Script.{plan_of}
+use Rattle.outside_memory.specs.Script.{plan_of}
 use Rattle.drill_plan.specs.Classes.{logins_before}
 use Rattle.drill_plan.specs.Plan.{session_bytes}
 use Rattle.drill_plan.proofs.scripts.drill_scripts.Given as goal

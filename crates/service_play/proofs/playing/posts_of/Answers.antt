@@ -1,6 +1,6 @@
 use Rattle.std.proofs.Common.{sym, subst, All}
 use Rattle.std.proofs.lemmas.List.Elements.{All-push}
-use Rattle.outside.specs.MemPost.{faults_of, scene_of}
+use Rattle.outside_memory.specs.MemPost.{faults_of, scene_of}
 use Rattle.outside.specs.Scene.{IsFresh}
 use Rattle.service_play.proofs.playing.posts_of.Goals as goal
 

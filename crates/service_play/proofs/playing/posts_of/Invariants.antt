@@ -1,5 +1,5 @@
 use Rattle.std.proofs.Common.{All}
-use Rattle.outside.specs.MemPost.{faults_of, scene_of}
+use Rattle.outside_memory.specs.MemPost.{faults_of, scene_of}
 use Rattle.outside.specs.Scene.{IsFresh}
 use Rattle.service_play.proofs.playing.posts_of.Given as goal
 

@@ -1,6 +1,6 @@
 use Rattle.std.proofs.Common.{◌∷◌, [], ◌++◌, List, ap, subst, sym, take, ◌+◌, ◌∙◌}
 use Rattle.std.proofs.lemmas.List.{take_more}
-use Rattle.outside.specs.declared.memory.post.MemPost.{MemPost}
+use Rattle.outside_memory.specs.declared.post.MemPost.{MemPost}
 use Rattle.welcome_rows.specs.declared.serving.Visit.{Visit}
 use Rattle.welcome_rows.specs.Shown.{AreNewPosts}
 use Rattle.welcome_rows.proofs.Posts.{new_more}

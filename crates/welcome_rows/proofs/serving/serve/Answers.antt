@@ -3,9 +3,9 @@ use Rattle.monitor_book.specs.declared.opened.Held.{Held}
 use Rattle.monitor_book.specs.declared.opened.Opened.{Opened}
 use Rattle.monitor_book.specs.Lines.{held_by}
 use Rattle.monitor_run.specs.Headline.{RunPromises}
-use Rattle.outside.specs.MemPost.{faults_of, scene_of}
-use Rattle.outside.specs.declared.memory.sink.MemSink.{MemSink}
-use Rattle.outside.specs.MemSink.{faults_of as log_faults, held_of, lengths_of}
+use Rattle.outside_memory.specs.MemPost.{faults_of, scene_of}
+use Rattle.outside_memory.specs.declared.sink.MemSink.{MemSink}
+use Rattle.outside_memory.specs.MemSink.{faults_of as log_faults, held_of, lengths_of}
 use Rattle.service_model.specs.Service.{Service}
 use Rattle.welcome_rows.specs.Shown.{service_by}
 use Rattle.welcome_rows.proofs.Posts.{all_fresh, plans_kept}

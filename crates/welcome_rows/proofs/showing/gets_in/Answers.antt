@@ -1,7 +1,7 @@
 use Rattle.std.proofs.Common.{◌≡◌, List, Option, Some, length, refl, sym, subst, true}
 use Rattle.std.specs.Prelude.{IfSome, slice_get}
 use Rattle.std.proofs.lemmas.Option.{slice_get_read}
-use Rattle.outside.specs.declared.memory.post.MemPost.{MemPost}
+use Rattle.outside_memory.specs.declared.post.MemPost.{MemPost}
 use Rattle.policy_model.specs.declared.event.Event.{Event}
 use Rattle.service_model.specs.Service.{Service}
 use Rattle.welcome_rows.specs.declared.serving.Visit.{Visit}

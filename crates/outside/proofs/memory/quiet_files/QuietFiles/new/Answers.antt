@@ -1,8 +1,0 @@
-use Rattle.std.proofs.Common.{Some, ap, ◌∙◌}
-use Rattle.outside.specs.KeptFile.{files_of}
-use Rattle.outside.proofs.FilesLemmas.{files-same}
-use Rattle.outside.proofs.memory.quiet_files.QuietFiles.new.Goals as goal
-
-pub returns-clause-contents : goal.returns-clause-contents
-returns-clause-contents c =
-    ap (λ files. Some (files_of files 0)) c.in_ok-new.ensures.files ∙ ap Some (files-same c.args.pairs.now)

@@ -1,5 +1,0 @@
-use Rattle.std.proofs.Common.{rules}
-use Rattle.outside.proofs.memory.sink.MemSinkSink.append.Goals as goal
-
-pub returns-in-Some-clause-length_err : goal.returns-in-Some-clause-length_err
-returns-in-Some-clause-length_err c = (c.write-length.result, search rules)

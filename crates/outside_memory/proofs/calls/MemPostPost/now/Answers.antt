@@ -1,0 +1,15 @@
+use Rattle.outside_memory.proofs.RepeatingLemmas.{length-items_after}
+use Rattle.std.proofs.Common.{arith, refl}
+use Rattle.outside_memory.specs.Script.{plan_of}
+use Rattle.outside_memory.proofs.Counted.{counts_did}
+use Rattle.outside_memory.proofs.calls.MemPostPost.now.Goals as goal
+
+pub invariant_of-self : goal.invariant_of-self
+invariant_of-self c = record {
+  in_scripts = c.args.self.now.in_scripts;
+  each_cut = c.args.self.now.each_cut;
+  some_cut = c.args.self.now.some_cut;
+  some_moment = rw c.take.ensures.after (length-items_after c.args.self.now.moments c.args.self.now.some_moment);
+  counted = λ t. omega (arith, c.act.ensures.came c.args.self.now.came c.args.self.now.counted t);
+  told = counts_did _ _ _ _ _ (c.act.ensures.did (plan_of c.args.self.now.scripts.items)) (record { accept = refl; keeper = refl; conn = refl; vault = refl }) c.args.self.now.told;
+}

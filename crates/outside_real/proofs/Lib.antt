@@ -1,2 +1,0 @@
-mod Readings
-mod Findings

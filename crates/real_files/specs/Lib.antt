@@ -1,0 +1,4 @@
+pub mod RealEnds
+pub mod RealFiles
+pub mod RealSink
+pub mod Findings

@@ -1,0 +1,8 @@
+use Rattle.std.proofs.Common.{◌≡◌, length}
+use Rattle.std.specs.Io.KnownBytes.{Keeps}
+use Rattle.system_calls.proofs.again.read_again.Given as goal
+
+-- a reading that a signal interrupts takes nothing
+abbrev pub invariant-loop : goal.invariant-loop
+invariant-loop g l =
+    (length l.buf ≡ length l.initial.buf) × Keeps (g.R.Read.remaining l.initial.reader) (g.R.Read.remaining l.reader)
