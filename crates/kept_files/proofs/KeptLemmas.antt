@@ -59,7 +59,7 @@ all_file contents name before after step = go step.either where
     other : (one : List ℕ) → IsTrue (is_kept one before) → one ≢ name
     other one there is = not_both (is_kept name before) (subst (λ n. IsTrue (is_kept n before)) is there) first.0
 
-all_same : (a b : Kept) → b ≡ a → KeepsAll a b
+pub all_same : (a b : Kept) → b ≡ a → KeepsAll a b
 all_same a b same = record {
   kept = λ one there. subst (λ k. IsTrue (is_kept one k)) (sym same) there;
   files = λ one there. ap (λ k. kept_files k one) same;

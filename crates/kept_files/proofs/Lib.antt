@@ -1,4 +1,5 @@
 pub mod KeptLemmas
+pub mod ListLemmas
 mod Putting
 mod Replacing
 pub mod SetupLemmas

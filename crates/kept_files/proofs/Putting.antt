@@ -7,8 +7,7 @@ use Rattle.std.specs.Str.{bytes_eq}
 use Rattle.std.proofs.lemmas.Bool.{false_from_ne_true}
 use Rattle.std.proofs.lemmas.List.Folds.{find-append, list_any-append}
 use Rattle.std.proofs.lemmas.Slice.Eq.{bytes_eq-Decides}
-use Rattle.outside.specs.Files.{Contents}
-use Rattle.outside.specs.MemFiles.{file_of}
+use Rattle.outside.specs.Files.{Contents, file_of}
 use Rattle.outside.specs.Touched.{has_name}
 use Rattle.kept_files.specs.Kept.{IsFrontOf, Kept, KeepsFile, PutsFile, is_kept, kept_files}
 

@@ -6,8 +6,7 @@ use Rattle.std.proofs.lemmas.Bool.{false_from_ne_true}
 use Rattle.std.proofs.lemmas.List.Folds.{find-set, find_past}
 use Rattle.std.proofs.lemmas.List.Quantifiers.{position-Some}
 use Rattle.std.proofs.lemmas.Slice.Eq.{bytes_eq-Decides}
-use Rattle.outside.specs.Files.{Replaced}
-use Rattle.outside.specs.MemFiles.{file_of}
+use Rattle.outside.specs.Files.{Replaced, file_of}
 
 -- a name passes its own test, and no other
 same_passes : (a b : List ℕ) → a ≡ b → bytes_eq a b ≡ true

@@ -1,9 +1,8 @@
 -- Inner: what is kept of files that were read.
 use Rattle.std.specs.Prelude.{◌≡◌, ◌≢◌, ◌⊎◌, ◌||◌, ℕ, Bool, false, List, Option, is_some, option_map, take}
 use Rattle.std.specs.Prelude.{IfSome, IsTrue}
-use Rattle.outside.specs.Files.{Contents, Replaced}
+use Rattle.outside.specs.Files.{Contents, Replaced, file_of}
 use Rattle.outside.specs.FilesNow.{FilesNow, OnlyReads}
-use Rattle.outside.specs.MemFiles.{file_of}
 use Rattle.outside.specs.Told.{Goes}
 use Rattle.outside.specs.Touched.{HasReplaced, has_name}
 

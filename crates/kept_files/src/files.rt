@@ -1,10 +1,11 @@
-ghost use Rattle.std.specs.Prelude.{◌≡◌, ◌≤◌, ◌∷◌, [], IfOk, IfSome, IsErr, IsTrue, OnErr, OnOk, Some, drop};
-ghost use Rattle.std.specs.Prelude.{false, length, option_map, take};
+ghost use Rattle.std.specs.Prelude.{◌≡◌, ◌≤◌, ◌∷◌, [], Err, IfOk, IfSome, IsErr, IsTrue, OnErr, OnOk, Some};
+ghost use Rattle.std.specs.Prelude.{drop, false, length, option_map, take};
 ghost use Rattle.outside.specs.Faults.{count_after};
 ghost use Rattle.outside.specs.Files.{MayBeReplaced, Replaced, SameFiles, bytes_read, piece_of};
 ghost use Rattle.outside.specs.FilesNow.{files_now};
-ghost use Rattle.outside.specs.Told.{Goes, next_count};
+ghost use Rattle.outside.specs.Told.{Goes, Rose, next_count};
 ghost use Rattle.outside.specs.Touched.{HasRead, HasReplaced, MayHaveRead, MayHaveReplaced};
+ghost use Rattle.file_front.specs.declared.front.FrontError.TheVariants as errors;
 ghost use Rattle.kept_files.specs.Kept.{KeepsFile, KeepsMore, ReplacedBelow, is_kept, kept_files};
 
 use crate::shelf::Shelf;
@@ -85,6 +86,8 @@ impl<F: Files> KeptFiles<F> {
         ensures kept { OnOk result (IsTrue (is_kept name.now (kept_of self.new))) }
         ensures file { KeepsFile (F.contents (under_of self.new)) name.now (kept_of self.old) (kept_of self.new) }
         ensures err { OnErr result (kept_of self.new ≡ kept_of self.old) }
+        ensures failed { result ≡ Err errors.Failed → Rose (F.read_faults (under_of self.old))
+            (F.read_faults (under_of self.new)) }
         ensures more { let now = kept_now (files_now F.contents F.read_faults F.replace_faults F.touched) in
             KeepsMore (name.now ∷ []) (now self.old) (now self.new) }
         ensures touched { Goes (MayHaveRead name.now) (touched_of self.old) (touched_of self.new) }

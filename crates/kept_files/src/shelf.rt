@@ -1,8 +1,7 @@
 ghost use Rattle.std.specs.Prelude.{◌≡◌, ◌∷◌, ◌++◌, [], OnErr, OnOk, Some, false, option_map};
 ghost use Rattle.std.specs.List.{position};
 ghost use Rattle.std.specs.Str.{bytes_eq};
-ghost use Rattle.outside.specs.Files.{Replaced};
-ghost use Rattle.outside.specs.MemFiles.{file_of};
+ghost use Rattle.outside.specs.Files.{Replaced, file_of};
 ghost use Rattle.outside.specs.Touched.{has_name};
 ghost use Rattle.kept_files.specs.Kept.{PutsFile, is_kept, kept_files};
 

@@ -4,12 +4,13 @@ use durable_log::Disk;
 use line_log::LineLog;
 use messages::Complaint;
 use outside::Word;
-use outside_real::{LogStderr, RealSink, open_alone};
+use real_files::RealSink;
 use real_log::{FileDisk, RealLog};
 use std::alloc::{AllocError, Global};
 use std::fs::{File, OpenOptions};
 use std::io::ErrorKind;
 use std::rt::Files;
+use system_calls::{LogStderr, open_alone};
 
 /// The log of a run that writes lines to standard error.
 pub(crate) type RunLog = RealLog<LogStderr, HostRuntime>;

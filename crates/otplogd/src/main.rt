@@ -19,15 +19,18 @@ use kept_files::KeptFiles;
 use messages::{Complaint, RunCounts, RunFaults, complaint_text, say_lacks};
 use monitor_server::{Answer, Detail, Ended, Sides, World, otplogd, run_alone};
 use outside::{Stream, Word};
-use outside_real::{ListenFailure, RealEnds, RealFiles, RealPost, RealSite, fill_standard_streams};
+use outside_real::{ListenFailure, RealPost, RealSite};
+use real_files::{RealEnds, RealFiles};
 use saying::{notice_of, say_end};
 use seed::{RANDOM, add_seed};
 use std::alloc::{AllocError, Global};
 use std::env::Args;
+use std::fs::File;
 use std::io::ErrorKind;
 use std::process::ExitCode;
 use std::rt::Env;
 use std::{env, io};
+use system_calls::fill_standard_streams;
 use usage::{answer_help, mistake_text};
 
 /// The words are no command.
@@ -319,6 +322,46 @@ fn answer_alone<E: Stream>(
     Some(status)
 }
 
+/// The log, and the files that the words name.
+struct Prepared {
+    log: RunLog,
+    /// The file of a log that a recovery or a renewal has to itself.
+    lock: Option<File>,
+    files: RunFiles,
+}
+
+/// Does what the words ask for, where that is to read a log: else what all other modes need.
+fn prepare(
+    rt: HostRuntime,
+    alloc: Global,
+    words: &[Word],
+    information: &Hooks,
+) -> Result<Prepared, ExitCode> {
+    match logs_of(rt, alloc, words) {
+        Ok((log, lock)) => match files_left(rt, alloc, words, information) {
+            Ok(files) => Ok(Prepared { log, lock, files }),
+            Err(status) => Err(status),
+        },
+        Err(error) => Err(complain(&rt, error.complaint(words))),
+    }
+}
+
+/// Reads a log, if the words ask for that, or keeps the files that they name.
+fn files_left(
+    rt: HostRuntime,
+    alloc: Global,
+    words: &[Word],
+    information: &Hooks,
+) -> Result<RunFiles, ExitCode> {
+    if let Some(status) = answer_of_log(rt, alloc, words, information) {
+        return Err(status);
+    }
+    match files_of(rt, alloc, words) {
+        Ok(files) => Ok(files),
+        Err(AllocError) => Err(complain(&rt, Complaint::plain(NO_MEMORY))),
+    }
+}
+
 fn main(rt: HostRuntime) -> ExitCode {
     let alloc = rt.alloc();
     let words = match words_at_start(&rt) {
@@ -335,15 +378,13 @@ fn main(rt: HostRuntime) -> ExitCode {
     let Some(information) = hooks.ok().and_then(|list| Hooks::new(list).ok()) else {
         return complain(&rt, Complaint::plain(NO_MEMORY));
     };
-    let (log, _lock) = match logs_of(rt, alloc, &words) {
-        Ok(logs) => logs,
-        Err(error) => return complain(&rt, error.complaint(&words)),
-    };
-    if let Some(status) = answer_of_log(rt, alloc, &words, &information) {
-        return status;
-    }
-    let Ok(files) = files_of(rt, alloc, &words) else {
-        return complain(&rt, Complaint::plain(NO_MEMORY));
+    let Prepared {
+        log,
+        lock: _lock,
+        files,
+    } = match prepare(rt, alloc, &words, &information) {
+        Ok(prepared) => prepared,
+        Err(status) => return status,
     };
     let mut sides = Sides {
         files,

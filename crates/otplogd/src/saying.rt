@@ -3,10 +3,11 @@
 use crate::durable::prompt_stderr;
 use messages::{Complaint, RunCounts, RunFaults, complaint_text, notice_text};
 use outside::{Files, Word};
-use outside_real::{LogStderr, Notice};
+use outside_real::Notice;
 use std::alloc::Global;
 use std::io;
 use std::io::Write;
+use system_calls::LogStderr;
 
 /// What a run with a durable log says once it listens by the setup of this name. `None`: the setup isn't
 /// right, or there isn't the memory.
