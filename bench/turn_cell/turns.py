@@ -1,13 +1,15 @@
-"""Lets the two programs take turns, and prints for 1, 4 and 16 threads: the calls a second, the processor time, and the
-ratios. The processor time is what getrusage says of the whole child: user and system."""
+"""Lets the programs take turns, and prints for 1, 4 and 16 threads: the calls a second, the processor time, the ratios,
+and for one thread the instructions of a call. The processor time is what getrusage says of the whole child: user and
+system."""
 import os
 import subprocess
 import sys
 
 sys.path.insert(0, os.path.join(os.path.dirname(os.path.abspath(__file__)), "..", "common"))
-from turns import row, take_turns
+from turns import instructions, row, take_turns
 
 CALLS = 4_000_000
+COUNTED = 10_000, 30_000  # the calls of which valgrind counts the instructions
 
 
 def run(program, threads):
@@ -22,13 +24,23 @@ def run(program, threads):
     return CALLS / nanos * 1e3, (used.ru_utime + used.ru_stime) / CALLS * 1e6
 
 
-def main(cell, plain):
+def cost(program):
+    """The instructions of a call by one thread; none without valgrind."""
+    few, more = (instructions(program, 1, calls) for calls in COUNTED)
+    return few and more and round((more - few) / (COUNTED[1] - COUNTED[0]))
+
+
+def main(*paths):
+    programs = dict(zip(["ours", "Rust's Mutex", "a lock in C that spins and parks"], paths))
+    costs = {name: cost(program) for name, program in programs.items()}
     for threads in (1, 4, 16):
-        runs = take_turns({"ours": cell, "Mutex": plain}, lambda program: run(program, threads))
-        rates, times = ([[one[part] for one in seen] for seen in runs.values()] for part in (0, 1))
+        runs = take_turns(programs, lambda program: run(program, threads))
         name = f"a call by {threads} thread{'s' * (threads > 1)}"
-        row(name, "Rust's Mutex", "million calls/s", rates)
-        row(f"{name}, processor time", "Rust's Mutex", "s a million calls", times)
+        for other in list(programs)[1:]:
+            rates, times = ([[one[part] for one in runs[which]] for which in ("ours", other)] for part in (0, 1))
+            counted = (costs["ours"], costs[other]) if threads == 1 and all(costs.values()) else ()
+            row(name, other, "million calls/s", rates, counted)
+            row(f"{name}, processor time", other, "s a million calls", times)
 
 
 main(*sys.argv[1:])
