@@ -1,8 +1,10 @@
-//! The tests of ledger and session table, which stand apart so that no crate waits for them.
+//! The tests of ledger, session table and core, which stand apart so that no crate waits for them.
 #![tactic(auto)]
 
 #[cfg(test)]
 mod asked;
+#[cfg(test)]
+mod cores;
 #[cfg(test)]
 mod ledgers;
 #[cfg(test)]

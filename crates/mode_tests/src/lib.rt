@@ -1,5 +1,5 @@
-//! The tests of the modes `check` and `audit`, of the children's modes and of
-//! the counts, which stand apart so that no crate waits for them.
+//! The tests of the modes `otp`, `check` and `audit`, of new chains, of the children's modes and of the counts,
+//! which stand apart so that no crate waits for them.
 #![tactic(auto)]
 
 #[cfg(test)]
@@ -12,3 +12,7 @@ mod child_commands;
 mod counts;
 #[cfg(test)]
 mod files;
+#[cfg(test)]
+mod passwords;
+#[cfg(test)]
+mod renewals;

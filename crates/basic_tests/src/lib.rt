@@ -1,8 +1,10 @@
-//! The tests of bytes and frames, which stand apart so that no crate waits for them.
+//! The tests of bytes, frames and passwords, which stand apart so that no crate waits for them.
 #![tactic(auto)]
 
 #[cfg(test)]
 mod frames;
+#[cfg(test)]
+mod hashes;
 #[cfg(test)]
 mod lists;
 #[cfg(test)]
@@ -11,3 +13,5 @@ mod requests;
 mod states;
 #[cfg(test)]
 mod text_lines;
+#[cfg(test)]
+mod words;
