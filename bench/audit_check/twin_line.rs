@@ -54,7 +54,7 @@ impl<'a> Words<'a> {
         self.number().filter(|number| (least..=most).contains(number))
     }
 
-    /// A number behind a letter.
+    /// A number after a letter.
     fn lettered(&mut self, letter: char) -> Option<u32> {
         number(self.next()?.strip_prefix(letter)?)
     }
@@ -114,7 +114,7 @@ fn end<'a>(words: &mut Words<'a>) -> Option<Ask<'a>> {
     Some(Ask::End)
 }
 
-/// What stands behind the handle of a read or a write.
+/// What stands after the handle of a read or a write.
 fn place_and_len(words: &mut Words) -> Option<(u64, u16)> {
     Some((words.number()?, words.number()?))
 }

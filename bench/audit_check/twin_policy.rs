@@ -188,7 +188,7 @@ impl Policy {
         Policy { setup, users, places, openings: 0, open, sessions: HashMap::new() }
     }
 
-    /// A line more: whether it may stand behind those so far. If it may, its event is kept.
+    /// A line more: whether it may stand after those so far. If it may, its event is kept.
     pub fn take(&mut self, line: &Line) -> bool {
         let Some(&open) = self.open.get(line.worker as usize) else {
             return false;

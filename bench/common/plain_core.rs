@@ -1,5 +1,5 @@
 // The core as one would write it in plain Rust: a row a worker, the plain ledger, and a map from names to accounts. The
-// twin of bench/session_core steps it alone, that of bench/drill behind a lock.
+// twin of bench/session_core steps it alone, that of bench/drill under a lock.
 use crate::plain_ledger::{Decision, Ledger};
 use std::collections::HashMap;
 

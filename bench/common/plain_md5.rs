@@ -37,7 +37,7 @@ fn word_of(round: usize, step: usize) -> usize {
     }
 }
 
-/// The state behind a step of a round.
+/// The state after a step of a round.
 #[inline(always)]
 fn turned([a, b, c, d]: [u32; 4], words: &[u32; 16], round: usize, step: usize) -> [u32; 4] {
     let sum = a
@@ -56,7 +56,7 @@ macro_rules! turn {
     };
 }
 
-/// The MD5 of a block that is the whole message with what stands behind it, folded to eight bytes. The first byte is
+/// The MD5 of a block that is the whole message with what stands after it, folded to eight bytes. The first byte is
 /// the most significant.
 #[inline(always)]
 pub fn folded(words: [u32; 16]) -> u64 {

@@ -24,7 +24,7 @@ fn stretched(block: [u32; 16]) -> [u32; 80] {
     words
 }
 
-/// The SHA-1 of a block that is the whole message with what stands behind it, folded to eight bytes. The first byte is
+/// The SHA-1 of a block that is the whole message with what stands after it, folded to eight bytes. The first byte is
 /// the most significant.
 pub fn folded(block: [u32; 16]) -> u64 {
     let words = stretched(block);

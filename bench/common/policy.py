@@ -104,13 +104,13 @@ NAME = re.compile(rb"[a-z_][a-z0-9_-]{0,31}")
 LABEL = re.compile(rb"[a-z][a-z0-9._-]{0,63}")
 NOTE = re.compile(rb"[ -~]{1,64}")
 NUMBER = re.compile(rb"0|[1-9][0-9]*")
-# What stands behind the word of an ask.
+# What stands after the word of an ask.
 BEHIND = {
     "open": (), "banner": (), "challenge": ("name", U64), "reply": (), "abandon": (), "export": (U16,), "import": (),
     "read": (U32, U64, U16), "write": (U32, U64, U16), "grant": (U8, LABEL), "close": (U32,), "info": (U32,),
     "note": (NOTE,), "finish": (), "bad": ((2, 5), U32), "end": ("why",),
 }
-# What stands behind the word of an end.
+# What stands after the word of an end.
 WHYS = {"finished": (), "child-ended": (), "truncated": (), "bad-frame": (U16,), "violation": ((1, 7),),
         "link-fault": (), "keeper-fault": (), "log-lost": ()}
 # The asks whose permit has a value in decimal.
@@ -206,7 +206,7 @@ def line_of(number, worker, session, ask, decision):
     return " ".join(words) + "\n"
 
 
-# The policy. A REPLY's ask here has its readings behind its word; those of a log have none.
+# The policy. A REPLY's ask here has its readings after its word; those of a log have none.
 
 NUMBERS = {word: number for number, word in enumerate(
     "banner challenge reply abandon export import read write grant close info note finish".split(), 1)}
@@ -390,7 +390,7 @@ class Policy:
             del session.open[ask[1]]
 
     def may_follow(self, worker, session, ask, decision):
-        """Whether an event of a log may stand behind those so far. Of a reply the log shows no
+        """Whether an event of a log may stand after those so far. Of a reply the log shows no
         readings, so where they decide each decision that some readings lead to may stand."""
         number = self.open.get(worker, 0)
         if worker >= self.setup.workers:

@@ -36,7 +36,7 @@ def build(source, target, *flags):
 
 @contextlib.contextmanager
 def room():
-    """A folder to run in, with a vault and a word list, which is removed behind the run."""
+    """A folder to run in, with a vault and a word list, which is removed after the run."""
     import policy
     before = os.getcwd()
     with tempfile.TemporaryDirectory() as folder:

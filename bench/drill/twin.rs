@@ -1,5 +1,5 @@
 // The drill of N as one would write it in plain Rust: the children's bytes are frames in memory, workers read them frame
-// by frame, decide each request behind one lock, write a line for each event into a log in memory, and reply by frames.
+// by frame, decide each request under one lock, write a line for each event into a log in memory, and reply by frames.
 // Prints the counts of the journal as `otplogd drill N` does. Called as `twin N THREADS`.
 #[path = "../common/plain_core.rs"]
 mod plain_core;

@@ -1,4 +1,4 @@
-// What all workers share, behind one lock: the plain core, the journal and the log; and the texts of challenges.
+// What all workers share, under one lock: the plain core, the journal and the log; and the texts of challenges.
 use crate::plain_core::{Ask, Core, DECOYS, Event, Label, Limits, Name, Step, Why};
 use crate::plain_ledger::{Decision, Ledger};
 use crate::twin_chain::Algo;

@@ -17,7 +17,7 @@ pub fn push_frame(out: &mut Vec<u8>, kind: u32, process: u32, body: &[u8]) {
     out.extend_from_slice(body);
 }
 
-/// The kind and the body of the first frame, and what stands behind it.
+/// The kind and the body of the first frame, and what stands after it.
 pub fn frame_at(bytes: &[u8]) -> Option<(u32, &[u8], &[u8])> {
     let header = bytes.get(..16)?;
     let kind = u32::from_le_bytes(header[..4].try_into().unwrap());
@@ -30,7 +30,7 @@ fn number_at(body: &[u8], at: usize) -> u32 {
     u32::from_le_bytes(body[at..at + 4].try_into().unwrap())
 }
 
-/// The offset of a READ or a WRITE, which stands behind the handle.
+/// The offset of a READ or a WRITE, which stands after the handle.
 fn offset_of(body: &[u8]) -> u64 {
     u64::from_le_bytes(body[4..12].try_into().unwrap())
 }

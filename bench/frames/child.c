@@ -3,7 +3,7 @@
  * It is started as `child-pre SESSION` or `child-user SESSION UID NAME`, and takes the file
  * child/SESSION.pre or child/SESSION.user: a byte that says how it goes on at the end, two bytes for the
  * length of its pieces, and then what it sends. It reads all the while. At the end it shuts down its sending
- * ('s'), or ends at once ('e'). The same file's name and .sent then has its words in a line, and behind that
+ * ('s'), or ends at once ('e'). The same file's name and .sent then has its words in a line, and after that
  * what it was sent. */
 #include <fcntl.h>
 #include <poll.h>

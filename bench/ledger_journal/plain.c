@@ -1,4 +1,4 @@
-/* Appends each line of a text to a log, by the calls and with the bytes of the durable log: behind the closed gate the
+/* Appends each line of a text to a log, by the calls and with the bytes of the durable log: after the closed gate the
  * length, the line and the next closed gate; fdatasync; the gate; fdatasync. The words: the text's file, and the log's,
  * which has the image of no records. Prints how many lines were appended and the nanoseconds that they took. */
 #define _GNU_SOURCE

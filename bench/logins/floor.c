@@ -6,7 +6,7 @@
  *
  *     floor SOCKET LAUNCHER VAULT WORKERS CONNECTIONS [wait]
  *
- * With `wait` it waits for a child's end by one call; without, it looks for it behind naps that grow, as
+ * With `wait` it waits for a child's end by one call; without, it looks for it after naps that grow, as
  * the monitor does. */
 #define _GNU_SOURCE
 #include <errno.h>
@@ -194,7 +194,7 @@ static void put32(unsigned char *at, uint32_t value)
 		at[i] = value >> 8 * i;
 }
 
-/* Does what a request asks, and gives the length of the body behind the answer's first byte. */
+/* Does what a request asks, and gives the length of the body after the answer's first byte. */
 static size_t serve(struct session *s, unsigned kind, const unsigned char *body, size_t len, unsigned char *to)
 {
 	char line[160];
