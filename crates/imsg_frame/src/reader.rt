@@ -101,10 +101,11 @@ impl Reader {
         self.ring.capacity() - self.held()
     }
 
-    /// Gives up the bytes that are held.
+    /// Gives up the bytes that are held, and the frame given last.
     pub fn clear(&mut self)
         ensures width { self.new.width ≡ self.old.width }
         ensures max { self.new.max ≡ self.old.max }
+        ensures given { self.new.given ≡ [] }
         ensures empty { self.new.bytes ≡ [] }
     {
         self.leave();
@@ -126,10 +127,12 @@ impl Reader {
         }
     }
 
-    /// Takes as many bytes of the piece, from its front, as there is room for, and answers how many.
+    /// Takes as many bytes of the piece, from its front, as there is room for, and answers how many. The frame given
+    /// last leaves the ring.
     pub fn feed(&mut self, piece: &[u8]) -> usize
         ensures taken { result ≡ min (length piece.now) (self.old.max - length self.old.bytes) }
         ensures bytes { self.new.bytes ≡ self.old.bytes ++ take result piece.now }
+        ensures given { self.new.given ≡ [] }
         ensures width { self.new.width ≡ self.old.width }
         ensures max { self.new.max ≡ self.old.max }
     {

@@ -11,11 +11,11 @@ use Rattle.policy_model.specs.Settings.{Settings}
 use Rattle.decision_log.specs.Log.{line_of, log_text}
 use Rattle.monitor_book.specs.declared.opened.Held.{Held}
 
--- what a log holds, of which these tell its bytes and the lengths of its appends
+-- what a log holds, of which these report its bytes and the lengths of its appends
 abbrev pub held_by : {K : Type 0} → (K → Option (List ℕ)) → (K → Option (List ℕ)) → K → Held
 held_by bytes lengths log = record { bytes = bytes log; lengths = lengths log }
 
--- nothing was appended to a log, where it tells
+-- nothing was appended to a log, where it reports
 pub record IsUnwritten (before after : Held) : Type 0 where
   pub bytes : Gains before.bytes [] after.bytes
   pub lengths : Gains before.lengths [] after.lengths
@@ -44,7 +44,7 @@ lost_append journal n = if has_lost journal then n ∷ [] else []
 pub record AppendsLines (journal : List Event) (before after : List ℕ) : Type 0 where
   pub appends : (n : ℕ) × (after ≡ before ++ lengths_after 0 (kept_events journal) ++ lost_append journal n)
 
--- where the log tells: it holds what it held and the lines of the journal, each by one append
+-- where the log reports: it holds what it held and the lines of the journal, each by one append
 pub record LogMatches (setup : Settings) (journal : List Event) (before after : Held) : Type 0 where
   pub lines : Goes (HoldsLines setup journal) before.bytes after.bytes
   pub appends : Goes (AppendsLines journal) before.lengths after.lengths

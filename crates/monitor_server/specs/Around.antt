@@ -23,7 +23,7 @@ pub record FilesNow (F : Type 0) : Type 0 where
   pub replace_faults : ℕ
   pub touched : Option Touched
 
--- the files with what stands in them, of which this tells it
+-- the files with what stands in them, of which this reports it
 abbrev pub files_with : {F : Type 0} → (F → Option Contents) → FilesNow F → told.FilesNow
 files_with contents files = record {
   contents = contents files.it;
@@ -32,19 +32,19 @@ files_with contents files = record {
   touched = files.touched;
 }
 
--- the site: itself, where it tells that it listened, and how often it could not
+-- the site: itself, where it reports that it listened, and how often it could not
 pub record SiteNow (S : Type 0) : Type 0 where
   pub it : S
   pub listens : Option (List SitePlace)
   pub faults : ℕ
 
--- the log: itself, what it tells that it holds, by its bytes and by the lengths of its appends, and how many failed
+-- the log: itself, what it reports that it holds, by its bytes and by the lengths of its appends, and how many failed
 pub record LogNow (K : Type 0) : Type 0 where
   pub it : K
   pub held : Held
   pub faults : ℕ
 
--- the ends: themselves, what they tell of the bytes that pass, and how many calls failed
+-- the ends: themselves, what they report of the bytes that pass, and how many calls failed
 pub record EndsNow (E : Type 0) : Type 0 where
   pub it : E
   pub link : Option Link
@@ -77,16 +77,16 @@ only_sides sides = record {
 
 -- ---- what a call says
 
--- a worker's post: what it tells, and its counts of faults
+-- a worker's post: what it reports, and its counts of faults
 pub record PostNow : Type 0 where
   pub scene : Option Scene
   pub faults : Faults
 
--- a post, of which this tells what it tells and counts
+-- a post, of which this says what it reports and counts
 abbrev pub seen : {P : Type 0} → (P → Option Scene) → (P → Faults) → P → PostNow
 seen scene faults post = record { scene = scene post; faults = faults post }
 
--- its exit status and what that alone doesn't tell, all events, and the workers' posts
+-- its exit status and what that alone doesn't say, all events, and the workers' posts
 pub record Said : Type 0 where
   pub status : ℕ
   pub detail : Detail
@@ -123,7 +123,7 @@ LogRose before after = Rose before.faults after.faults
 abbrev pub EndsRose : {E : Type 0} → EndsNow E → EndsNow E → Type 0
 EndsRose before after = Rose before.faults after.faults
 
--- what stands in the files went by this step, where they tell it
+-- what stands in the files went by this step, where they report it
 abbrev pub FilesGo : {F : Type 0} → (Contents → Contents → Type 0) → (F → Option Contents) → FilesNow F → FilesNow F
     → Type 0
 FilesGo Step contents before after = Goes Step (contents before.it) (contents after.it)
