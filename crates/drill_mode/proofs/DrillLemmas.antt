@@ -1,9 +1,12 @@
 -- What a run by quiet posts that told it to the end came to.
-use Rattle.std.proofs.Common.{◌≡◌, ℕ, ◌<◌, ◌≤◌, Bool, true, false, not, ◌&&◌, ◌||◌, ◌==◌, ◌⊎◌, inl, inr, List, [], ◌∷◌, ◌++◌, length, Option, Some, None, refl, sym, ap, subst, ◌∙◌, arith, zero, suc}
+use Rattle.std.proofs.Common.{◌≡◌, ℕ, ◌<◌, ◌≤◌, Bool, true, false, not, ◌&&◌, ◌||◌, ◌==◌, ◌⊎◌, inl, inr, List, [], ◌∷◌, ◌++◌, length, map, Option, Some, None, refl, sym, ap, subst, ◌∙◌, arith, zero, suc}
 use Rattle.std.specs.Prelude.{All, IfSome, IsSome, slice_get, slice_index_or}
 use Rattle.std.specs.List.{list_all, list_any}
+use Rattle.std.proofs.lemmas.List.{length-map}
 use Rattle.std.proofs.lemmas.Option.{slice_get-get_or, slice_get_cases, slice_get_within}
-use Rattle.monitor_run.specs.Headline.{AreFaultless, RunPromises, lost_by, openings_by}
+use Rattle.monitor_run.specs.Headline.{AreFaultless, IsFaultless, RunPromises, lost_by, openings_by}
+use Rattle.monitor_run.specs.Posts.{seen}
+use Rattle.monitor_run.proofs.Seen.{each_seen, seen_stands}
 use Rattle.monitor_run.specs.Ran.{PlansStay}
 use Rattle.outside.specs.declared.act.Act.{Act}
 use Rattle.outside.specs.Scene.{IsFresh, IsUnplayed, Scene}
@@ -117,7 +120,7 @@ module _ (n : ℕ) (service : Service) (before after : List QuietPost) (is : IsD
         }
 
 -- the journal of a drill whose posts told it to the end
-whole_drill : (n : ℕ) (service : Service) (failed : Bool) (log : List ℕ) (journal : List Event) (before after : List QuietPost) → IsDrillService n service → length before ≡ 4 → AreNewPosts n before → PlansStay scene_of before after → list_all (λ post. tells_whole (scene_of post)) after ≡ true → RunPromises service failed journal after scene_of faults_of (record { bytes = Some []; lengths = None }) (record { bytes = Some log; lengths = None }) 0 0 → IsDrilled n journal
+whole_drill : (n : ℕ) (service : Service) (failed : Bool) (log : List ℕ) (journal : List Event) (before after : List QuietPost) → IsDrillService n service → length before ≡ 4 → AreNewPosts n before → PlansStay scene_of before after → list_all (λ post. tells_whole (scene_of post)) after ≡ true → RunPromises service failed journal (map (seen scene_of faults_of) after) (record { bytes = Some []; lengths = None }) (record { bytes = Some log; lengths = None }) 0 0 → IsDrilled n journal
 whole_drill n service failed log journal before after is count new stay whole promises = record {
   setup = service.setup;
   setup_is = is.setup;
@@ -125,8 +128,11 @@ whole_drill n service failed log journal before after is count new stay whole pr
   drill = is_drill n service journal is.setup promises.legal.legal promises.legal.workers kept (promises.whole faultless kept).ended by_plan;
   kept = kept;
 } where
+  one_each : length after ≡ service.setup.workers
+  one_each = sym (length-map after (seen scene_of faults_of)) ∙ promises.one_each
+
   each : (worker : ℕ) (post : QuietPost) → slice_get after worker ≡ Some post → HasPlayed n worker post
-  each = played n service before after is count new stay whole promises.one_each
+  each = played n service before after is count new stay whole one_each
 
   kept : has_lost journal ≡ false
   kept = go (has_lost journal) promises.lost where
@@ -136,25 +142,25 @@ whole_drill n service failed log journal before after is count new stay whole pr
 
   found : (worker : ℕ) → worker < 4 → (post : QuietPost) × (slice_get after worker ≡ Some post)
   found worker below =
-      let within : worker < length after = omega (arith, below, promises.one_each, four n service before after is count new stay whole promises.one_each) in
+      let within : worker < length after = omega (arith, below, one_each, four n service before after is count new stay whole one_each) in
       stands_at after worker within
 
   openings : (worker : ℕ) → worker < 4 → openings_by journal worker ≡ session_count n
   openings worker below =
       let post = found worker below in
       let has = each worker post.0 post.1 in
-      let told : IfSome (Some has.scene) (λ s. list_any is_stop s.acts ≡ false → lost_by journal worker ≡ false → openings_by journal worker ≡ service.setup.connections) = subst (λ s. IfSome s (λ s. list_any is_stop s.acts ≡ false → lost_by journal worker ≡ false → openings_by journal worker ≡ service.setup.connections)) has.told (promises.quota.quota worker post.0 post.1) in
+      let told : IfSome (Some has.scene) (λ s. list_any is_stop s.acts ≡ false → lost_by journal worker ≡ false → openings_by journal worker ≡ service.setup.connections) = subst (λ s. IfSome s (λ s. list_any is_stop s.acts ≡ false → lost_by journal worker ≡ false → openings_by journal worker ≡ service.setup.connections)) has.told (promises.quota.quota worker (seen scene_of faults_of post.0) (seen_stands scene_of faults_of after worker post.0 post.1)) in
       told has.enough (none_lost journal worker kept) ∙ ap (λ (s : Settings). s.connections) is.setup.plain
 
-  faultless : AreFaultless faults_of after
-  faultless = record { each = λ worker post stands. record { no_accept_fault = refl; no_keeper_fault = refl; no_link_fault = refl } }
+  faultless : AreFaultless (map (seen scene_of faults_of) after)
+  faultless = record { each = each_seen scene_of faults_of after (λ worker post. IsFaultless post) (λ worker post stands. record { no_accept_fault = refl; no_keeper_fault = refl; no_link_fault = refl }) }
 
   -- a worker's sessions went by its plan
   by_plan : (worker : ℕ) → worker < 4 → IsPlayed n service journal worker
   by_plan worker below =
       let post = found worker below in
       let has = each worker post.0 post.1 in
-      let told : IfSome (Some has.scene) (λ s. (sittings : List Sitting) × (last : LastAccept) × AreSittingsOf service journal worker sittings × IsStory sittings last s) = subst (λ s. IfSome s (λ s. (sittings : List Sitting) × (last : LastAccept) × AreSittingsOf service journal worker sittings × IsStory sittings last s)) has.told (promises.conversations.held worker post.0 post.1) in
+      let told : IfSome (Some has.scene) (λ s. (sittings : List Sitting) × (last : LastAccept) × AreSittingsOf service journal worker sittings × IsStory sittings last s) = subst (λ s. IfSome s (λ s. (sittings : List Sitting) × (last : LastAccept) × AreSittingsOf service journal worker sittings × IsStory sittings last s)) has.told (promises.conversations.held worker (seen scene_of faults_of post.0) (seen_stands scene_of faults_of after worker post.0 post.1)) in
       record {
         sittings = told.0;
         served = told.2;
@@ -163,6 +169,6 @@ whole_drill n service failed log journal before after is count new stay whole pr
       }
 
 -- the same where the log is told
-pub drilled : (n : ℕ) (service : Service) (failed : Bool) (log : Option (List ℕ)) (journal : List Event) (before after : List QuietPost) → IsDrillService n service → length before ≡ 4 → AreNewPosts n before → PlansStay scene_of before after → list_all (λ post. tells_whole (scene_of post)) after ≡ true → IsSome log → RunPromises service failed journal after scene_of faults_of (record { bytes = Some []; lengths = None }) (record { bytes = log; lengths = None }) 0 0 → IsDrilled n journal
+pub drilled : (n : ℕ) (service : Service) (failed : Bool) (log : Option (List ℕ)) (journal : List Event) (before after : List QuietPost) → IsDrillService n service → length before ≡ 4 → AreNewPosts n before → PlansStay scene_of before after → list_all (λ post. tells_whole (scene_of post)) after ≡ true → IsSome log → RunPromises service failed journal (map (seen scene_of faults_of) after) (record { bytes = Some []; lengths = None }) (record { bytes = log; lengths = None }) 0 0 → IsDrilled n journal
 drilled n service failed None journal before after is count new stay whole some promises = absurd cc
 drilled n service failed (Some log) journal before after is count new stay whole some promises = whole_drill n service failed log journal before after is count new stay whole promises

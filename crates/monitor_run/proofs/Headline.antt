@@ -1,5 +1,5 @@
 -- The parts of the headline, from what the workers of a run did.
-use Rattle.std.proofs.Common.{◌≡◌, ◌≢◌, ℕ, zero, suc, ◌+◌, ◌≤◌, Bool, true, false, ◌||◌, ◌&&◌, cond, eqb, List, [], ◌∷◌, ◌++◌, length, Option, Some, None, refl, sym, ap, subst, ◌∙◌, append-nil, count_by, eq-eqb, arith}
+use Rattle.std.proofs.Common.{◌≡◌, ◌≢◌, ℕ, zero, suc, ◌+◌, ◌≤◌, Bool, true, false, ◌||◌, ◌&&◌, cond, eqb, List, [], ◌∷◌, ◌++◌, length, map, Option, Some, None, refl, sym, ap, subst, ◌∙◌, append-nil, count_by, eq-eqb, arith}
 use Rattle.std.specs.Prelude.{IfSome, slice_get}
 use Rattle.std.specs.List.{AllByRecursion, flat_map, last_or, list_any}
 use Rattle.std.specs.Option.{option_map_or}
@@ -29,8 +29,10 @@ use Rattle.service_model.proofs.Lists.{any-none, count-any, count-cons, count-no
 use Rattle.service_model.proofs.Places.{count_of-places}
 use Rattle.service_model.proofs.Stories.{all_lost_ends, all_opened, never_stopped}
 use Rattle.session_loop.specs.Stories.{RoseBy, asks_among}
-use Rattle.monitor_run.specs.Headline.{AreFaultless, ConversationsMatch, EachScene, FaultEndsAreCounted, IsAnsweredWhole, IsFaultless, IsServedWhole, NoAcceptFailed, RunsToQuota, SessionsInOrder, SomeAcceptFailed, ends_by, ends_by_accept_fault, lost_by, openings_by}
+use Rattle.monitor_run.specs.Headline.{AreFaultless, ConversationsMatch, FaultEndsAreCounted, IsAnsweredWhole, IsFaultless, IsServedWhole, NoAcceptFailed, RunsToQuota, SessionsInOrder, SomeAcceptFailed, ends_by, ends_by_accept_fault, lost_by, openings_by}
+use Rattle.monitor_run.specs.Posts.{EachScene, seen}
 use Rattle.monitor_run.specs.Ran.{RunEnded, WorkerRan}
+use Rattle.monitor_run.proofs.Seen.{each_seen, seen_stands}
 use Rattle.welcome_laws.proofs.Welcomed.{users_are_served, users_get_in}
 
 -- ---- what the worker of each post did
@@ -56,12 +58,12 @@ sessions_in_order {P} service failed journal posts scene faults run = record { i
       let did = run.each worker post is in
       (did.2.sittings, sittings_of service did.0 journal worker (scene post) (faults post) did.2)
 
-pub conversations_match : {P : Type 0} (service : Service) (failed : Bool) (journal : List Event) (posts : List P) (scene : P → Option Scene) (faults : P → Faults) → RunEnded service failed journal posts scene faults → ConversationsMatch service scene journal posts
+pub conversations_match : {P : Type 0} (service : Service) (failed : Bool) (journal : List Event) (posts : List P) (scene : P → Option Scene) (faults : P → Faults) → RunEnded service failed journal posts scene faults → ConversationsMatch service journal (map (seen scene faults) posts)
 conversations_match service failed journal posts scene faults run = record {
-  held = λ worker post is.
+  held = each_seen scene faults posts (λ worker post. IfSome post.scene (λ s. (sittings : List Sitting) × (last : LastAccept) × AreSittingsOf service journal worker sittings × IsStory sittings last s)) (λ worker post is.
       let did = run.each worker post is in
       IfSome-weaker (scene post) (IsStory did.2.sittings did.0) (λ s. (sittings : List Sitting) × (last : LastAccept) × AreSittingsOf service journal worker sittings × IsStory sittings last s)
-      (λ s story. (did.2.sittings, did.0, sittings_of service did.0 journal worker (scene post) (faults post) did.2, story)) did.2.story;
+      (λ s story. (did.2.sittings, did.0, sittings_of service did.0 journal worker (scene post) (faults post) did.2, story)) did.2.story);
 }
 
 -- ---- accepts by which no connection came
@@ -114,22 +116,22 @@ failed_accept : (sittings : List Sitting) (s : Scene) → s.acts ≡ story_acts 
 failed_accept sittings s is =
     ap (λ done. is_fault (last_or None done)) is ∙ ap is_fault (last_or-push None (step_acts (flat_map all_steps sittings)) (acts.Accept accepted.Failed))
 
-pub some_accept_failed : {P : Type 0} (service : Service) (failed : Bool) (journal : List Event) (posts : List P) (scene : P → Option Scene) (faults : P → Faults) → RunEnded service failed journal posts scene faults → failed ≡ true → SomeAcceptFailed scene faults posts
+pub some_accept_failed : {P : Type 0} (service : Service) (failed : Bool) (journal : List Event) (posts : List P) (scene : P → Option Scene) (faults : P → Faults) → RunEnded service failed journal posts scene faults → failed ≡ true → SomeAcceptFailed (map (seen scene faults) posts)
 some_accept_failed service failed journal posts scene faults run h =
     let one = run.one h in
     record {
       worker = one.0;
-      post = one.1;
-      stands = one.2;
+      post = seen scene faults one.1;
+      stands = seen_stands scene faults posts one.0 one.1 one.2;
       counted = one.3.failed refl;
       told = IfSome-weaker (scene one.1) (IsStory one.3.sittings AcceptFailed) (λ s. ends_by_accept_fault s ≡ true) (λ s story. failed_accept one.3.sittings s story.acts) one.3.story;
     }
 
-pub no_accept_failed : {P : Type 0} (service : Service) (failed : Bool) (journal : List Event) (posts : List P) (scene : P → Option Scene) (faults : P → Faults) → RunEnded service failed journal posts scene faults → failed ≡ false → NoAcceptFailed scene posts
+pub no_accept_failed : {P : Type 0} (service : Service) (failed : Bool) (journal : List Event) (posts : List P) (scene : P → Option Scene) (faults : P → Faults) → RunEnded service failed journal posts scene faults → failed ≡ false → NoAcceptFailed (map (seen scene faults) posts)
 no_accept_failed service failed journal posts scene faults run h = record {
-  told = λ worker post is.
+  told = each_seen scene faults posts (λ worker post. IfSome post.scene (λ s. ends_by_accept_fault s ≡ false)) (λ worker post is.
       let did = run.each worker post is in
-      IfSome-weaker (scene post) (IsStory did.2.sittings did.0) (λ s. ends_by_accept_fault s ≡ false) (λ s story. no_failed_accept service did.2.sittings did.0 s did.2.each (did.1 h) story.acts) did.2.story;
+      IfSome-weaker (scene post) (IsStory did.2.sittings did.0) (λ s. ends_by_accept_fault s ≡ false) (λ s story. no_failed_accept service did.2.sittings did.0 s did.2.each (did.1 h) story.acts) did.2.story);
 }
 
 -- ---- the length of the run
@@ -144,12 +146,12 @@ quota_told service journal worker last scene faults s ran story unstop kept =
     let all = ran.quota (unstopped ran.sittings last s.acts story.acts unstop) none in
     count_of-places opens worker journal ∙ ap (count_by (λ p. opens p.event)) ran.all ∙ all_opened service ran.sittings ran.each (sym (ap lost_places ran.all) ∙ none) ∙ all
 
-pub runs_to_quota : {P : Type 0} (service : Service) (failed : Bool) (journal : List Event) (posts : List P) (scene : P → Option Scene) (faults : P → Faults) → RunEnded service failed journal posts scene faults → RunsToQuota service.setup scene journal posts
+pub runs_to_quota : {P : Type 0} (service : Service) (failed : Bool) (journal : List Event) (posts : List P) (scene : P → Option Scene) (faults : P → Faults) → RunEnded service failed journal posts scene faults → RunsToQuota service.setup journal (map (seen scene faults) posts)
 runs_to_quota service failed journal posts scene faults run = record {
-  quota = λ worker post is.
+  quota = each_seen scene faults posts (λ worker post. IfSome post.scene (λ s. list_any is_stop s.acts ≡ false → lost_by journal worker ≡ false → openings_by journal worker ≡ service.setup.connections)) (λ worker post is.
       let did = run.each worker post is in
       IfSome-weaker (scene post) (IsStory did.2.sittings did.0) (λ s. list_any is_stop s.acts ≡ false → lost_by journal worker ≡ false → openings_by journal worker ≡ service.setup.connections)
-      (λ s story unstop kept. quota_told service journal worker did.0 (scene post) (faults post) s did.2 story unstop kept) did.2.story;
+      (λ s story unstop kept. quota_told service journal worker did.0 (scene post) (faults post) s did.2 story unstop kept) did.2.story);
 }
 
 -- ---- the ends by a fault
@@ -160,10 +162,10 @@ ends_counted test journal worker count rose few =
     let le : ends_by test journal worker ≤ length journal = count_by-le-length (λ e. eqb e.worker worker && test e.ask) journal in
     omega (arith, same, le, few, rose.by)
 
-pub fault_ends_are_counted : {P : Type 0} (service : Service) (failed : Bool) (journal : List Event) (posts : List P) (scene : P → Option Scene) (faults : P → Faults) → RunEnded service failed journal posts scene faults → length journal ≤ 1048576 → FaultEndsAreCounted faults journal posts
+pub fault_ends_are_counted : {P : Type 0} (service : Service) (failed : Bool) (journal : List Event) (posts : List P) (scene : P → Option Scene) (faults : P → Faults) → RunEnded service failed journal posts scene faults → length journal ≤ 1048576 → FaultEndsAreCounted journal (map (seen scene faults) posts)
 fault_ends_are_counted service failed journal posts scene faults run few = record {
-  link = λ worker post is. ends_counted is_link_end journal worker (faults post).link (run.each worker post is).2.link few;
-  keeper = λ worker post is. ends_counted is_keeper_end journal worker (faults post).keeper (run.each worker post is).2.keeper few;
+  link = each_seen scene faults posts (λ worker post. ends_by is_link_end journal worker ≤ post.faults.link) (λ worker post is. ends_counted is_link_end journal worker (faults post).link (run.each worker post is).2.link few);
+  keeper = each_seen scene faults posts (λ worker post. ends_by is_keeper_end journal worker ≤ post.faults.keeper) (λ worker post is. ends_counted is_keeper_end journal worker (faults post).keeper (run.each worker post is).2.keeper few);
 }
 
 -- ---- completeness
@@ -207,7 +209,7 @@ lost_all journal worker none =
 none_rose : (n : ℕ) (count : ℕ) → RoseBy n 0 count → count ≡ 0 → n ≡ 0
 none_rose n count rose none = omega (arith, rose.by, none)
 
-no_fault_ends : {P : Type 0} (service : Service) (failed : Bool) (journal : List Event) (posts : List P) (scene : P → Option Scene) (faults : P → Faults) → RunEnded service failed journal posts scene faults → has_lost journal ≡ false → ((worker : ℕ) (post : P) → slice_get posts worker ≡ Some post → IsFaultless faults post) → (worker : ℕ) → asks_among is_fault_end (worker_places journal worker) ≡ 0
+no_fault_ends : {P : Type 0} (service : Service) (failed : Bool) (journal : List Event) (posts : List P) (scene : P → Option Scene) (faults : P → Faults) → RunEnded service failed journal posts scene faults → has_lost journal ≡ false → ((worker : ℕ) (post : P) → slice_get posts worker ≡ Some post → IsFaultless (seen scene faults post)) → (worker : ℕ) → asks_among is_fault_end (worker_places journal worker) ≡ 0
 no_fault_ends {P} service failed journal posts scene faults run kept faultless worker = go (slice_get posts worker) refl where
   go : (o : Option P) → slice_get posts worker ≡ o → asks_among is_fault_end (worker_places journal worker) ≡ 0
   go None is = ap (asks_among is_fault_end) (run.unbegun worker (get_past posts worker is))
@@ -222,19 +224,22 @@ no_fault_ends {P} service failed journal posts scene faults run kept faultless w
 pub answered_whole : {P : Type 0} (service : Service) (failed : Bool) (journal : List Event) (posts : List P)
     (scene : P → Option Scene) (faults : P → Faults) → RunEnded service failed journal posts scene faults
     → IsLegal service.setup journal → length journal ≤ EVENTS_LIMIT → IsInRange service.setup
-    → AreFaultless faults posts → has_lost journal ≡ false → IsAnsweredWhole service scene journal posts
-answered_whole service failed journal posts scene faults run legal few range none kept =
+    → AreFaultless (map (seen scene faults) posts) → has_lost journal ≡ false → IsAnsweredWhole service journal (map (seen scene faults) posts)
+answered_whole {P} service failed journal posts scene faults run legal few range none kept =
     record { ended = ended; answered = answered } where
+      faultless : (worker : ℕ) (post : P) → slice_get posts worker ≡ Some post → IsFaultless (seen scene faults post)
+      faultless worker post is = none.each worker (seen scene faults post) (seen_stands scene faults posts worker post is)
+
       ended : list_any (λ e. is_fault_end e.ask) journal ≡ false
       ended = none_by_worker (λ e. is_fault_end e.ask) journal
           (λ worker. count_of-places (λ e. is_fault_end e.ask) worker journal
-          ∙ no_fault_ends service failed journal posts scene faults run kept none.each worker)
+          ∙ no_fault_ends service failed journal posts scene faults run kept faultless worker)
 
-      answered : EachScene scene posts (IsServedWhole service journal)
-      answered worker post is =
+      whole : (worker : ℕ) (post : P) → slice_get posts worker ≡ Some post → IfSome (scene post) (IsServedWhole service journal worker)
+      whole worker post is =
           let did = run.each worker post is in
           let link = none_rose (asks_among is_link_end (worker_places journal worker)) (faults post).link did.2.link
-          (none.each worker post is).no_link_fault in
+          (faultless worker post is).no_link_fault in
           let each = all_answered service did.2.sittings did.2.each
           (sym (ap (asks_among is_link_end) did.2.all) ∙ link) in
           let served = sittings_of service did.0 journal worker (scene post) (faults post) did.2 in
@@ -250,3 +255,6 @@ answered_whole service failed journal posts scene faults run legal few range non
             welcomed = welcomed;
             files = files;
           }) did.2.story
+
+      answered : EachScene (map (seen scene faults) posts) (IsServedWhole service journal)
+      answered = each_seen scene faults posts (λ worker post. IfSome post.scene (IsServedWhole service journal worker)) whole

@@ -1,5 +1,7 @@
 -- All that a run promises, from what its workers did and what its book keeps.
-use Rattle.std.proofs.Common.{◌≡◌, ℕ, ◌≤◌, Bool, true, false, List, length, Option, Some, sym, subst}
+use Rattle.std.proofs.Common.{◌≡◌, ℕ, ◌≤◌, Bool, true, false, List, length, map, Option, Some, sym, subst, ◌∙◌}
+use Rattle.std.specs.Prelude.{IfSome}
+use Rattle.std.proofs.lemmas.List.{length-map}
 use Rattle.std.specs.List.{AllByRecursion}
 use Rattle.decision_log.specs.Typed.{IsTyped}
 use Rattle.monitor_book.specs.declared.opened.Held.{Held}
@@ -7,7 +9,7 @@ use Rattle.monitor_book.specs.declared.opened.Opened.{Opened}
 use Rattle.monitor_book.specs.Kept.{BookParts, IsBook}
 use Rattle.monitor_book.specs.Lines.{LogMatches, decided_in}
 use Rattle.outside.specs.declared.faults.Faults.{Faults}
-use Rattle.outside.specs.Scene.{Scene}
+use Rattle.outside.specs.Scene.{CountsAsTold, Scene}
 use Rattle.outside.specs.Told.{Rose}
 use Rattle.policy_laws.proofs.Alike.{shows_no_accounts}
 use Rattle.policy_model.specs.declared.event.Event.{Event}
@@ -18,9 +20,11 @@ use Rattle.service_model.specs.Service.{Service}
 use Rattle.session_core.specs.Parts.{setup_of}
 use Rattle.session_core.proofs.ReplayLemmas.{consequences}
 use Rattle.session_turns.specs.Passes.{opened_of}
-use Rattle.monitor_run.specs.Headline.{FaultsAreCounted, RunPromises}
-use Rattle.monitor_run.specs.Ran.{RunEnded}
+use Rattle.monitor_run.specs.Headline.{RunPromises}
+use Rattle.monitor_run.specs.Posts.{seen}
+use Rattle.monitor_run.specs.Ran.{AllCountAsTold, RunEnded}
 use Rattle.monitor_run.proofs.Headline.{answered_whole, conversations_match, fault_ends_are_counted, no_accept_failed, runs_to_quota, sessions_in_order, some_accept_failed}
+use Rattle.monitor_run.proofs.Seen.{each_seen}
 
 -- what the book of a run keeps, by what was fixed of it
 pub record BookSays (setup : Settings) (journal : List Event) (held_old held_new : Held) (log_old log_new : ℕ) : Type 0 where
@@ -43,7 +47,7 @@ book_says setup book held faults is told =
 pub book_setup : (opened : Opened) (book : BookParts) → Some opened ≡ Some (opened_of book) → opened.setup ≡ setup_of book.core
 book_setup opened book told = cc
 
-pub run_promises : {P : Type 0} (service : Service) (failed : Bool) (journal : List Event) (posts : List P) (scene : P → Option Scene) (faults : P → Faults) (held_old held_new : Held) (log_old log_new : ℕ) → RunEnded service failed journal posts scene faults → BookSays service.setup journal held_old held_new log_old log_new → length journal ≤ 1048576 → length posts ≡ service.setup.workers → FaultsAreCounted scene faults posts → RunPromises service failed journal posts scene faults held_old held_new log_old log_new
+pub run_promises : {P : Type 0} (service : Service) (failed : Bool) (journal : List Event) (posts : List P) (scene : P → Option Scene) (faults : P → Faults) (held_old held_new : Held) (log_old log_new : ℕ) → RunEnded service failed journal posts scene faults → BookSays service.setup journal held_old held_new log_old log_new → length journal ≤ 1048576 → length posts ≡ service.setup.workers → AllCountAsTold scene faults posts → RunPromises service failed journal (map (seen scene faults) posts) held_old held_new log_old log_new
 run_promises service failed journal posts scene faults held_old held_new log_old log_new ended says few one_each counted =
     record {
       legal = record { legal = says.run.legal; proper = says.run.proper; workers = says.run.workers; few = few; typed = says.typed };
@@ -54,8 +58,8 @@ run_promises service failed journal posts scene faults held_old held_new log_old
       unseen = shows_no_accounts service.setup journal says.run.legal;
       quota = runs_to_quota service failed journal posts scene faults ended;
       fault_ends = fault_ends_are_counted service failed journal posts scene faults ended few;
-      counted = counted;
-      one_each = one_each;
+      counted = record { each = each_seen scene faults posts (λ worker post. IfSome post.scene (λ s. CountsAsTold s post.faults)) counted.each };
+      one_each = length-map posts (seen scene faults) ∙ one_each;
       lost = says.rose;
       kept = says.kept;
       accept_failed = some_accept_failed service failed journal posts scene faults ended;
@@ -64,11 +68,11 @@ run_promises service failed journal posts scene faults held_old held_new log_old
     }
 
 -- the same under the names of what was handed out
-pub run_told : {P : Type 0} {service service' : Service} {failed failed' : Bool} {journal journal' : List Event} {posts posts' : List P} {scene : P → Option Scene} {faults : P → Faults} {held held_new held_new' : Held} {log log_new log_new' : ℕ} → service' ≡ service → failed' ≡ failed → journal' ≡ journal → posts' ≡ posts → held_new' ≡ held_new → log_new' ≡ log_new → RunPromises service failed journal posts scene faults held held_new log log_new → RunPromises service' failed' journal' posts' scene faults held held_new' log log_new'
-run_told {P} {service} {service'} {failed} {failed'} {journal} {journal'} {posts} {posts'} {scene} {faults} {held} {held_new} {held_new'} {log} {log_new} {log_new'} s f j p h l is =
-    subst (λ s. RunPromises s failed' journal' posts' scene faults held held_new' log log_new') (sym s)
-    (subst (λ b. RunPromises service b journal' posts' scene faults held held_new' log log_new') (sym f)
-    (subst (λ es. RunPromises service failed es posts' scene faults held held_new' log log_new') (sym j)
-    (subst (λ ps. RunPromises service failed journal ps scene faults held held_new' log log_new') (sym p)
-    (subst (λ o. RunPromises service failed journal posts scene faults held o log log_new') (sym h)
-    (subst (λ n. RunPromises service failed journal posts scene faults held held_new log n) (sym l) is)))))
+pub run_told : {P : Type 0} (scene : P → Option Scene) (faults : P → Faults) {service service' : Service} {failed failed' : Bool} {journal journal' : List Event} {posts posts' : List P} {held held_new held_new' : Held} {log log_new log_new' : ℕ} → service' ≡ service → failed' ≡ failed → journal' ≡ journal → posts' ≡ posts → held_new' ≡ held_new → log_new' ≡ log_new → RunPromises service failed journal (map (seen scene faults) posts) held held_new log log_new → RunPromises service' failed' journal' (map (seen scene faults) posts') held held_new' log log_new'
+run_told {P} scene faults {service} {service'} {failed} {failed'} {journal} {journal'} {posts} {posts'} {held} {held_new} {held_new'} {log} {log_new} {log_new'} s f j p h l is =
+    subst (λ s. RunPromises s failed' journal' (map (seen scene faults) posts') held held_new' log log_new') (sym s)
+    (subst (λ b. RunPromises service b journal' (map (seen scene faults) posts') held held_new' log log_new') (sym f)
+    (subst (λ es. RunPromises service failed es (map (seen scene faults) posts') held held_new' log log_new') (sym j)
+    (subst (λ ps. RunPromises service failed journal (map (seen scene faults) ps) held held_new' log log_new') (sym p)
+    (subst (λ o. RunPromises service failed journal (map (seen scene faults) posts) held o log log_new') (sym h)
+    (subst (λ n. RunPromises service failed journal (map (seen scene faults) posts) held held_new log n) (sym l) is)))))

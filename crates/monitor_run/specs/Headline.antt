@@ -1,6 +1,6 @@
 -- Believed: what is promised of a run, in its parts.
 use Rattle.std.specs.Prelude.{◌≡◌, ℕ, ◌<◌, ◌≤◌, Bool, true, false, ◌&&◌, ◌==◌, List, [], length, count_by, slice_get}
-use Rattle.std.specs.Prelude.{Option, Some, None, IfSome}
+use Rattle.std.specs.Prelude.{Some, None, IfSome}
 use Rattle.std.specs.List.{AllByRecursion, last_or, list_any}
 use Rattle.std.specs.Option.{option_map_or}
 use Rattle.policy_laws.specs.Consequences.{HasConsequences}
@@ -9,7 +9,6 @@ use Rattle.decision_log.specs.Typed.{IsTyped}
 use Rattle.monitor_book.specs.declared.opened.Held.{Held}
 use Rattle.monitor_book.specs.Lines.{LogMatches, decided_in}
 use Rattle.outside.specs.Told.{Rose}
-use Rattle.outside.specs.declared.faults.Faults.{Faults}
 use Rattle.outside.specs.Scene.{CountsAsTold, Scene, is_failed_accept}
 use Rattle.policy_model.specs.declared.event.Ask.{Ask}
 use Rattle.policy_model.specs.declared.event.Event.{Event}
@@ -25,6 +24,7 @@ use Rattle.service_model.specs.Sittings.{AreAnswered, AreSittingsOf, Sitting}
 use Rattle.service_model.specs.Stories.{IsStory, LastAccept, is_stop}
 use Rattle.welcome_laws.specs.Files.{UsersAreServed}
 use Rattle.welcome_laws.specs.Welcome.{UsersGetIn}
+use Rattle.monitor_run.specs.Posts.{EachPost, EachScene, PostNow}
 
 -- ---- the journal is legal
 
@@ -44,16 +44,10 @@ pub record SessionsInOrder (service : Service) (journal : List Event) : Type 0 w
 
 -- ---- the operations and the bytes
 
--- this holds of every worker and what its post reports, if it reports
-abbrev pub EachScene : {P : Type 0} → (P → Option Scene) → List P → (ℕ → Scene → Type 0) → Type 0
-EachScene {P} scene posts Holds =
-    (worker : ℕ) (post : P) → slice_get posts worker ≡ Some post → IfSome (scene post) (Holds worker)
-
 -- what a post reports, if it does, is exactly its worker's sessions: operations, bytes sent, taken and left unread, and
 -- at most one last accept
-pub record ConversationsMatch {P : Type 0} (service : Service) (scene : P → Option Scene) (journal : List Event)
-    (posts : List P) : Type 0 where
-  pub held : EachScene scene posts (λ worker s. (sittings : List Sitting) × (last : LastAccept)
+pub record ConversationsMatch (service : Service) (journal : List Event) (posts : List PostNow) : Type 0 where
+  pub held : EachScene posts (λ worker s. (sittings : List Sitting) × (last : LastAccept)
       × AreSittingsOf service journal worker sittings × IsStory sittings last s)
 
 -- ---- the length of the run
@@ -68,9 +62,8 @@ lost_by journal worker = list_any (λ e. e.worker == worker && is_lost e.decisio
 
 -- a worker that no accept stopped and that lost no decision opened exactly as many sessions as the setup has
 -- connections, if its post reports
-pub record RunsToQuota {P : Type 0} (setup : Settings) (scene : P → Option Scene) (journal : List Event)
-    (posts : List P) : Type 0 where
-  pub quota : EachScene scene posts (λ worker s. list_any is_stop s.acts ≡ false → lost_by journal worker ≡ false
+pub record RunsToQuota (setup : Settings) (journal : List Event) (posts : List PostNow) : Type 0 where
+  pub quota : EachScene posts (λ worker s. list_any is_stop s.acts ≡ false → lost_by journal worker ≡ false
       → openings_by journal worker ≡ setup.connections)
 
 -- ---- accepts that failed
@@ -80,17 +73,16 @@ abbrev pub ends_by_accept_fault : Scene → Bool
 ends_by_accept_fault scene = option_map_or is_failed_accept (last_or None scene.acts) false
 
 -- some worker's post counts a failed accept and reports one, if it reports, as its last operation
-pub record SomeAcceptFailed {P : Type 0} (scene : P → Option Scene) (faults : P → Faults)
-    (posts : List P) : Type 0 where
+pub record SomeAcceptFailed (posts : List PostNow) : Type 0 where
   pub worker : ℕ
-  pub post : P
+  pub post : PostNow
   pub stands : slice_get posts worker ≡ Some post
-  pub counted : 0 < (faults post).accept
-  pub told : IfSome (scene post) (λ s. ends_by_accept_fault s ≡ true)
+  pub counted : 0 < post.faults.accept
+  pub told : IfSome post.scene (λ s. ends_by_accept_fault s ≡ true)
 
 -- no worker's post reports a failed accept as its last operation
-pub record NoAcceptFailed {P : Type 0} (scene : P → Option Scene) (posts : List P) : Type 0 where
-  pub told : EachScene scene posts (λ worker s. ends_by_accept_fault s ≡ false)
+pub record NoAcceptFailed (posts : List PostNow) : Type 0 where
+  pub told : EachScene posts (λ worker s. ends_by_accept_fault s ≡ false)
 
 -- ---- the ends by a fault
 
@@ -99,31 +91,27 @@ abbrev pub ends_by : (Ask → Bool) → List Event → ℕ → ℕ
 ends_by test journal worker = count_by (λ e. e.worker == worker && test e.ask) journal
 
 -- at most as many of a worker's sessions ended by a failed link or a failed start as its post counts
-pub record FaultEndsAreCounted {P : Type 0} (faults : P → Faults) (journal : List Event) (posts : List P) : Type 0 where
-  pub link : (worker : ℕ) (post : P) → slice_get posts worker ≡ Some post → ends_by is_link_end journal worker
-      ≤ (faults post).link
-  pub keeper : (worker : ℕ) (post : P) → slice_get posts worker ≡ Some post → ends_by is_keeper_end journal worker
-      ≤ (faults post).keeper
+pub record FaultEndsAreCounted (journal : List Event) (posts : List PostNow) : Type 0 where
+  pub link : EachPost posts (λ worker post. ends_by is_link_end journal worker ≤ post.faults.link)
+  pub keeper : EachPost posts (λ worker post. ends_by is_keeper_end journal worker ≤ post.faults.keeper)
 
 -- each post, if it reports, counts exactly the failed operations that it reports: accepts, starts, and those on
 -- connections and users' files
-pub record FaultsAreCounted {P : Type 0} (scene : P → Option Scene) (faults : P → Faults)
-    (posts : List P) : Type 0 where
-  pub each : (worker : ℕ) (post : P) → slice_get posts worker ≡ Some post
-      → IfSome (scene post) (λ s. CountsAsTold s (faults post))
+pub record FaultsAreCounted (posts : List PostNow) : Type 0 where
+  pub each : EachPost posts (λ worker post. IfSome post.scene (λ s. CountsAsTold s post.faults))
 
 -- ---- completeness
 
 -- a post counts no failed accept, start or link; of connections and users' files, whose failures are answered, it may
 -- count some
-pub record IsFaultless {P : Type 0} (faults : P → Faults) (post : P) : Type 0 where
-  pub no_accept_fault : (faults post).accept ≡ 0
-  pub no_keeper_fault : (faults post).keeper ≡ 0
-  pub no_link_fault : (faults post).link ≡ 0
+pub record IsFaultless (post : PostNow) : Type 0 where
+  pub no_accept_fault : post.faults.accept ≡ 0
+  pub no_keeper_fault : post.faults.keeper ≡ 0
+  pub no_link_fault : post.faults.link ≡ 0
 
 -- every post is without a fault (`IsFaultless`)
-pub record AreFaultless {P : Type 0} (faults : P → Faults) (posts : List P) : Type 0 where
-  pub each : (worker : ℕ) (post : P) → slice_get posts worker ≡ Some post → IsFaultless faults post
+pub record AreFaultless (posts : List PostNow) : Type 0 where
+  pub each : EachPost posts (λ worker post. IsFaultless post)
 
 -- a worker's sessions are all its events, match what its post reports, and got every answer; users who came to log in
 -- were welcomed and served their files
@@ -137,29 +125,28 @@ pub record IsServedWhole (service : Service) (journal : List Event) (worker : �
   pub files : UsersAreServed service journal sittings
 
 -- no session ended by a fault, and each worker's sessions were served whole (`IsServedWhole`)
-pub record IsAnsweredWhole {P : Type 0} (service : Service) (scene : P → Option Scene) (journal : List Event)
-    (posts : List P) : Type 0 where
+pub record IsAnsweredWhole (service : Service) (journal : List Event) (posts : List PostNow) : Type 0 where
   pub ended : list_any (λ e. is_fault_end e.ask) journal ≡ false
-  pub answered : EachScene scene posts (IsServedWhole service journal)
+  pub answered : EachScene posts (IsServedWhole service journal)
 
 -- ---- all of it
 
 -- all that is promised of a run that has served by a service: what its
 -- journal, its posts and its log are, and whether an accept failed
-pub record RunPromises {P : Type 0} (service : Service) (failed : Bool) (journal : List Event) (posts : List P)
-    (scene : P → Option Scene) (faults : P → Faults) (held_old held_new : Held) (log_old log_new : ℕ) : Type 0 where
+pub record RunPromises (service : Service) (failed : Bool) (journal : List Event) (posts : List PostNow)
+    (held_old held_new : Held) (log_old log_new : ℕ) : Type 0 where
   pub legal : JournalIsLegal service.setup journal
   pub sessions : SessionsInOrder service journal
-  pub conversations : ConversationsMatch service scene journal posts
+  pub conversations : ConversationsMatch service journal posts
   pub log : LogMatches service.setup journal held_old held_new
   pub consequences : HasConsequences service.setup journal
   pub unseen : ShowsNoAccounts service.setup journal
-  pub quota : RunsToQuota service.setup scene journal posts
-  pub fault_ends : FaultEndsAreCounted faults journal posts
-  pub counted : FaultsAreCounted scene faults posts
+  pub quota : RunsToQuota service.setup journal posts
+  pub fault_ends : FaultEndsAreCounted journal posts
+  pub counted : FaultsAreCounted posts
   pub one_each : length posts ≡ service.setup.workers
   pub lost : has_lost journal ≡ true → Rose log_old log_new
   pub kept : has_lost journal ≡ false → log_new ≡ log_old
-  pub accept_failed : failed ≡ true → SomeAcceptFailed scene faults posts
-  pub accepted : failed ≡ false → NoAcceptFailed scene posts
-  pub whole : AreFaultless faults posts → has_lost journal ≡ false → IsAnsweredWhole service scene journal posts
+  pub accept_failed : failed ≡ true → SomeAcceptFailed posts
+  pub accepted : failed ≡ false → NoAcceptFailed posts
+  pub whole : AreFaultless posts → has_lost journal ≡ false → IsAnsweredWhole service journal posts

@@ -1,4 +1,5 @@
 pub mod Workers
+pub mod Posts
 pub mod Prepared
 pub mod Ran
 pub mod Headline

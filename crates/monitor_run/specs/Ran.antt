@@ -3,7 +3,7 @@ use Rattle.std.specs.Prelude.{◌≡◌, ◌≢◌, ℕ, ◌<◌, ◌≤◌, Boo
 use Rattle.std.specs.Prelude.{Some, IfSome}
 use Rattle.std.specs.List.{AllByRecursion, flat_map}
 use Rattle.outside.specs.declared.faults.Faults.{Faults}
-use Rattle.outside.specs.Scene.{Scene}
+use Rattle.outside.specs.Scene.{CountsAsTold, Scene}
 use Rattle.outside.specs.Told.{Goes}
 use Rattle.policy_model.specs.declared.event.Event.{Event}
 use Rattle.policy_model.specs.Asks.{is_lost}
@@ -47,3 +47,8 @@ pub record RunEnded {P : Type 0} (service : Service) (failed : Bool) (journal : 
 pub record PlansStay {P : Type 0} (scene : P → Option Scene) (before after : List P) : Type 0 where
   pub each : (worker : ℕ) (old new : P) → slice_get before worker ≡ Some old → slice_get after worker ≡ Some new
       → Goes (λ b a. a.plan ≡ b.plan) (scene old) (scene new)
+
+-- each post, if it tells, counts exactly the failed operations that it tells of
+pub record AllCountAsTold {P : Type 0} (scene : P → Option Scene) (faults : P → Faults) (posts : List P) : Type 0 where
+  pub each : (worker : ℕ) (post : P) → slice_get posts worker ≡ Some post
+      → IfSome (scene post) (λ s. CountsAsTold s (faults post))

@@ -1,9 +1,10 @@
 //! The run itself.
 
-ghost use Rattle.std.specs.Prelude.{◌≡◌, ℕ, All, Some, length};
+ghost use Rattle.std.specs.Prelude.{◌≡◌, ℕ, All, Some, length, map};
 ghost use Rattle.monitor_book.specs.declared.opened.Held.{Held};
 ghost use Rattle.monitor_book.specs.Lines.{held_by};
 ghost use Rattle.monitor_run.specs.Headline.{RunPromises};
+ghost use Rattle.monitor_run.specs.Posts.{seen};
 ghost use Rattle.monitor_run.specs.Ran.{PlansStay};
 ghost use Rattle.otp_ledger.specs.Standing.{StandsFor};
 ghost use Rattle.outside.specs.Scene.{IsFresh};
@@ -44,8 +45,9 @@ pub fn run<'a, T: Texts + Sync, P: Post, K: Sink, R: Threads + Wait + Sync>(
     requires fresh { All (IsFresh P.scene P.faults) posts.items }
     ensures promises { (held : Held) (faults : ℕ) → prepared.entry.opened
         ≡ Some (record { setup = prepared.entry.service.setup; held = held; faults = faults })
-        → RunPromises prepared.entry.service result.accept_failed result.journal.items result.posts.items P.scene
-        P.faults held (held_by K.held K.lengths result.log) faults (K.faults result.log) }
+        → RunPromises prepared.entry.service result.accept_failed result.journal.items
+        (map (seen P.scene P.faults) result.posts.items) held (held_by K.held K.lengths result.log) faults
+        (K.faults result.log) }
     ensures plans { PlansStay P.scene posts.items result.posts.items }
     ensures setup { result.core.ledger.setup ≡ prepared.entry.service.setup }
     ensures ledger { StandsFor result.core.ledger (kept_events result.journal.items) }

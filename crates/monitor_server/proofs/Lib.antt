@@ -1,6 +1,5 @@
 pub mod Apart
 pub mod Before
-pub mod Posts
 pub mod Told
 pub mod Whole
 pub mod Touching

@@ -5,7 +5,7 @@ use Rattle.info_hooks.specs.declared.key.Key.{Key}
 use Rattle.outside.specs.Files.{Contents, SameFiles}
 use Rattle.monitor_book.specs.Lines.{IsUnwritten}
 use Rattle.monitor_book.proofs.LogLemmas.{unwritten}
-use Rattle.outside.specs.Told.{Gains, Goes}
+use Rattle.outside.specs.Told.{Gains, Goes, Rose}
 use Rattle.outside.proofs.Exchanges.{Exchanged-none}
 use Rattle.outside.proofs.Told.{Gains-none, Goes-same}
 use Rattle.otp_mode.specs.Faults as passwords
@@ -42,7 +42,7 @@ use Rattle.monitor_server.specs.declared.command.Unread.{Unread}
 use Rattle.monitor_server.specs.declared.command.Unread.TheVariants as unread
 use Rattle.monitor_server.specs.Alone.{IsRunOf, SparesRest, unread_answer}
 use Rattle.monitor_server.specs.declared.report.Detail.TheVariants.{Nothing}
-use Rattle.monitor_server.specs.Around.{Around, EndsNow, FilesGo, FilesNow, ListenRose, LogRose, ReadRose, ReplaceRose, Said, answer_in, files_with, only_answer, sides_of}
+use Rattle.monitor_server.specs.Around.{Around, EndsNow, FilesGo, FilesNow, ReadRose, Said, answer_in, files_with, only_answer, run_around, sides_of}
 use Rattle.monitor_server.specs.Commands.{AsksAlone, IsCommand, IsReading, asks_audit, asks_check, asks_child, asks_drill, asks_enrol, asks_otp, asks_recover, asks_renew, asks_serve}
 use Rattle.monitor_server.specs.Headline.{IsStatus, StatusHasCause, UsesEndsAlone, UsesNothing}
 use Rattle.monitor_server.specs.Modes.{AuditRan, ChangesFiles, CheckRan, ChildRan, DrillRan, EnrolRan, LeavesRest, PasswordRan, RecoverRan, RenewRan, ServeRan, audit_detail, checked_detail, detail_of, recover_detail, renew_detail, serve_detail}
@@ -472,8 +472,8 @@ module _ {F S K E : Type 0} {words : List (List ℕ)} {forms : List Key} {conten
           end = Err serve_errors.OutOfMemory;
           status_is = is;
           detail_is = plain;
-          ended = unserved_ended source forms serve_errors.OutOfMemory (Err serve_errors.OutOfMemory) said.journal said.posts (λ p. p.scene) (λ p. p.faults) (contents before.files.it) (contents after.files.it) before.site.listens after.site.listens before.log.held after.log.held (ReadRose before.files after.files) (ReplaceRose before.files after.files) (ListenRose before.site after.site) (LogRose before.log after.log)
-              refl (memory_why source forms (contents before.files.it) (contents after.files.it) (ReadRose before.files after.files) (ListenRose before.site after.site)) events workers (kept_files contents before.files after.files files) placed logs;
+          ended = unserved_ended source forms serve_errors.OutOfMemory (Err serve_errors.OutOfMemory) said.journal said.posts (run_around contents before) (run_around contents after)
+              refl (memory_why source forms (contents before.files.it) (contents after.files.it) (ReadRose before.files after.files) (Rose before.site.faults after.site.faults)) events workers (kept_files contents before.files after.files files) placed logs;
         }
 
     unremembered_drill : (number : ℕ) → said.status ≡ 9 → DrillRan number before.ends after.ends said

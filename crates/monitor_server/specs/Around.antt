@@ -1,15 +1,15 @@
 -- Believed: what is around a call at one moment, what the call says, and the counts that rose meanwhile.
 use Rattle.std.specs.Prelude.{ℕ, List, [], Option, None}
 use Rattle.monitor_book.specs.declared.opened.Held.{Held}
-use Rattle.outside.specs.declared.faults.Faults.{Faults}
 use Rattle.outside.specs.declared.place.Place.{Place as SitePlace}
 use Rattle.outside.specs.Files.{Contents}
 use Rattle.outside.specs.FilesNow as told
 use Rattle.outside.specs.Link.{Link}
-use Rattle.outside.specs.Scene.{Scene}
 use Rattle.outside.specs.Told.{Goes, Rose}
 use Rattle.outside.specs.Touched.{Touched}
 use Rattle.policy_model.specs.declared.event.Event.{Event}
+use Rattle.monitor_run.specs.Posts.{PostNow}
+use Rattle.serve_mode.specs.AroundRun.{AroundRun, around_run}
 use Rattle.monitor_server.specs.declared.report.Answer.{Answer}
 use Rattle.monitor_server.specs.declared.report.Detail.{Detail}
 
@@ -57,6 +57,11 @@ pub record Around (F S K E : Type 0) : Type 0 where
   pub log : LogNow K
   pub ends : EndsNow E
 
+-- what of it a run of `serve` is over
+abbrev pub run_around : {F S K E : Type 0} → (F → Option Contents) → Around F S K E → AroundRun
+run_around contents around = around_run (files_with contents around.files) around.site.listens around.site.faults
+    around.log.held around.log.faults
+
 -- what of it a mode without threads is run over
 pub record SidesNow (F E : Type 0) : Type 0 where
   pub files : FilesNow F
@@ -76,15 +81,6 @@ only_sides sides = record {
 }
 
 -- ---- what a call says
-
--- a worker's post: what it reports, and its counts of faults
-pub record PostNow : Type 0 where
-  pub scene : Option Scene
-  pub faults : Faults
-
--- a post, of which this says what it reports and counts
-abbrev pub seen : {P : Type 0} → (P → Option Scene) → (P → Faults) → P → PostNow
-seen scene faults post = record { scene = scene post; faults = faults post }
 
 -- its exit status and what that alone doesn't say, all events, and the workers' posts
 pub record Said : Type 0 where
@@ -110,14 +106,6 @@ ReadRose before after = Rose before.read_faults after.read_faults
 -- a replacing of a file failed
 abbrev pub ReplaceRose : {F : Type 0} → FilesNow F → FilesNow F → Type 0
 ReplaceRose before after = Rose before.replace_faults after.replace_faults
-
--- the site could not listen
-abbrev pub ListenRose : {S : Type 0} → SiteNow S → SiteNow S → Type 0
-ListenRose before after = Rose before.faults after.faults
-
--- an append to the log failed
-abbrev pub LogRose : {K : Type 0} → LogNow K → LogNow K → Type 0
-LogRose before after = Rose before.faults after.faults
 
 -- a call on the ends failed
 abbrev pub EndsRose : {E : Type 0} → EndsNow E → EndsNow E → Type 0

@@ -58,8 +58,8 @@ use Rattle.monitor_server.specs.declared.report.Detail.TheVariants.{AuditNo, Few
 use Rattle.monitor_server.specs.declared.report.Detail.TheVariants.{Nothing, RenewBad, SetupBad, WordsBad}
 use Rattle.monitor_server.specs.declared.report.FileKind.TheVariants.{Log, Setup, Words}
 use Rattle.monitor_server.specs.declared.report.TheConstants.{FEW_REQUESTS}
-use Rattle.monitor_server.specs.Around.{Around, EndsNow, EndsRose, FilesGo, ListenRose, LogRose, ReadRose, ReplaceRose}
-use Rattle.monitor_server.specs.Around.{Said, SidesNow, answer_in, sides_of}
+use Rattle.monitor_server.specs.Around.{Around, EndsNow, EndsRose, FilesGo, ReadRose, ReplaceRose}
+use Rattle.monitor_server.specs.Around.{Said, SidesNow, answer_in, run_around, sides_of}
 use Rattle.monitor_server.specs.Commands.{asks_audit, asks_check, asks_child, asks_drill, asks_enrol, asks_otp}
 use Rattle.monitor_server.specs.Commands.{asks_recover, asks_renew, asks_serve}
 use Rattle.monitor_server.specs.Headline.{IsUnserved}
@@ -79,11 +79,8 @@ pub record ServeRan {F S K E : Type 0} (source : Source) (forms : List Key) (con
   pub end : Result (Unit {0}) ServeError
   pub status_is : said.status ≡ serves.status_of end
   pub detail_is : said.detail ≡ serve_detail end
-  pub ended : ServeEnded source forms end said.journal said.posts (λ p. p.scene) (λ p. p.faults)
-      (contents before.files.it) (contents after.files.it) before.site.listens after.site.listens
-      before.log.held after.log.held
-      (ReadRose before.files after.files) (ReplaceRose before.files after.files)
-      (ListenRose before.site after.site) (LogRose before.log after.log)
+  pub ended : ServeEnded source forms end said.journal said.posts (run_around contents before)
+      (run_around contents after)
 
 -- `serve` ran as it promises (`ServeRan`), if the command line asks for it
 pub record ServeMode {F S K E : Type 0} (words : List (List ℕ)) (forms : List Key) (contents : F → Option Contents)

@@ -96,7 +96,8 @@ pub struct Report<P: Post> {
 
 impl<P: Post> Model for Report<P> {
     ghost use Rattle.std.specs.Prelude.{map};
-    ghost use Rattle.monitor_server.specs.Around.{Said, seen};
+    ghost use Rattle.monitor_run.specs.Posts.{seen};
+    ghost use Rattle.monitor_server.specs.Around.{Said};
 
     ghost Value = { Said };
 

@@ -5,12 +5,11 @@ use Rattle.info_hooks.specs.declared.key.Key.{Key}
 use Rattle.monitor_book.specs.declared.opened.Held.{Held}
 use Rattle.monitor_book.specs.Lines.{AppendsLines, HoldsLines, IsUnwritten, LogMatches}
 use Rattle.monitor_run.specs.Headline.{JournalIsLegal, RunPromises}
+use Rattle.monitor_run.specs.Posts.{PostNow}
 use Rattle.otp_ledger.specs.Accounts.{LedgerParts}
 use Rattle.otp_ledger.specs.Standing.{StandsFor}
-use Rattle.outside.specs.declared.faults.Faults.{Faults}
-use Rattle.outside.specs.declared.place.Place.{Place as SitePlace}
 use Rattle.outside.specs.Files.{Contents, MayBeReplaced, Replaced, SameFiles}
-use Rattle.outside.specs.Scene.{Scene}
+use Rattle.outside.specs.FilesNow.{FilesNow}
 use Rattle.outside.specs.Told.{Gains, Goes, Rose}
 use Rattle.outside.proofs.Told.{Goes-then, Rose-within}
 use Rattle.policy_laws.proofs.Alike.{shows_no_accounts}
@@ -34,6 +33,7 @@ use Rattle.session_core.proofs.ReplayLemmas.{consequences}
 use Rattle.serve_mode.specs.declared.error.ServeError.{ServeError}
 use Rattle.serve_mode.specs.declared.error.ServeError.TheVariants as errors
 use Rattle.serve_mode.proofs.StillLemmas.{IsServiceOf, plain_service, service_of, service_still}
+use Rattle.serve_mode.specs.AroundRun.{AroundRun}
 use Rattle.serve_mode.specs.Errors.{IsUnread, error_status, status_of, unread_status}
 use Rattle.serve_mode.specs.Headline.{AccountsMatch, AreAccountsWritten, ListensAt, NoFault, ServeEnded, ServeHasCause, ServePromises, is_run_status, is_unserved_status, setup_place}
 use Rattle.fresh_log.specs.Fresh.{IsFresh}
@@ -195,11 +195,11 @@ maybe_through name bytes a b c kept m = record { either = go m.either } where
 file_judged : (setup : Settings) (bytes : List ℕ) → IsFileOf setup bytes → judged_setup bytes ≡ Ok (entries_of setup)
 file_judged setup bytes is = judged-short bytes (entries_of setup) is.few (file_read setup bytes is)
 
-accounts_named : (name : List ℕ) (setup : Settings) (ledger : LedgerParts) (end written : Result (Unit {0}) ServeError) (lost failed : Bool) (journal : List Event) (old mid new : Option Contents) (ReplaceRose : Type 0) → EndTells end written lost failed → StandsFor ledger (kept_events journal) → Goes SameFiles old mid → WritesNamed name setup ledger mid new ReplaceRose written → IsWritten written → AreAccountsWritten name setup (status_of end) journal old new ReplaceRose
-accounts_named name setup ledger end written lost failed journal old mid new ReplaceRose tells stands kept w (inl done) =
-    let did = subst (WritesNamed name setup ledger mid new ReplaceRose) done w in
+accounts_named : (name : List ℕ) (setup : Settings) (ledger : LedgerParts) (end written : Result (Unit {0}) ServeError) (lost failed : Bool) (journal : List Event) (before after : FilesNow) (mid : Option Contents) → EndTells end written lost failed → StandsFor ledger (kept_events journal) → Goes SameFiles before.contents mid → WritesNamed name setup ledger mid after.contents (Rose before.replace_faults after.replace_faults) written → IsWritten written → AreAccountsWritten name setup (status_of end) journal before after
+accounts_named name setup ledger end written lost failed journal before after mid tells stands kept w (inl done) =
+    let did = subst (WritesNamed name setup ledger mid after.contents (Rose before.replace_faults after.replace_faults)) done w in
     let file = did.1.by_journal (kept_events journal) stands in
-    let goes = same_then old mid new (Replaced name did.0) (replaced_through name did.0) kept did.2 in
+    let goes = same_then before.contents mid after.contents (Replaced name did.0) (replaced_through name did.0) kept did.2 in
     record {
       bytes = did.0;
       spells = λ _. file_judged (setup_after setup (kept_events journal)) did.0 file;
@@ -209,8 +209,8 @@ accounts_named name setup ledger end written lost failed journal old mid new Rep
       failed = λ e. absurd (let f : ◌≡◌ {A = Result (Unit {0}) ServeError} (Ok tt) (Err errors.ReplaceFailed) = sym done ∙ tells.eight e in cc);
       unwritten = λ e. absurd (let f : ◌≡◌ {A = Result (Unit {0}) ServeError} (Ok tt) (Err errors.OutOfMemory) = sym done ∙ tells.unprinted e in cc);
     }
-accounts_named name setup ledger end written lost failed journal old mid new ReplaceRose tells stands kept w (inr (inl oom)) =
-    let did = subst (WritesNamed name setup ledger mid new ReplaceRose) oom w in
+accounts_named name setup ledger end written lost failed journal before after mid tells stands kept w (inr (inl oom)) =
+    let did = subst (WritesNamed name setup ledger mid after.contents (Rose before.replace_faults after.replace_faults)) oom w in
     record {
       bytes = [];
       spells = λ e. absurd (tells.printed e oom);
@@ -218,15 +218,15 @@ accounts_named name setup ledger end written lost failed journal old mid new Rep
       written = λ e. absurd (tells.printed (ap is_run_status e) oom);
       tried = λ h. absurd (ran h);
       failed = λ e. absurd (tells.printed (ap is_run_status e) oom);
-      unwritten = λ _. same_then old mid new SameFiles same_through kept did;
+      unwritten = λ _. same_then before.contents mid after.contents SameFiles same_through kept did;
     } where
       ran : (status_of end ≡ 7) ⊎ (status_of end ≡ 10) → ⊥
       ran (inl e) = tells.printed (ap is_run_status e) oom
       ran (inr e) = tells.printed (ap is_run_status e) oom
-accounts_named name setup ledger end written lost failed journal old mid new ReplaceRose tells stands kept w (inr (inr not)) =
-    let did = subst (WritesNamed name setup ledger mid new ReplaceRose) not w in
+accounts_named name setup ledger end written lost failed journal before after mid tells stands kept w (inr (inr not)) =
+    let did = subst (WritesNamed name setup ledger mid after.contents (Rose before.replace_faults after.replace_faults)) not w in
     let file = did.1.by_journal (kept_events journal) stands in
-    let goes = same_then old mid new (MayBeReplaced name did.0) (maybe_through name did.0) kept did.3 in
+    let goes = same_then before.contents mid after.contents (MayBeReplaced name did.0) (maybe_through name did.0) kept did.3 in
     record {
       bytes = did.0;
       spells = λ _. file_judged (setup_after setup (kept_events journal)) did.0 file;
@@ -237,9 +237,9 @@ accounts_named name setup ledger end written lost failed journal old mid new Rep
       unwritten = λ e. absurd (let f : ◌≡◌ {A = Result (Unit {0}) ServeError} (Err errors.ReplaceFailed) (Err errors.OutOfMemory) = sym not ∙ tells.unprinted e in cc);
     }
 
-accounts_match : (source : Source) (setup : Settings) (ledger : LedgerParts) (end written : Result (Unit {0}) ServeError) (lost failed : Bool) (journal : List Event) (old mid new : Option Contents) (ReplaceRose : Type 0) → EndTells end written lost failed → StandsFor ledger (kept_events journal) → Goes SameFiles old mid → WritesBack source setup ledger mid new ReplaceRose written → IsWritten written → AccountsMatch source setup (status_of end) journal old new ReplaceRose
-accounts_match Plain setup ledger end written lost failed journal old mid new ReplaceRose tells stands kept w is = same_then old mid new SameFiles same_through kept w.1
-accounts_match (Named name log) setup ledger end written lost failed journal old mid new ReplaceRose tells stands kept w is = accounts_named name setup ledger end written lost failed journal old mid new ReplaceRose tells stands kept w is
+accounts_match : (source : Source) (setup : Settings) (ledger : LedgerParts) (end written : Result (Unit {0}) ServeError) (lost failed : Bool) (journal : List Event) (before after : FilesNow) (mid : Option Contents) → EndTells end written lost failed → StandsFor ledger (kept_events journal) → Goes SameFiles before.contents mid → WritesBack source setup ledger mid after.contents (Rose before.replace_faults after.replace_faults) written → IsWritten written → AccountsMatch source setup (status_of end) journal before after
+accounts_match Plain setup ledger end written lost failed journal before after mid tells stands kept w is = same_then before.contents mid after.contents SameFiles same_through kept w.1
+accounts_match (Named name log) setup ledger end written lost failed journal before after mid tells stands kept w is = accounts_named name setup ledger end written lost failed journal before after mid tells stands kept w is
 
 -- an end that a run which was served doesn't come to
 abbrev IsUnbegun : Result (Unit {0}) ServeError → Type 0
@@ -280,11 +280,11 @@ plain_printed source setup ledger old new ReplaceRose written lost failed w is p
 
 -- ---- where somebody was served
 
-module _ {P : Type 0} (source : Source) (service : Service) (ledger : LedgerParts) (written : Result (Unit {0}) ServeError) (failed : Bool) (journal : List Event) (posts : List P) (scene : P → Option Scene) (faults : P → Faults) (old mid new : Option Contents) (held_old held_new : Held) (log_old log_new : ℕ) (ReadRose ReplaceRose ListenRose : Type 0) (ran : RunPromises service failed journal posts scene faults held_old held_new log_old log_new) (writes : WritesBack source service.setup ledger mid new ReplaceRose written) where
+module _ (source : Source) (service : Service) (ledger : LedgerParts) (written : Result (Unit {0}) ServeError) (failed : Bool) (journal : List Event) (posts : List PostNow) (before after : AroundRun) (mid : Option Contents) (ran : RunPromises service failed journal posts before.held after.held before.log_faults after.log_faults) (writes : WritesBack source service.setup ledger mid after.files.contents (Rose before.files.replace_faults after.files.replace_faults) written) where
   tells : EndTells (run_end written (has_lost journal) failed) written (has_lost journal) failed
-  tells = end_tells written (has_lost journal) failed (written_end source service.setup ledger mid new ReplaceRose written writes)
+  tells = end_tells written (has_lost journal) failed (written_end source service.setup ledger mid after.files.contents (Rose before.files.replace_faults after.files.replace_faults) written writes)
 
-  served_causes : 1 ≤ service.setup.workers → ServeHasCause (status_of (run_end written (has_lost journal) failed)) journal posts scene faults ReadRose ListenRose (Rose log_old log_new) ReplaceRose
+  served_causes : 1 ≤ service.setup.workers → ServeHasCause (status_of (run_end written (has_lost journal) failed)) journal posts before after
   served_causes some = record {
     unserved = λ h. absurd (let f : true ≡ false = sym h ∙ tells.served in cc);
     unbegun = λ none. absurd (let f : length posts ≡ 0 = ap length none in omega (arith, f, ran.one_each, some));
@@ -294,25 +294,25 @@ module _ {P : Type 0} (source : Source) (service : Service) (ledger : LedgerPart
     lost = tells.lost_is;
     log_lost = λ e. (tells.seven e, ran.lost (tells.seven e));
     accept_fault = λ e. ran.accept_failed (tells.ten e);
-    replace_fault = λ e. replace_rose source service.setup ledger mid new ReplaceRose written writes (tells.eight e);
+    replace_fault = λ e. replace_rose source service.setup ledger mid after.files.contents (Rose before.files.replace_faults after.files.replace_faults) written writes (tells.eight e);
   }
 
   -- without a fault nothing was lost, no accept failed and the accounts were replaced
-  none_lost : NoFault ReadRose ReplaceRose ListenRose (Rose log_old log_new) faults posts → has_lost journal ≡ false
+  none_lost : NoFault posts before after → has_lost journal ≡ false
   none_lost none = go (has_lost journal) refl where
     go : (b : Bool) → has_lost journal ≡ b → b ≡ false
     go true is = absurd (none.log (ran.lost is))
     go false is = refl
 
-  none_failed : NoFault ReadRose ReplaceRose ListenRose (Rose log_old log_new) faults posts → failed ≡ false
+  none_failed : NoFault posts before after → failed ≡ false
   none_failed none = go failed refl where
     go : (b : Bool) → failed ≡ b → b ≡ false
     go true is = absurd (let some = ran.accept_failed is in omega (arith, some.counted, (none.each.each some.worker some.post some.stands).no_accept_fault))
     go false is = refl
 
-  served_promises : (listens_old listens_new : Option (List SitePlace)) → 1 ≤ service.setup.workers → StandsFor ledger (kept_events journal) → Goes SameFiles old mid → Gains listens_old (setup_place service.setup ∷ []) listens_new
-      → ServePromises source service (status_of (run_end written (has_lost journal) failed)) journal posts scene faults old new listens_old listens_new held_old held_new ReadRose ReplaceRose ListenRose (Rose log_old log_new)
-  served_promises listens_old listens_new some stands kept listens = record {
+  served_promises : 1 ≤ service.setup.workers → StandsFor ledger (kept_events journal) → Goes SameFiles before.files.contents mid → Gains before.listens (setup_place service.setup ∷ []) after.listens
+      → ServePromises source service (status_of (run_end written (has_lost journal) failed)) journal posts before after
+  served_promises some stands kept listens = record {
     legal = ran.legal;
     sessions = ran.sessions;
     one_each = λ _. ran.one_each;
@@ -325,29 +325,29 @@ module _ {P : Type 0} (source : Source) (service : Service) (ledger : LedgerPart
     fault_ends = ran.fault_ends;
     counted = ran.counted;
     success = λ e. let z = tells.zero e in record { kept = z.0; accepted = ran.accepted z.1; quota = ran.quota };
-    accounts = accounts_match source service.setup ledger (run_end written (has_lost journal) failed) written (has_lost journal) failed journal old mid new ReplaceRose tells stands kept writes (written_end source service.setup ledger mid new ReplaceRose written writes);
+    accounts = accounts_match source service.setup ledger (run_end written (has_lost journal) failed) written (has_lost journal) failed journal before.files after.files mid tells stands kept writes (written_end source service.setup ledger mid after.files.contents (Rose before.files.replace_faults after.files.replace_faults) written writes);
     complete = record {
-      succeeds = λ none. tells.well (none_lost none) (none_failed none) (λ e. none.replace (replace_rose source service.setup ledger mid new ReplaceRose written writes e));
+      succeeds = λ none. tells.well (none_lost none) (none_failed none) (λ e. none.replace (replace_rose source service.setup ledger mid after.files.contents (Rose before.files.replace_faults after.files.replace_faults) written writes e));
       answered = λ none e. ran.whole none.each (tells.zero e).0;
     };
   } where
-    listened : (posts : List P) → length posts ≡ service.setup.workers → ListensAt service.setup posts listens_old listens_new
+    listened : (posts : List PostNow) → length posts ≡ service.setup.workers → ListensAt service.setup posts before.listens after.listens
     listened [] none = absurd (omega (arith, none, some))
     listened (post ∷ posts) one_each = listens
 
   -- all of it, under the name of the end that was handed out
-  pub served_ended : (forms : List Key) (end : Result (Unit {0}) ServeError) (listens_old listens_new : Option (List SitePlace)) → end ≡ run_end written (has_lost journal) failed → IsServedBy source forms old new service → ((other : Service) → IsServiceOf source forms old new other → other ≡ service) → 1 ≤ service.setup.workers → StandsFor ledger (kept_events journal) → Goes SameFiles old mid → Gains listens_old (setup_place service.setup ∷ []) listens_new
-      → ServeEnded source forms end journal posts scene faults old new listens_old listens_new held_old held_new ReadRose ReplaceRose ListenRose (Rose log_old log_new)
-  served_ended forms end listens_old listens_new is by same some stands kept listens =
-      let promises = served_promises listens_old listens_new some stands kept listens in
-      subst (λ e. ServeEnded source forms e journal posts scene faults old new listens_old listens_new held_old held_new ReadRose ReplaceRose ListenRose (Rose log_old log_new)) (sym is) (record {
+  pub served_ended : (forms : List Key) (end : Result (Unit {0}) ServeError) → end ≡ run_end written (has_lost journal) failed → IsServedBy source forms before.files.contents after.files.contents service → ((other : Service) → IsServiceOf source forms before.files.contents after.files.contents other → other ≡ service) → 1 ≤ service.setup.workers → StandsFor ledger (kept_events journal) → Goes SameFiles before.files.contents mid → Gains before.listens (setup_place service.setup ∷ []) after.listens
+      → ServeEnded source forms end journal posts before after
+  served_ended forms end is by same some stands kept listens =
+      let promises = served_promises some stands kept listens in
+      subst (λ e. ServeEnded source forms e journal posts before after) (sym is) (record {
         causes = served_causes some;
-        unread = λ error e. absurd (served_begins source service.setup ledger mid new ReplaceRose written (has_lost journal) failed writes (subst IsUnbegun (sym e) tt));
-        unfresh = λ e. absurd (served_begins source service.setup ledger mid new ReplaceRose written (has_lost journal) failed writes (subst IsUnbegun (sym e) tt));
-        ready = λ e. absurd (served_begins source service.setup ledger mid new ReplaceRose written (has_lost journal) failed writes (subst IsUnbegun (sym e) tt));
-        printed = λ e _. plain_printed source service.setup ledger mid new ReplaceRose written (has_lost journal) failed writes e;
+        unread = λ error e. absurd (served_begins source service.setup ledger mid after.files.contents (Rose before.files.replace_faults after.files.replace_faults) written (has_lost journal) failed writes (subst IsUnbegun (sym e) tt));
+        unfresh = λ e. absurd (served_begins source service.setup ledger mid after.files.contents (Rose before.files.replace_faults after.files.replace_faults) written (has_lost journal) failed writes (subst IsUnbegun (sym e) tt));
+        ready = λ e. absurd (served_begins source service.setup ledger mid after.files.contents (Rose before.files.replace_faults after.files.replace_faults) written (has_lost journal) failed writes (subst IsUnbegun (sym e) tt));
+        printed = λ e _. plain_printed source service.setup ledger mid after.files.contents (Rose before.files.replace_faults after.files.replace_faults) written (has_lost journal) failed writes e;
         served = inr (service, by, promises);
-        promises = λ other told asked. subst (λ s. ServePromises source s (status_of (run_end written (has_lost journal) failed)) journal posts scene faults old new listens_old listens_new held_old held_new ReadRose ReplaceRose ListenRose (Rose log_old log_new)) (sym (same other (service_of source forms old new other told asked))) promises;
+        promises = λ other told asked. subst (λ s. ServePromises source s (status_of (run_end written (has_lost journal) failed)) journal posts before after) (sym (same other (service_of source forms before.files.contents after.files.contents other told asked))) promises;
         unlogged = λ none. absurd (unserved none);
         unlistened = λ none. absurd (unserved none);
         unchanged = λ none. absurd (unserved none);
@@ -357,7 +357,7 @@ module _ {P : Type 0} (source : Source) (service : Service) (ledger : LedgerPart
 
 -- ---- where nobody was served
 
-no_post : {P : Type 0} {X : Type 0} (posts : List P) (worker : ℕ) (post : P) → posts ≡ [] → slice_get posts worker ≡ Some post → X
+no_post : {X : Type 0} (posts : List PostNow) (worker : ℕ) (post : PostNow) → posts ≡ [] → slice_get posts worker ≡ Some post → X
 no_post posts worker post none is = absurd (let e : None ≡ Some post = sym (ap (λ ps. slice_get ps worker) none) ∙ is in cc)
 
 log_unchanged : (setup : Settings) (held_old held_new : Held) → IsUnwritten held_old held_new → LogMatches setup [] held_old held_new
@@ -375,20 +375,20 @@ log_unchanged setup held_old held_new same = record {
   appends None (Some after) gains = absurd gains
   appends (Some before) (Some after) gains = record { appends = (0, gains ∙ sym (append-nil (before ++ []))) }
 
-module _ {P : Type 0} (source : Source) (service : Service) (status : ℕ) (journal : List Event) (posts : List P) (scene : P → Option Scene) (faults : P → Faults) (events : journal ≡ []) (none : posts ≡ []) where
+module _ (source : Source) (service : Service) (status : ℕ) (journal : List Event) (posts : List PostNow) (events : journal ≡ []) (none : posts ≡ []) where
   legal : JournalIsLegal service.setup journal
   legal = subst (JournalIsLegal service.setup) (sym events) (record { legal = IsLegal-none service.setup; proper = tt; workers = tt; few = omega arith; typed = tt })
 
-  unserved_promises : (old new : Option Contents) (listens_old listens_new : Option (List SitePlace)) (held_old held_new : Held) (ReadRose ReplaceRose ListenRose LogRose : Type 0)
-      → is_run_status status ≡ false → Goes SameFiles old new → Gains listens_old [] listens_new → IsUnwritten held_old held_new → (NoFault ReadRose ReplaceRose ListenRose LogRose faults posts → status ≡ 9)
-      → ServePromises source service status journal posts scene faults old new listens_old listens_new held_old held_new ReadRose ReplaceRose ListenRose LogRose
-  unserved_promises old new listens_old listens_new held_old held_new ReadRose ReplaceRose ListenRose LogRose not_run kept listens log nine = record {
+  unserved_promises : (before after : AroundRun)
+      → is_run_status status ≡ false → Goes SameFiles before.files.contents after.files.contents → Gains before.listens [] after.listens → IsUnwritten before.held after.held → (NoFault posts before after → status ≡ 9)
+      → ServePromises source service status journal posts before after
+  unserved_promises before after not_run kept listens log nine = record {
     legal = legal;
     sessions = record { in_order = λ worker. ([], record { places = ap (λ j. worker_places j worker) events; each = tt; alone = tt }) };
     one_each = λ some. absurd (some none);
-    listens = subst (λ ps. ListensAt service.setup ps listens_old listens_new) (sym none) listens;
+    listens = subst (λ ps. ListensAt service.setup ps before.listens after.listens) (sym none) listens;
     conversations = record { held = λ worker post is. no_post posts worker post none is };
-    log = subst (λ j. LogMatches service.setup j held_old held_new) (sym events) (log_unchanged service.setup held_old held_new log);
+    log = subst (λ j. LogMatches service.setup j before.held after.held) (sym events) (log_unchanged service.setup before.held after.held log);
     consequences = consequences service.setup journal legal.legal;
     unseen = shows_no_accounts service.setup journal legal.legal;
     quota = record { quota = λ worker post is. no_post posts worker post none is };
@@ -404,7 +404,7 @@ module _ {P : Type 0} (source : Source) (service : Service) (status : ℕ) (jour
     not : (n : ℕ) → is_run_status n ≡ true → status ≡ n → ⊥
     not n is e = let f : true ≡ false = sym is ∙ ap is_run_status (sym e) ∙ not_run in absurd cc
 
-    accounts : (source : Source) → AccountsMatch source service.setup status journal old new ReplaceRose
+    accounts : (source : Source) → AccountsMatch source service.setup status journal before.files after.files
     accounts Plain = kept
     accounts (Named name log) = record {
       bytes = [];
@@ -419,8 +419,8 @@ module _ {P : Type 0} (source : Source) (service : Service) (status : ℕ) (jour
       either (inl e) = not 7 refl e
       either (inr e) = not 10 refl e
 
-  unserved_causes : (ReadRose ListenRose LogRose ReplaceRose : Type 0) → is_run_status status ≡ false → (status ≡ 3 → ReadRose) → (status ≡ 6 → ListenRose) → ServeHasCause status journal posts scene faults ReadRose ListenRose LogRose ReplaceRose
-  unserved_causes ReadRose ListenRose LogRose ReplaceRose not_run read listen = record {
+  unserved_causes : (before after : AroundRun) → is_run_status status ≡ false → (status ≡ 3 → (Rose before.files.read_faults after.files.read_faults)) → (status ≡ 6 → (Rose before.listen_faults after.listen_faults)) → ServeHasCause status journal posts before after
+  unserved_causes before after not_run read listen = record {
     unserved = λ _. none;
     unbegun = λ _. events;
     begun = λ e _. let f : true ≡ false = sym e ∙ not_run in absurd cc;
@@ -448,18 +448,18 @@ pub record TellsWhy (source : Source) (forms : List Key) (old new : Option Conte
   pub unfresh : error ≡ errors.LogNotFresh → IsUnfresh source forms new
   pub ready : error ≡ errors.ListenFailed → IsServable source forms new
 
-pub unserved_ended : {P : Type 0} (source : Source) (forms : List Key) (error : ServeError) (end : Result (Unit {0}) ServeError) (journal : List Event) (posts : List P) (scene : P → Option Scene) (faults : P → Faults) (old new : Option Contents) (listens_old listens_new : Option (List SitePlace)) (held_old held_new : Held) (ReadRose ReplaceRose ListenRose LogRose : Type 0)
-    → end ≡ Err error → TellsWhy source forms old new error ReadRose ListenRose → journal ≡ [] → posts ≡ [] → Goes SameFiles old new → Gains listens_old [] listens_new → IsUnwritten held_old held_new
-    → ServeEnded source forms end journal posts scene faults old new listens_old listens_new held_old held_new ReadRose ReplaceRose ListenRose LogRose
-unserved_ended source forms error end journal posts scene faults old new listens_old listens_new held_old held_new ReadRose ReplaceRose ListenRose LogRose is why events none kept listens log =
-    subst (λ e. ServeEnded source forms e journal posts scene faults old new listens_old listens_new held_old held_new ReadRose ReplaceRose ListenRose LogRose) (sym is) (record {
-      causes = unserved_causes source (plain_service forms) (error_status error) journal posts scene faults events none ReadRose ListenRose LogRose ReplaceRose why.tells.not_run why.tells.three why.tells.six;
+pub unserved_ended : (source : Source) (forms : List Key) (error : ServeError) (end : Result (Unit {0}) ServeError) (journal : List Event) (posts : List PostNow) (before after : AroundRun)
+    → end ≡ Err error → TellsWhy source forms before.files.contents after.files.contents error (Rose before.files.read_faults after.files.read_faults) (Rose before.listen_faults after.listen_faults) → journal ≡ [] → posts ≡ [] → Goes SameFiles before.files.contents after.files.contents → Gains before.listens [] after.listens → IsUnwritten before.held after.held
+    → ServeEnded source forms end journal posts before after
+unserved_ended source forms error end journal posts before after is why events none kept listens log =
+    subst (λ e. ServeEnded source forms e journal posts before after) (sym is) (record {
+      causes = unserved_causes source (plain_service forms) (error_status error) journal posts events none before after why.tells.not_run why.tells.three why.tells.six;
       unread = λ other e. why.unread other (let f : ◌≡◌ {A = Result (Unit {0}) ServeError} (Err error) (Err (errors.Unread other)) = e in cc);
       unfresh = λ e. why.unfresh (let f : ◌≡◌ {A = Result (Unit {0}) ServeError} (Err error) (Err errors.LogNotFresh) = e in cc);
       ready = λ e. why.ready (let f : ◌≡◌ {A = Result (Unit {0}) ServeError} (Err error) (Err errors.ListenFailed) = e in cc);
       printed = λ _ some. absurd (some none);
       served = inl none;
-      promises = λ service told asked. unserved_promises source service (error_status error) journal posts scene faults events none old new listens_old listens_new held_old held_new ReadRose ReplaceRose ListenRose LogRose why.tells.not_run kept listens log (λ fault. why.nine service (service_of source forms old new service told asked) fault.read fault.listen);
+      promises = λ service told asked. unserved_promises source service (error_status error) journal posts events none before after why.tells.not_run kept listens log (λ fault. why.nine service (service_of source forms before.files.contents after.files.contents service told asked) fault.read fault.listen);
       unlogged = λ _. log;
       unlistened = λ _. listens;
       unchanged = λ _. kept;

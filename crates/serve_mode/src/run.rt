@@ -1,12 +1,14 @@
 //! The mode.
 
-ghost use Rattle.std.specs.Prelude.{◌≡◌, [], Err, false};
+ghost use Rattle.std.specs.Prelude.{◌≡◌, [], Err, false, map};
 ghost use Rattle.monitor_book.specs.Lines.{held_by};
+ghost use Rattle.monitor_run.specs.Posts.{seen};
 ghost use Rattle.monitor_run.specs.Prepared.{LogStays};
 ghost use Rattle.outside.specs.FilesNow.{files_now};
 ghost use Rattle.outside.specs.Told.{Rose};
 ghost use Rattle.policy_model.specs.Journal.{has_lost};
 ghost use Rattle.setup_reading.specs.Touching.{OnlyReplaces, TouchesNamed};
+ghost use Rattle.serve_mode.specs.AroundRun.{around_run};
 ghost use Rattle.serve_mode.specs.Commands.{source_of};
 ghost use Rattle.serve_mode.specs.Finished.{IsFinished};
 ghost use Rattle.serve_mode.specs.Headline.{ServeEnded};
@@ -122,13 +124,13 @@ pub fn run_serve<F: Files, S: Site, K: Sink, I: Information + Sync, R: Threads +
     log: K,
     information: &I,
 ) -> Served<S::Post, K>
-    ensures ended { ServeEnded (source_of command.now) (I.forms information.now) result.end result.journal.items
-        result.posts.items S.Post.scene S.Post.faults
-        (F.contents files.old) (F.contents files.new) (S.listens site.old) (S.listens site.new)
-        (held_by K.held K.lengths log) (held_by K.held K.lengths result.log)
-        (Rose (F.read_faults files.old) (F.read_faults files.new))
-        (Rose (F.replace_faults files.old) (F.replace_faults files.new))
-        (Rose (S.listen_faults site.old) (S.listen_faults site.new)) (Rose (K.faults log) (K.faults result.log)) }
+    ensures ended { let now = files_now F.contents F.read_faults F.replace_faults F.touched in
+        ServeEnded (source_of command.now) (I.forms information.now) result.end result.journal.items
+        (map (seen S.Post.scene S.Post.faults) result.posts.items)
+        (around_run (now files.old) (S.listens site.old) (S.listen_faults site.old) (held_by K.held K.lengths log)
+        (K.faults log))
+        (around_run (now files.new) (S.listens site.new) (S.listen_faults site.new)
+        (held_by K.held K.lengths result.log) (K.faults result.log)) }
     ensures log { result.posts.items ≡ [] → LogStays (held_by K.held K.lengths log)
         (held_by K.held K.lengths result.log) (K.faults log) (K.faults result.log) }
     ensures logged { has_lost result.journal.items ≡ false → K.faults result.log ≡ K.faults log }

@@ -1,8 +1,9 @@
 //! A run at a site.
 
-ghost use Rattle.std.specs.Prelude.{◌≡◌, ◌≤◌, [], ◌∷◌, IfErr, IfOk};
+ghost use Rattle.std.specs.Prelude.{◌≡◌, ◌≤◌, [], ◌∷◌, IfErr, IfOk, map};
 ghost use Rattle.monitor_book.specs.Lines.{held_by};
 ghost use Rattle.monitor_run.specs.Headline.{RunPromises};
+ghost use Rattle.monitor_run.specs.Posts.{seen};
 ghost use Rattle.otp_ledger.specs.Standing.{StandsFor};
 ghost use Rattle.outside.specs.Told.{Gains, Rose};
 ghost use Rattle.policy_model.specs.Journal.{kept_events};
@@ -46,7 +47,7 @@ pub(crate) fn serve<I: Information + Sync, S: Site, K: Sink, R: Threads + Wait +
 ) -> Result<Ran<S::Post, K>, (ServeError, K)>
     ensures promises { IfOk result
         (λ ran. RunPromises (service_by house.now.setup house.now.dictionary (I.forms house.now.information.now))
-        ran.accept_failed ran.journal.items ran.posts.items S.Post.scene S.Post.faults
+        ran.accept_failed ran.journal.items (map (seen S.Post.scene S.Post.faults) ran.posts.items)
         (held_by K.held K.lengths log) (held_by K.held K.lengths ran.log) (K.faults log) (K.faults ran.log)) }
     ensures some { IfOk result (λ _. 1 ≤ house.now.setup.workers) }
     ensures setup { IfOk result (λ ran. ran.core.ledger.setup ≡ house.now.setup) }

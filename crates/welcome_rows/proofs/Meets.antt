@@ -14,7 +14,7 @@ use Rattle.request_catalogue.specs.Texts.{is_typed_reply}
 use Rattle.outside.specs.declared.act.Act.{Act}
 use Rattle.outside.specs.declared.act.Talk.{Talk}
 use Rattle.outside_memory.specs.declared.post.MemPost.{MemPost}
-use Rattle.outside_memory.specs.MemPost.{scene_of}
+use Rattle.outside_memory.specs.MemPost.{faults_of, scene_of}
 use Rattle.outside.specs.Scene.{Scene, bytes_at, came_count, is_coming}
 use Rattle.policy_model.specs.declared.account.Account.{Account}
 use Rattle.policy_model.specs.declared.event.Event.{Event}
@@ -37,6 +37,8 @@ use Rattle.service_model.proofs.Answered.{all_answered}
 use Rattle.service_model.proofs.Lists.{count-append, count-cons}
 use Rattle.service_model.proofs.Stories.{all_came}
 use Rattle.monitor_run.specs.Headline.{JournalIsLegal}
+use Rattle.monitor_run.specs.Posts.{seen}
+use Rattle.monitor_run.proofs.Seen.{seen_stands}
 use Rattle.welcome_laws.specs.Client.{ClientSays, is_receiving}
 use Rattle.welcome_laws.specs.Files.{AsksForFiles, BeginWithCommands}
 use Rattle.welcome_laws.specs.Shipped.{IsSaidWhole, IsShipped, role_session, shipped_role}
@@ -276,7 +278,9 @@ pub shown : (service : Service) (visits : List Visit) (journal : List Event) (po
     → GetsIn service journal worker visit
 shown service visits journal posts served worker visit post visits_at posts_at journal_met acts talks acts_met some
     told spoke =
-    by_scene (scene_of post) some told spoke (served.conversations.held worker post posts_at)
+    by_scene (scene_of post) some told spoke
+    (served.conversations.held worker (seen scene_of faults_of post)
+    (seen_stands scene_of faults_of posts worker post posts_at))
     (served.plans worker visit post visits_at posts_at) where
       by_scene : (scene : Option Scene) → IsSome scene → IfSome scene (λ s. acts ≡ s.acts)
           → IfSome scene (λ s. talks ≡ s.talks)

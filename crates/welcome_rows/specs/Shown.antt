@@ -1,5 +1,5 @@
 -- Inner: a user's session that comes to log in, is welcomed and is served files, and the run that it is of.
-use Rattle.std.specs.Prelude.{◌≡◌, ℕ, List, [], ◌∷◌, length, slice_get, Some, IfSome}
+use Rattle.std.specs.Prelude.{◌≡◌, ℕ, List, [], ◌∷◌, length, map, slice_get, Some, IfSome}
 use Rattle.std.specs.List.{AllByRecursion}
 use Rattle.outside_memory.specs.declared.post.MemPost.{MemPost}
 use Rattle.outside_memory.specs.declared.script.Script.{Script}
@@ -11,6 +11,7 @@ use Rattle.policy_model.specs.Settings.{IsInRange, Settings}
 use Rattle.service_model.specs.Service.{Service}
 use Rattle.service_model.specs.Sittings.{AreAnswered, AreSittingsOf, Sitting}
 use Rattle.monitor_run.specs.Headline.{ConversationsMatch, JournalIsLegal}
+use Rattle.monitor_run.specs.Posts.{seen}
 use Rattle.welcome_laws.specs.Files.{AreServed, AsksForFiles}
 use Rattle.welcome_laws.specs.Welcome.{ComesToLogIn, IsWelcomed}
 use Rattle.welcome_rows.specs.declared.serving.Visit.{Visit}
@@ -55,6 +56,6 @@ pub record HasServed (service : Service) (visits : List Visit) (journal : List E
     : Type 0 where
   pub in_range : IsInRange service.setup
   pub legal : JournalIsLegal service.setup journal
-  pub conversations : ConversationsMatch service scene_of journal posts
+  pub conversations : ConversationsMatch service journal (map (seen scene_of faults_of) posts)
   pub plans : (worker : ℕ) (visit : Visit) (post : MemPost) → slice_get visits worker ≡ Some visit
       → slice_get posts worker ≡ Some post → IfSome (scene_of post) (λ s. s.plan ≡ planned visit.script ∷ [])

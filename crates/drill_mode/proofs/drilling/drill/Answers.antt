@@ -1,7 +1,8 @@
-use Rattle.std.proofs.Common.{◌≡◌, ℕ, true, List, [], Option, None, Some, sym, ap, subst, ◌∙◌}
+use Rattle.std.proofs.Common.{◌≡◌, ℕ, true, List, [], map, Option, None, Some, sym, ap, subst, ◌∙◌}
 use Rattle.std.specs.List.{list_all}
 use Rattle.monitor_book.specs.declared.opened.Opened.{Opened}
 use Rattle.monitor_run.specs.Headline.{RunPromises}
+use Rattle.monitor_run.specs.Posts.{seen}
 use Rattle.outside_memory.specs.QuietPost.{faults_of, scene_of}
 use Rattle.outside_memory.specs.QuietSink.{held_of}
 use Rattle.service_model.specs.Service.{Service}
@@ -22,4 +23,4 @@ returns-then-tell_whole g c =
     let promises = c.run-journal.ensures.promises (record { bytes = Some []; lengths = None }) 0 (c.in-Ok.ensures.opened ∙ ap (opened service) c.in_ok-log.ensures.held ∙ ap (λ s. opened s (Some [])) (sym same)) in
     let whole : list_all (λ post. tells_whole (scene_of post)) ran.posts.items ≡ true = ap (list_all (λ post. tells_whole (scene_of post))) (sym c.deref.ensures.value) ∙ sym c.tell_whole.ensures ∙ c.if-tell_whole.true in
     drilled c.args.n service ran.accept_failed (held_of ran.log) ran.journal.items c.in_ok-posts.posts.items ran.posts.items c.in_ok-house.ensures c.in_ok-posts.ensures.count c.in_ok-posts.ensures.each c.run-journal.ensures.plans whole (c.tells.ensures.0 c.if-tells.true)
-    (subst (λ s. RunPromises s ran.accept_failed ran.journal.items ran.posts.items scene_of faults_of (record { bytes = Some []; lengths = None }) (record { bytes = held_of ran.log; lengths = None }) 0 0) same promises)
+    (subst (λ s. RunPromises s ran.accept_failed ran.journal.items (map (seen scene_of faults_of) ran.posts.items) (record { bytes = Some []; lengths = None }) (record { bytes = held_of ran.log; lengths = None }) 0 0) same promises)

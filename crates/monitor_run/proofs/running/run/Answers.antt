@@ -8,8 +8,7 @@ use Rattle.service_model.specs.Service.{Service}
 use Rattle.session_loop.specs.Stories.{is_accept_fault}
 use Rattle.session_turns.specs.Passes.{IsHeldBy, OwnsAll}
 use Rattle.turn_cell.specs.Facts.{AreAllPasses, AreNewPasses}
-use Rattle.monitor_run.specs.Headline.{FaultsAreCounted}
-use Rattle.monitor_run.specs.Ran.{PlansStay}
+use Rattle.monitor_run.specs.Ran.{PlansStay, AllCountAsTold}
 use Rattle.monitor_run.proofs.Gathered.{of_reverse, passes_back, plans_stay, put_back, ready_lent, run_ended, served_all, written_whole}
 use Rattle.monitor_run.proofs.Promises.{BookSays, book_says, book_setup, run_promises, run_told}
 use Rattle.monitor_run.proofs.running.run.Goals as goal
@@ -79,7 +78,7 @@ returns-clause-promises g c held faults told =
     let says = subst (λ (s : Service). BookSays s.setup book.journal held book.held faults book.faults) same said in
     let ended = run_ended service place g.P.Post.scene g.P.Post.faults (λ w. w.post) (λ w. w.pass) (λ w. w.end) old new served book.journal says.run made.cell.1 (subst (All (IsHeldBy book.journal)) passes c.close_cell.ensures.passes) in
     let one_each : length (reverse (map (λ w. w.post) new)) ≡ service.setup.workers = length-reverse (map (λ w. w.post) new) ∙ length-map new (λ w. w.post) ∙ served.same ∙ sym (length-reverse (map (λ w. w.pass) old) ∙ length-map old (λ w. w.pass)) ∙ served.passes_new.0 ∙ made.cell.1 in
-    run_told same failed c.parts-core.ensures.journal posts c.parts-core.ensures.log.0 c.parts-core.ensures.log.1 (run_promises service (list_any (λ w. is_accept_fault w.end) new) book.journal (reverse (map (λ w. w.post) new)) g.P.Post.scene g.P.Post.faults held book.held faults book.faults ended says c.parts-core.ensures.few one_each (subst (FaultsAreCounted g.P.Post.scene g.P.Post.faults) (c.as_slice.ensures.value ∙ posts) c.count_as_told.ensures))
+    run_told g.P.Post.scene g.P.Post.faults same failed c.parts-core.ensures.journal posts c.parts-core.ensures.log.0 c.parts-core.ensures.log.1 (run_promises service (list_any (λ w. is_accept_fault w.end) new) book.journal (reverse (map (λ w. w.post) new)) g.P.Post.scene g.P.Post.faults held book.held faults book.faults ended says c.parts-core.ensures.few one_each (subst (AllCountAsTold g.P.Post.scene g.P.Post.faults) (c.as_slice.ensures.value ∙ posts) c.count_as_told.ensures))
 
 pub returns-clause-plans : goal.returns-clause-plans
 returns-clause-plans g c =

@@ -1,5 +1,4 @@
 use Rattle.monitor_server.proofs.Before.{served_from}
-use Rattle.monitor_server.proofs.Posts.{seen_ended}
 use Rattle.monitor_server.proofs.Touching.{touched_serving}
 use Rattle.monitor_server.proofs.modes.serve_setup.Goals as goal
 
@@ -8,7 +7,7 @@ returns-clause-serve g c = served_from c.world.view_is (record {
   end = c.run_serve-end.result.end;
   status_is = c.status.ensures;
   detail_is = c.serve_detail.ensures;
-  ended = seen_ended _ _ c.run_serve-end.result.end _ c.run_serve-end.result.posts.items _ _ _ _ _ _ _ _ _ _ _ _ c.run_serve-end.ensures.ended;
+  ended = c.run_serve-end.ensures.ended;
 })
 
 pub returns-clause-touches : goal.returns-clause-touches

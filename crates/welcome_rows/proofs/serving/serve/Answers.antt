@@ -1,8 +1,9 @@
-use Rattle.std.proofs.Common.{ap, subst, ◌∙◌, ◌≡◌, sym, Option, Some}
+use Rattle.std.proofs.Common.{ap, map, subst, ◌∙◌, ◌≡◌, sym, Option, Some}
 use Rattle.monitor_book.specs.declared.opened.Held.{Held}
 use Rattle.monitor_book.specs.declared.opened.Opened.{Opened}
 use Rattle.monitor_book.specs.Lines.{held_by}
 use Rattle.monitor_run.specs.Headline.{RunPromises}
+use Rattle.monitor_run.specs.Posts.{seen}
 use Rattle.outside_memory.specs.MemPost.{faults_of, scene_of}
 use Rattle.outside_memory.specs.declared.sink.MemSink.{MemSink}
 use Rattle.outside_memory.specs.MemSink.{faults_of as log_faults, held_of, lengths_of}
@@ -30,8 +31,8 @@ returns g c =
     }) in
     let promises = c.run-journal.ensures.promises (held log) (log_faults log)
     (c.in-Ok.ensures.opened ∙ ap opened (sym same)) in
-    let kept = subst (λ (s : Service). RunPromises s ran.accept_failed ran.journal.items ran.posts.items scene_of
-    faults_of
+    let kept = subst (λ (s : Service). RunPromises s ran.accept_failed ran.journal.items
+    (map (seen scene_of faults_of) ran.posts.items)
     (held log) (held ran.log) (log_faults log) (log_faults ran.log)) same promises in
     record {
       in_range = c.workers.ensures.in_range;
