@@ -3,3 +3,4 @@ pub mod ListLemmas
 mod Putting
 mod Replacing
 pub mod SetupLemmas
+pub mod Sparing

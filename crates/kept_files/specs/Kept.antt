@@ -1,10 +1,10 @@
 -- Inner: what is kept of files that were read.
 use Rattle.std.specs.Prelude.{◌≡◌, ◌≢◌, ◌⊎◌, ◌||◌, ℕ, Bool, false, List, Option, is_some, option_map, take}
 use Rattle.std.specs.Prelude.{IfSome, IsTrue}
-use Rattle.outside.specs.Files.{Contents, Replaced, file_of}
+use Rattle.outside.specs.Files.{Contents, MayBeReplaced, Replaced, SameFiles, file_of}
 use Rattle.outside.specs.FilesNow.{FilesNow, OnlyReads}
-use Rattle.outside.specs.Told.{Goes}
-use Rattle.outside.specs.Touched.{HasReplaced, has_name}
+use Rattle.outside.specs.Told.{Goes, Rose}
+use Rattle.outside.specs.Touched.{HasReplaced, MayHaveReplaced, has_name}
 
 -- what was read of files: the name and the bytes of each that was there, and the names of which there was none
 pub record Kept : Type 0 where
@@ -49,6 +49,13 @@ pub record ReplacedBelow (name bytes : List ℕ) (before after : FilesNow) : Typ
   pub contents : Goes (Replaced name bytes) before.contents after.contents
   pub replace_faults : after.replace_faults ≡ before.replace_faults
   pub touched : Goes (HasReplaced name) before.touched after.touched
+
+-- the files below are as they were, or a replacing of this one by these bytes failed there; no other was touched
+pub record SparesBelow (name bytes : List ℕ) (before after : FilesNow) : Type 0 where
+  pub contents : Goes (MayBeReplaced name bytes) before.contents after.contents
+  pub fault : Goes SameFiles before.contents after.contents ⊎ Rose before.replace_faults after.replace_faults
+  pub read_faults : after.read_faults ≡ before.read_faults
+  pub touched : Goes (MayHaveReplaced name) before.touched after.touched
 
 -- ---- over several readings
 

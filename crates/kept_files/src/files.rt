@@ -1,4 +1,4 @@
-ghost use Rattle.std.specs.Prelude.{◌≡◌, ◌≤◌, ◌∷◌, [], Err, IfOk, IfSome, IsErr, IsTrue, OnErr, OnOk, Some};
+ghost use Rattle.std.specs.Prelude.{◌≡◌, ◌≤◌, ◌∷◌, [], Err, IfOk, IfSome, IsErr, IsTrue, None, OnErr, OnOk, Some};
 ghost use Rattle.std.specs.Prelude.{drop, false, length, option_map, take};
 ghost use Rattle.outside.specs.Faults.{count_after};
 ghost use Rattle.outside.specs.Files.{MayBeReplaced, Replaced, SameFiles, bytes_read, piece_of};
@@ -6,7 +6,7 @@ ghost use Rattle.outside.specs.FilesNow.{files_now};
 ghost use Rattle.outside.specs.Told.{Goes, Rose, next_count};
 ghost use Rattle.outside.specs.Touched.{HasRead, HasReplaced, MayHaveRead, MayHaveReplaced};
 ghost use Rattle.file_front.specs.declared.front.FrontError.TheVariants as errors;
-ghost use Rattle.kept_files.specs.Kept.{KeepsFile, KeepsMore, ReplacedBelow, is_kept, kept_files};
+ghost use Rattle.kept_files.specs.Kept.{KeepsFile, KeepsMore, ReplacedBelow, SparesBelow, is_kept, kept_files};
 
 use crate::shelf::Shelf;
 use file_front::{FrontError, read_front};
@@ -143,7 +143,9 @@ impl<F: Files> Files for KeptFiles<F> {
         }
     }
 
-    /// Replaces a file that was there when it was read, first below. It fails of any other.
+    #[tactic(auto, using(crate::proofs::Sparing::spares_none))]
+    /// Replaces a file that was there when it was read, first below. It fails of any other. Where it fails, the
+    /// files below are as they were, but for a replacing of this one that failed there.
     fn replace(&mut self, name: &Word, bytes: &[u8]) -> Result<(), Failed>
         ensures ok { OnOk result (Goes (Replaced name.now bytes.now) (contents_of self.old)
             (contents_of self.new)) }
@@ -159,6 +161,9 @@ impl<F: Files> Files for KeptFiles<F> {
 
         ensures below { let now = files_now F.contents F.read_faults F.replace_faults F.touched in
             OnOk result (ReplacedBelow name.now bytes.now (now (under_of self.old)) (now (under_of self.new))) }
+        ensures spared { let now = files_now F.contents F.read_faults F.replace_faults F.touched in
+            OnErr result (SparesBelow name.now bytes.now (now (under_of self.old)) (now (under_of self.new))) }
+        ensures unkept { kept_files (kept_of self.old) name.now ≡ None → IsErr result }
     {
         self.last = name.copy(self.alloc).ok();
         if self.touched.note_replaced(name).is_err() {
@@ -174,6 +179,7 @@ impl<F: Files> Files for KeptFiles<F> {
 impl<F: Files> KeptFiles<F> {
     ghost use Rattle.kept_files.specs.Files.{kept_of, read_faults_of, replace_faults_of, touched_of, under_of};
 
+    #[tactic(auto, using(crate::proofs::Sparing::spares_none, crate::proofs::Sparing::spares_failed))]
     /// Replaces a file that was there when it was read, and what is kept of it.
     fn replace_kept(&mut self, name: &Word, bytes: &[u8]) -> Result<(), Failed>
         ensures ok { OnOk result (Replaced name.now bytes.now (kept_files (kept_of self.old))
@@ -181,6 +187,9 @@ impl<F: Files> KeptFiles<F> {
         ensures below { let now = files_now F.contents F.read_faults F.replace_faults F.touched in
             OnOk result (ReplacedBelow name.now bytes.now (now (under_of self.old)) (now (under_of self.new))) }
         ensures err { OnErr result (kept_of self.new ≡ kept_of self.old) }
+        ensures spared { let now = files_now F.contents F.read_faults F.replace_faults F.touched in
+            OnErr result (SparesBelow name.now bytes.now (now (under_of self.old)) (now (under_of self.new))) }
+        ensures unkept { kept_files (kept_of self.old) name.now ≡ None → IsErr result }
         ensures read_faults { read_faults_of self.new ≡ read_faults_of self.old }
         ensures replace_faults { replace_faults_of self.new ≡ replace_faults_of self.old }
         ensures touched { touched_of self.new ≡ touched_of self.old }

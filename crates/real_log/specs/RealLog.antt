@@ -1,5 +1,5 @@
 -- Inner: what contracts see of the log of a run.
-use Rattle.std.specs.Prelude.{◌≡◌, ◌⊎◌, ℕ, true, List, Option}
+use Rattle.std.specs.Prelude.{◌≡◌, ◌⊎◌, ℕ, Bool, true, false, List, Option}
 use Rattle.std.specs.Io.KnownBytes.{Appends}
 use Rattle.durable_log.specs.Appending.{IsDone}
 use Rattle.line_log.specs.Kept.{HasFailed, line_faults}
@@ -10,6 +10,16 @@ use Rattle.real_files.specs.RealSink.{writer_of}
 use Rattle.real_files.specs.RealSink as stream
 use Rattle.real_log.specs.declared.log.RealLog.{RealLog}
 use Rattle.real_log.specs.declared.log.RealLog.TheVariants.{Durable, Stream}
+
+-- whether it is a file
+abbrev pub is_durable : {W R D : Type 0} → RealLog W R D → Bool
+is_durable (Stream sink) = false
+is_durable (Durable log echo) = true
+
+-- how many lines of a file failed to be written beside it
+abbrev pub dropped_of : {W R D : Type 0} → RealLog W R D → ℕ
+dropped_of (Stream sink) = 0
+dropped_of (Durable log echo) = stream.faults_of echo
 
 -- how many appends failed, of the log that it is
 abbrev pub faults_of : {W R D : Type 0} → RealLog W R D → ℕ

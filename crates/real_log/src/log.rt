@@ -26,8 +26,12 @@ pub enum RealLog<W, R: Files<File = File> + Drop + Send> {
 }
 
 impl<W, R: Files<File = File> + Drop + Send> RealLog<W, R> {
+    ghost use Rattle.real_log.specs.RealLog.{dropped_of, is_durable};
+
     /// Whether it is a file.
-    pub fn is_durable(&self) -> bool {
+    pub fn is_durable(&self) -> bool
+        ensures { result ≡ is_durable self.now }
+    {
         match self {
             RealLog::Stream(_) => false,
             RealLog::Durable { .. } => true,
@@ -35,7 +39,9 @@ impl<W, R: Files<File = File> + Drop + Send> RealLog<W, R> {
     }
 
     /// How many lines are safe in the file, and could not be written to the stream beside it.
-    pub fn dropped(&self) -> u64 {
+    pub fn dropped(&self) -> u64
+        ensures { result ≡ dropped_of self.now }
+    {
         match self {
             RealLog::Stream(_) => 0,
             RealLog::Durable { log: _, echo } => echo.fault_count(),
