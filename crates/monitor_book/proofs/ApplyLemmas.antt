@@ -22,7 +22,7 @@ use Rattle.turn_cell.specs.Facts.{replies_of}
 use Rattle.monitor_book.specs.declared.opened.Held.{Held}
 use Rattle.monitor_book.specs.Entering.{Settles}
 use Rattle.monitor_book.specs.Kept.{BookParts, IsBook, IsLogged, book_parts, worker_of}
-use Rattle.monitor_book.proofs.HistoryLemmas.{IsEntered, core_room, entered, history_push, room_left}
+use Rattle.monitor_book.proofs.HistoryLemmas.{IsEntered, IsNextOf, core_room, entered, history_push, room_left}
 use Rattle.monitor_book.proofs.LogLemmas.{WritesLine, kept_all, logged_push}
 
 -- a worker may make a call
@@ -76,28 +76,39 @@ writes_line (Err e) line held_old held_new faults_old faults_new ok part length_
 }
 
 -- the event is the one that follows
-pub event_is : (book : BookParts) (worker : ℕ) (ask : Ask) (event : Event) → IsBook book → book.lost ≡ false → ((journal : List Event) → Stands book.core journal → event ≡ next_event (setup_of book.core) journal worker ask) → event ≡ next_event (setup_of book.core) book.journal worker ask
+pub event_is : (book : BookParts) (worker : ℕ) (ask : Ask) (event : Event) → IsBook book → book.lost ≡ false → IsNextOf book.core worker ask event → event ≡ next_event (setup_of book.core) book.journal worker ask
 event_is book worker ask event kept none is =
     let all : kept_events book.journal ≡ book.journal = kept_all book.journal (kept.history.known ∙ none) in
     is book.journal (subst (λ xs. Stands book.core xs) all kept.history.stands)
 
 -- and its numbers are in the ranges of their types
-pub typed_is : (book : BookParts) (worker : ℕ) (ask : Ask) (event : Event) → IsBook book → is_proper ask ≡ true → ((journal : List Event) → Stands book.core journal → event ≡ next_event (setup_of book.core) journal worker ask) → (is_proper event.ask ≡ true → IsTyped event) → book.lost ≡ false → IsTyped (next_event (setup_of book.core) book.journal worker ask)
+pub typed_is : (book : BookParts) (worker : ℕ) (ask : Ask) (event : Event) → IsBook book → is_proper ask ≡ true → IsNextOf book.core worker ask event → (is_proper event.ask ≡ true → IsTyped event) → book.lost ≡ false → IsTyped (next_event (setup_of book.core) book.journal worker ask)
 typed_is book worker ask event kept proper is typed none =
     let follows = event_is book worker ask event kept none is in
     subst IsTyped follows (typed (ap (λ (x : Event). is_proper x.ask) follows ∙ proper))
 
 -- what is written is its line
-pub line_is : (book : BookParts) (worker : ℕ) (ask : Ask) (event : Event) (number len : ℕ) (out rest : List ℕ) → IsBook book → book.lost ≡ false → ((journal : List Event) → Stands book.core journal → event ≡ next_event (setup_of book.core) journal worker ask) → number ≡ length book.journal + 1 → len ≡ length (line_of number event) → out ≡ line_of number event ++ rest → take len out ≡ line_of (length book.journal + 1) (next_event (setup_of book.core) book.journal worker ask)
+pub line_is : (book : BookParts) (worker : ℕ) (ask : Ask) (event : Event) (number len : ℕ) (out rest : List ℕ) → IsBook book → book.lost ≡ false → IsNextOf book.core worker ask event → number ≡ length book.journal + 1 → len ≡ length (line_of number event) → out ≡ line_of number event ++ rest → take len out ≡ line_of (length book.journal + 1) (next_event (setup_of book.core) book.journal worker ask)
 line_is book worker ask event number len out rest kept none is counted long written =
     let front : take len out ≡ line_of number event = ap (λ n. take n out) long ∙ ap (λ xs. take (length (line_of number event)) xs) written ∙ take-append_seam (line_of number event) rest in
     front ∙ ap (λ n. line_of n event) counted ∙ ap (line_of (length book.journal + 1)) (event_is book worker ask event kept none is)
 
+-- the worker and the ask are those of the event
+pub asked_by : (book : BookParts) (worker : ℕ) (ask : Ask) (event : Event) → IsBook book → IsNextOf book.core worker ask event → (event.worker ≡ worker) × (event.ask ≡ ask)
+asked_by book worker ask event kept is =
+    let follows = is (kept_events book.journal) kept.history.stands in
+    (ap (λ (x : Event). x.worker) follows, ap (λ (x : Event). x.ask) follows)
+
+pub own_next : (book : BookParts) (worker : ℕ) (ask : Ask) (event : Event) → IsBook book → IsNextOf book.core worker ask event → IsNextOf book.core event.worker event.ask event
+own_next book worker ask event kept is journal st =
+    let by = asked_by book worker ask event kept is in
+    is journal st ∙ ap (λ n. next_event (setup_of book.core) journal n ask) (sym by.0) ∙ ap (next_event (setup_of book.core) journal event.worker) (sym by.1)
+
 -- the book after the event
-pub book_push : (book : BookParts) (new : CoreParts) (lost : Bool) (worker : ℕ) (ask : Ask) (e : Event) (held : Held) (faults : ℕ) → IsBook book → IsAsked book.core book.journal worker → is_proper ask ≡ true → (book.lost ≡ false → IsTyped (next_event (setup_of book.core) book.journal worker ask)) → WritesLine book.lost lost (line_of (length book.journal + 1) (next_event (setup_of book.core) book.journal worker ask)) book.held held book.faults faults → KeepsSetup book.core new → Settles lost worker ask book.core new e → IsBook (book_parts new (book.journal ++ e ∷ []) lost book.held_first held book.faults_first faults)
-book_push book new lost worker ask e held faults kept asked proper typed line same settled =
+pub book_push : (book : BookParts) (new : CoreParts) (lost : Bool) (worker : ℕ) (ask : Ask) (next e : Event) (held : Held) (faults : ℕ) → IsBook book → IsAsked book.core book.journal worker → is_proper ask ≡ true → (book.lost ≡ false → IsTyped (next_event (setup_of book.core) book.journal worker ask)) → WritesLine book.lost lost (line_of (length book.journal + 1) (next_event (setup_of book.core) book.journal worker ask)) book.held held book.faults faults → KeepsSetup book.core new → IsNextOf book.core worker ask next → Settles lost next book.core new e → IsBook (book_parts new (book.journal ++ e ∷ []) lost book.held_first held book.faults_first faults)
+book_push book new lost worker ask next e held faults kept asked proper typed line same is settled =
     let stays : book.lost ≡ true → lost ≡ true = λ h. (line.again h).0 in
-    let came : IsEntered book.core new book.journal lost worker ask e = entered book.core new book.journal book.lost lost worker ask e kept.history stays settled in
+    let came : IsEntered book.core new book.journal lost worker ask e = entered book.core new book.journal book.lost lost worker ask next e kept.history stays is settled in
     let follows : next_event (setup_of book.core) book.journal worker ask ≡ next_event (setup_of book.core) book.journal e.worker e.ask = ap (λ n. next_event (setup_of book.core) book.journal n ask) (sym came.its) ∙ ap (next_event (setup_of book.core) book.journal e.worker) (sym came.asks) in
     let own : WritesLine (has_lost book.journal) (is_lost e.decision) (line_of (length book.journal + 1) (next_event (setup_of book.core) book.journal e.worker e.ask)) book.held held book.faults faults =
     subst (λ (x : Event). WritesLine (has_lost book.journal) (is_lost e.decision) (line_of (length book.journal + 1) x) book.held held book.faults faults) follows

@@ -19,9 +19,9 @@ use Rattle.session_core.proofs.ReplayLemmas.{begun_few}
 use Rattle.session_laws.proofs.NextEvents.{next_event_follows, next_event_kept}
 use Rattle.turn_cell.specs.Facts.{replies_of}
 use Rattle.turn_cell.proofs.Counts.{at_most, room_for, within_more}
-use Rattle.monitor_book.specs.Entering.{Settles}
+use Rattle.monitor_book.specs.Entering.{Settles, lost_of}
 use Rattle.monitor_book.specs.Kept.{BookParts, IsBook, IsHistory, IsWithinQuota, worker_of}
-use Rattle.monitor_book.proofs.EventLemmas.{lost_kept}
+use Rattle.monitor_book.proofs.EventLemmas.{lost_kept, lost_next}
 use Rattle.monitor_book.specs.Lines.{decided_in}
 use Rattle.monitor_book.proofs.LogLemmas.{kept_all, kept_lost}
 use Rattle.monitor_book.proofs.TypedLemmas.{typed_push}
@@ -69,11 +69,15 @@ pub record IsEntered (core new : CoreParts) (journal : List Event) (lost : Bool)
   pub next : IsNext (setup_of core) journal e
   pub stands : Stands new (kept_events (journal ++ e ∷ []))
 
-entered_kept : (core new : CoreParts) (journal : List Event) (worker : ℕ) (ask : Ask) (e : Event) → has_lost journal ≡ false → IsHistory core journal false → Settles false worker ask core new e → IsEntered core new journal false worker ask e
-entered_kept core new journal worker ask e none history settled =
+-- the next event of a core
+abbrev pub IsNextOf : CoreParts → ℕ → Ask → Event → Type 0
+IsNextOf core worker ask next = (journal : List Event) → Stands core journal → next ≡ next_event (setup_of core) journal worker ask
+
+entered_kept : (core new : CoreParts) (journal : List Event) (worker : ℕ) (ask : Ask) (next e : Event) → has_lost journal ≡ false → IsHistory core journal false → IsNextOf core worker ask next → Settles false next core new e → IsEntered core new journal false worker ask e
+entered_kept core new journal worker ask next e none history follows settled =
     let all : kept_events journal ≡ journal = kept_all journal none in
     let old : Stands core journal = subst (λ xs. Stands core xs) all history.stands in
-    let is : e ≡ next_event (setup_of core) journal worker ask = settled.next refl journal old in
+    let is : e ≡ next_event (setup_of core) journal worker ask = settled.next refl ∙ follows journal old in
     let decided : is_lost e.decision ≡ false = ap (λ (x : Event). is_lost x.decision) is ∙ next_event_kept (setup_of core) journal worker ask in
     let grown : kept_events (journal ++ e ∷ []) ≡ journal ++ e ∷ [] = kept_all (journal ++ e ∷ []) (has_lost-push journal e ∙ rw (none, decided) refl) in
     record {
@@ -85,26 +89,27 @@ entered_kept core new journal worker ask e none history settled =
       stands = subst (λ xs. Stands new xs) (sym grown) (settled.stands refl journal old);
     }
 
-lost_next : (setup : Settings) (journal : List Event) (worker : ℕ) (ask : Ask) → IsNext setup journal (event_with journal worker ask Lost)
-lost_next setup journal worker ask = record { decided = refl; lost = λ h. refl }
+lost_follows : (setup : Settings) (journal : List Event) (worker : ℕ) (ask : Ask) → IsNext setup journal (event_with journal worker ask Lost)
+lost_follows setup journal worker ask = record { decided = refl; lost = λ h. refl }
 
-entered_lost : (core new : CoreParts) (journal : List Event) (before : Bool) (worker : ℕ) (ask : Ask) (e : Event) → IsHistory core journal before → Settles true worker ask core new e → IsEntered core new journal true worker ask e
-entered_lost core new journal before worker ask e history settled =
-    let is : e ≡ event_with journal worker ask Lost = settled.nowhere refl (kept_events journal) history.stands ∙ lost_kept worker ask journal in
+entered_lost : (core new : CoreParts) (journal : List Event) (before : Bool) (worker : ℕ) (ask : Ask) (next e : Event) → IsHistory core journal before → IsNextOf core worker ask next → Settles true next core new e → IsEntered core new journal true worker ask e
+entered_lost core new journal before worker ask next e history follows settled =
+    let is : e ≡ event_with journal worker ask Lost =
+    settled.nowhere refl ∙ ap lost_of (follows (kept_events journal) history.stands) ∙ lost_next (setup_of core) (kept_events journal) worker ask ∙ lost_kept worker ask journal in
     let decided : is_lost e.decision ≡ true = ap (λ (x : Event). is_lost x.decision) is in
     record {
       decided = decided;
       its = ap (λ (x : Event). x.worker) is;
       asks = ap (λ (x : Event). x.ask) is;
       is = λ h. absurd (false≢true (sym h));
-      next = subst (λ (x : Event). IsNext (setup_of core) journal x) (sym is) (lost_next (setup_of core) journal worker ask);
+      next = subst (λ (x : Event). IsNext (setup_of core) journal x) (sym is) (lost_follows (setup_of core) journal worker ask);
       stands = subst (λ xs. Stands new xs) (sym (kept_lost journal e decided)) (subst (λ (c : CoreParts). Stands c (kept_events journal)) (sym (settled.same refl)) history.stands);
     }
 
-pub entered : (core new : CoreParts) (journal : List Event) (before lost : Bool) (worker : ℕ) (ask : Ask) (e : Event) → IsHistory core journal before → (before ≡ true → lost ≡ true) → Settles lost worker ask core new e → IsEntered core new journal lost worker ask e
-entered core new journal before true worker ask e history stays settled = entered_lost core new journal before worker ask e history settled
-entered core new journal true false worker ask e history stays settled = absurd (false≢true (stays refl))
-entered core new journal false false worker ask e history stays settled = entered_kept core new journal worker ask e history.known history settled
+pub entered : (core new : CoreParts) (journal : List Event) (before lost : Bool) (worker : ℕ) (ask : Ask) (next e : Event) → IsHistory core journal before → (before ≡ true → lost ≡ true) → IsNextOf core worker ask next → Settles lost next core new e → IsEntered core new journal lost worker ask e
+entered core new journal before true worker ask next e history stays follows settled = entered_lost core new journal before worker ask next e history follows settled
+entered core new journal true false worker ask next e history stays follows settled = absurd (false≢true (stays refl))
+entered core new journal false false worker ask next e history stays follows settled = entered_kept core new journal worker ask next e history.known history follows settled
 
 -- the book after the event
 pub history_push : (core new : CoreParts) (journal : List Event) (before lost : Bool) (worker : ℕ) (ask : Ask) (e : Event) → IsHistory core journal before → (before ≡ true → lost ≡ true) → IsEntered core new journal lost worker ask e → setup_of new ≡ setup_of core → new.ledger.cap ≡ core.ledger.cap → is_proper ask ≡ true → worker < (setup_of core).workers → length (replies_of worker_of worker journal) < quota_of (setup_of core) → (before ≡ false → IsTyped (next_event (setup_of core) journal worker ask)) → IsHistory new (journal ++ e ∷ []) lost

@@ -1,19 +1,22 @@
 //! The book.
 
-ghost use Rattle.std.specs.Prelude.{◌≡◌, ◌≤◌, [], IfErr, IfOk, false, length};
+ghost use Rattle.std.specs.Prelude.{◌≡◌, ◌<◌, ◌≤◌, ◌++◌, ◌∷◌, [], IfErr, IfOk, List, false, length};
+ghost use Rattle.monitor_book.specs.Entering.{Settles, lost_of};
 ghost use Rattle.monitor_book.specs.Kept.{IsBook, book_parts};
 ghost use Rattle.monitor_book.specs.Lines.{held_by};
+ghost use Rattle.policy_model.specs.declared.event.Event.{Event};
+ghost use Rattle.policy_model.specs.Asks.{opens};
+ghost use Rattle.policy_model.specs.Legal.{next_event};
 ghost use Rattle.policy_model.specs.Settings.{events_max};
 ghost use Rattle.session_core.specs.Parts.{setup_of};
+ghost use Rattle.session_core.specs.Standing.{HasRoom, KeepsSetup, Stands};
 ghost use Rattle.policy_laws.specs.Consequences.{HasConsequences};
 ghost use Rattle.policy_laws.specs.Strangers.{ShowsNoAccounts};
-ghost use Rattle.session_core.specs.Standing.{Stands};
 
-use crate::entering::{event_of, settle};
 use crate::opened::Opened;
 use decision_log::{is_typed, line};
 use outside::Sink;
-use policy_model::{Ask, Event};
+use policy_model::{Ask, Decision, Event};
 use session_core::Core;
 use std::alloc::{AllocError, Global};
 use std::marker::Model;
@@ -106,6 +109,38 @@ impl<K: Sink> Book<K> {
     }
 }
 
+/// The event as it is where its line is lost: nothing was decided, and an opening has no session.
+fn lose(event: Event) -> Event
+    ensures { result ≡ lost_of event }
+{
+    let session = if event.ask.is_begin() {
+        0
+    } else {
+        event.session
+    };
+    Event {
+        session,
+        decision: Decision::Lost,
+        ..event
+    }
+}
+
+/// The next event of the core, which is settled, unless its line is lost.
+fn settled(core: &mut Core, lost: bool, event: Event) -> Event
+    requires worker { event.worker < core.old.ledger.setup.workers }
+    requires next { (journal : List Event) → Stands core.old journal
+        → event ≡ next_event core.old.ledger.setup journal event.worker event.ask }
+    requires room { HasRoom core.old (opens event) }
+    ensures kept { KeepsSetup core.old core.new }
+    ensures settled { Settles lost event core.old core.new result }
+{
+    if lost {
+        return lose(event);
+    }
+    core.settle(&event);
+    event
+}
+
 impl<K: Sink> Object for Book<K> {
     type Call = Ask;
 
@@ -138,13 +173,12 @@ impl<K: Sink> Object for Book<K> {
     /// Decides an ask, writes the event's line to the log, and only then settles it. Where the line could
     /// not be written the decision is `Lost`, and so is each later one.
     fn apply(&mut self, who: u32, call: Ask) -> Event {
-        let decision = self.core.decide(who, &call);
-        let event = event_of(&self.core, who, &call, &decision);
-        is_typed(&event);
+        let next = self.core.next_event(who, &call);
+        is_typed(&next);
         let mut text = [0; LINE_MAX];
-        let len = line(self.journal.len() as u32 + 1, &event, &mut text);
+        let len = line(self.journal.len() as u32 + 1, &next, &mut text);
         let lost = self.lost || self.log.append(&text[..len]).is_err();
-        let event = settle(&mut self.core, lost, who, &call, decision);
+        let event = settled(&mut self.core, lost, next);
         self.lost = lost;
         self.journal.push_reserved(event);
         event

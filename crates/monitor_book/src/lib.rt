@@ -4,7 +4,6 @@
 #![tactic(auto)]
 
 mod book;
-mod entering;
 mod opened;
 
 pub use book::Book;

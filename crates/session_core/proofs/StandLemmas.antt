@@ -27,6 +27,7 @@ use Rattle.session_core.specs.Deciding.{core_decision, worker_decision}
 use Rattle.session_core.specs.Parts.{CoreParts, row_of}
 use Rattle.session_core.specs.Settling.{core_after, core_event, grant_for, ledger_accepting, ledger_after, may_hold, number_for, session_at, table_next}
 use Rattle.session_core.specs.Standing.{FitsAccounts, FitsRows, HasJournal, IsCore, Stands, early_rows, phase_at}
+use Rattle.session_core.proofs.DecideLemmas.{core_decides}
 use Rattle.session_core.proofs.GrantLemmas.{grant_found}
 use Rattle.session_core.proofs.SettleLemmas.{idle_stands, number_taken, opened_stands, session_stands, spendable}
 use Rattle.session_laws.specs.Rooms.{login_room, may_log_in}
@@ -122,9 +123,8 @@ accepting_room core journal e row c f at accepted =
     let room : core.ledger.spent < core.table.begun = room_for_one phase_at core.table.rows e.worker None None core.ledger.spent core.table.begun (omega (arith, f.below, f.stands.rows.workers)) c.room refl phase in
     omega (arith, room, c.within)
 
-pub fits_accounts : (core : CoreParts) (journal : List Event) (e : Event) → IsCore core → IsFollowing core journal e → FitsAccounts core.ledger core.table e
+pub fits_accounts : (core : CoreParts) (journal : List Event) (e : Event) → IsCore core → IsFollowing core journal e → FitsAccounts core.ledger (row_of core e.worker) e
 fits_accounts core journal e c f = record {
-  worker = omega (arith, f.below, f.stands.rows.workers);
   spends = λ row at accepted. spendable core.ledger row journal e f.stands.legal f.next f.stands.accounts (row_stands core journal e row f (accepts_closed e accepted) at) (accepting_room core journal e row c f at accepted) accepted;
 }
 
@@ -333,17 +333,28 @@ core_after_is core e ledger table l t =
     ap (λ (x : LedgerParts). let c : CoreParts = record { ledger = x; table = table; settled = core.settled + 1 } in c) l
     ∙ ap (λ (x : TableParts). let c : CoreParts = record { ledger = ledger_after core.ledger (row_of core e.worker) e; table = x; settled = core.settled + 1 } in c) t
 
-pub event_following : (core seen : CoreParts) (journal : List Event) (worker : ℕ) (ask : Ask) (decision : Decision) (e : Event) → core ≡ seen → Stands core journal → worker < seen.ledger.setup.workers → seen.settled < 2 ^ 32 - 1 → decision ≡ verdict_of seen.ledger.setup journal worker ask → e ≡ core_event seen worker ask decision → IsFollowing core journal e
-event_following core seen journal worker ask decision e same st lt few decided is =
-    let there : Stands seen journal = subst (λ (x : CoreParts). Stands x journal) same st in
-    subst (λ (x : CoreParts). IsFollowing x journal e) (sym same) (following seen journal worker ask e there lt few (is ∙ core_event_is seen journal worker ask decision there lt decided))
+-- what a core makes of an ask is the event that follows
+pub next_is : (core : CoreParts) (journal : List Event) (worker : ℕ) (ask : Ask) (e : Event) → Stands core journal → worker < core.ledger.setup.workers → e ≡ core_event core worker ask (core_decision core worker ask) → e ≡ next_event core.ledger.setup journal worker ask
+next_is core journal worker ask e st lt is =
+    is ∙ core_event_is core journal worker ask (core_decision core worker ask) st lt (core_decides core journal worker ask st lt)
 
-pub opening_room : (core seen : CoreParts) (worker : ℕ) (ask : Ask) (decision : Decision) (e : Event) → core ≡ seen → e ≡ core_event seen worker ask decision → ((is_begin ask && is_permit decision) ≡ true → seen.table.begun < seen.ledger.cap) → opens e ≡ true → core.table.begun < core.ledger.cap
-opening_room core seen worker ask decision e same is room opened = subst (λ (x : CoreParts). x.table.begun < x.ledger.cap) (sym same) (room (sym (ap opens is) ∙ opened))
+pub own_next : (core : CoreParts) (journal : List Event) (worker : ℕ) (ask : Ask) (e : Event) → Stands core journal → worker < core.ledger.setup.workers → e ≡ core_event core worker ask (core_decision core worker ask) → e ≡ next_event core.ledger.setup journal e.worker e.ask
+own_next core journal worker ask e st lt is =
+    next_is core journal worker ask e st lt is
+    ∙ ap (λ n. next_event core.ledger.setup journal n ask) (sym (ap (λ (x : Event). x.worker) is))
+    ∙ ap (next_event core.ledger.setup journal e.worker) (sym (ap (λ (x : Event). x.ask) is))
+
+pub event_following : (core seen : CoreParts) (journal : List Event) (e : Event) → core ≡ seen → Stands core journal → e.worker < seen.ledger.setup.workers → seen.settled < 2 ^ 32 - 1 → ((xs : List Event) → Stands seen xs → e ≡ next_event seen.ledger.setup xs e.worker e.ask) → IsFollowing core journal e
+event_following core seen journal e same st lt few next =
+    let there : Stands seen journal = subst (λ (x : CoreParts). Stands x journal) same st in
+    subst (λ (x : CoreParts). IsFollowing x journal e) (sym same) (following seen journal e.worker e.ask e there lt few (next journal there))
+
+pub opening_room : (core seen : CoreParts) (e : Event) → core ≡ seen → (opens e ≡ true → seen.table.begun < seen.ledger.cap) → opens e ≡ true → core.table.begun < core.ledger.cap
+opening_room core seen e same room opened = subst (λ (x : CoreParts). x.table.begun < x.ledger.cap) (sym same) (room opened)
 
 -- an opening is permitted where the worker has no row
-pub begins_idle : (core : CoreParts) (worker : ℕ) (ask : Ask) (decision : Decision) → decision ≡ core_decision core worker ask → (is_begin ask && is_permit decision) ≡ true → (is_begin ask && is_none (row_of core worker)) ≡ true
-begins_idle core worker ask decision decided h = go (row_of core worker) ask (ap (λ d. is_begin ask && is_permit d) (sym decided) ∙ h) where
+pub begins_idle : (core : CoreParts) (worker : ℕ) (ask : Ask) (e : Event) → e ≡ core_event core worker ask (core_decision core worker ask) → opens e ≡ true → (is_begin ask && is_none (row_of core worker)) ≡ true
+begins_idle core worker ask e is h = go (row_of core worker) ask (sym (ap opens is) ∙ h) where
   go : (o : Option SessionRow) (a : Ask) → (is_begin a && is_permit (worker_decision core.ledger core.table.begun o a)) ≡ true → (is_begin a && is_none o) ≡ true
   go None asks.Begin h = refl
   go (Some row) asks.Begin h = absurd cc

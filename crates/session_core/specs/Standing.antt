@@ -66,10 +66,9 @@ pub record IsSpendable (l : LedgerParts) (account password : ℕ) : Type 0 where
   pub left : 0 < (state_at l account).sequence
   pub room : l.spent < l.cap
 
--- an event may be settled in the accounts, and in the rows
-pub record FitsAccounts (l : LedgerParts) (table : TableParts) (e : Event) : Type 0 where
-  pub worker : e.worker < length table.rows
-  pub spends : (row : SessionRow) → row_at table e.worker ≡ Some row → accepts e ≡ true
+-- an event of a worker with this row may be settled in the accounts, and an event in the rows
+pub record FitsAccounts (l : LedgerParts) (own : Option SessionRow) (e : Event) : Type 0 where
+  pub spends : (row : SessionRow) → own ≡ Some row → accepts e ≡ true
       → IsSpendable l row.account (value_of e.decision)
 
 pub record FitsRows (table : TableParts) (e : Event) : Type 0 where

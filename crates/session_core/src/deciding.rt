@@ -5,12 +5,11 @@ ghost use Rattle.std.specs.List.{list_any};
 ghost use Rattle.std.specs.Option.{option_copied};
 ghost use Rattle.session_core.specs.Deciding.{account_at, challenge_by, idle_worker_decision, info_by, kind_by};
 ghost use Rattle.session_core.specs.Deciding.{open_by, open_worker_decision, reply_by, sequence_at, worker_decision};
-ghost use Rattle.session_table.specs.Tables.{row_at};
 
 use otp_ledger::Ledger;
 use policy_model::{Ask, Decision, READ, Setup, WRITE};
 use request_catalogue::{Label, Name, rules};
-use session_table::{SessionRow, Table};
+use session_table::SessionRow;
 
 /// The number of the account that a session is challenged for, none for a decoy.
 fn account_at(ledger: &Ledger, row: &SessionRow) -> Option<u32>
@@ -134,19 +133,19 @@ fn judge_idle_worker(begun: u32, ask: &Ask) -> Decision
     }
 }
 
-/// What is decided on an ask of a worker, where the account of some number stands in for a decoy.
+/// What is decided on an ask of the worker of this row, where so many sessions were opened, and the account of
+/// some number stands in for a decoy.
 pub(crate) fn judge(
     ledger: &Ledger,
-    table: &Table,
-    worker: u32,
+    row: Option<&SessionRow>,
+    begun: u32,
     stand_in: u64,
     ask: &Ask,
 ) -> Decision
-    requires { worker < length table.now.rows }
-    ensures { result ≡ worker_decision ledger.now table.now.begun (row_at table.now worker) ask.now }
+    ensures { result ≡ worker_decision ledger.now begun (option_copied row.entry) ask.now }
 {
-    match table.row(worker) {
-        None => judge_idle_worker(table.begun(), ask),
+    match row {
+        None => judge_idle_worker(begun, ask),
         Some(row) => judge_open_worker(ledger, row, stand_in, ask),
     }
 }

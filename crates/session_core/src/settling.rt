@@ -9,6 +9,7 @@ ghost use Rattle.session_core.specs.Settling.{table_next};
 ghost use Rattle.session_core.specs.Standing.{FitsAccounts, FitsRows, IsSpendable};
 ghost use Rattle.session_laws.specs.Judged.{event_session};
 ghost use Rattle.session_table.specs.Standing.{grant_number, grants_at};
+ghost use Rattle.std.specs.Option.{option_copied};
 ghost use Rattle.session_table.specs.Tables.{row_at};
 
 use crate::reading::{closes, is_challenged};
@@ -17,12 +18,11 @@ use policy_model::{Ask, DECOYS_FROM, Decision, Event, Grants, Setup};
 use request_catalogue::Label;
 use session_table::{SessionRow, Table, find_grant, is_use};
 
-/// The session that a worker has, 0 where it has none.
-pub(crate) fn session_of(table: &Table, worker: u32) -> u32
-    requires { worker < length table.now.rows }
-    ensures { result ≡ session_at (row_at table.now worker) }
+/// The session of a worker's row, 0 where it has none.
+pub(crate) fn session_of(row: Option<&SessionRow>) -> u32
+    ensures { result ≡ session_at (option_copied row.entry) }
 {
-    match table.row(worker) {
+    match row {
         None => 0,
         Some(row) => row.session,
     }
@@ -95,12 +95,11 @@ fn grant_in(setup: &Setup, row: &SessionRow, event: &Event) -> u32
     }
 }
 
-/// The grant that an OPEN of the event's worker is for.
-fn grant_for(setup: &Setup, table: &Table, event: &Event) -> u32
-    requires { event.now.worker < length table.now.rows }
-    ensures { result ≡ grant_for setup.now (row_at table.now event.now.worker) event.now }
+/// The grant that an OPEN of the worker of this row is for.
+fn grant_for(setup: &Setup, row: Option<&SessionRow>, event: &Event) -> u32
+    ensures { result ≡ grant_for setup.now (option_copied row.entry) event.now }
 {
-    match table.row(event.worker) {
+    match row {
         None => 0,
         Some(row) => grant_in(setup, row, event),
     }
@@ -155,13 +154,14 @@ fn settle_session(ledger: &mut Ledger, row: &SessionRow, event: &Event, number: 
     }
 }
 
-/// What an event makes of the accounts, where its CHALLENGE is for the account of this number.
-fn settle_accounts(ledger: &mut Ledger, table: &Table, event: &Event, number: u32)
-    requires fits { FitsAccounts ledger.old table.now event.now }
+/// What an event of the worker of this row makes of the accounts, where its CHALLENGE is for the account of this
+/// number.
+fn settle_accounts(ledger: &mut Ledger, row: Option<&SessionRow>, event: &Event, number: u32)
+    requires fits { FitsAccounts ledger.old (option_copied row) event.now }
     requires number { number ≡ number_for ledger.old event.now }
-    ensures { ledger.new ≡ ledger_after ledger.old (row_at table.now event.now.worker) event.now }
+    ensures { ledger.new ≡ ledger_after ledger.old (option_copied row.entry) event.now }
 {
-    if let Some(row) = table.row(event.worker) {
+    if let Some(row) = row {
         settle_session(ledger, row, event, number);
     }
 }
@@ -185,38 +185,24 @@ fn settle_rows(table: &mut Table, event: &Event, number: u32, grant: u32)
 /// its words in registers.
 #[inline(never)]
 fn settle_each(ledger: &mut Ledger, table: &mut Table, event: &Event)
-    requires accounts { FitsAccounts ledger.old table.old event.now }
+    requires accounts { FitsAccounts ledger.old (row_at table.old event.now.worker) event.now }
     requires rows { FitsRows table.old event.now }
     ensures accounts { ledger.new ≡ ledger_after ledger.old (row_at table.old event.now.worker) event.now }
     ensures rows { table.new ≡ table_next table.old event.now (number_for ledger.old event.now)
         (grant_for ledger.old.setup (row_at table.old event.now.worker) event.now) }
 {
     let number = number_for(ledger, event);
-    let grant = grant_for(ledger.setup(), table, event);
-    settle_accounts(ledger, table, event, number);
+    let row = table.row(event.worker);
+    let grant = grant_for(ledger.setup(), row, event);
+    settle_accounts(ledger, row, event, number);
     settle_rows(table, event, number, grant);
 }
 
-/// An event once more, from its ask. Of an event that is only made anew single words are read, and so it
-/// never lies in memory whole.
-pub(crate) fn event_again(event: &Event, ask: &Ask) -> Event
-    requires { ask.now ≡ event.now.ask }
-    ensures { result ≡ event.now }
-{
-    Event {
-        worker: event.worker,
-        session: event.session,
-        ask: *ask,
-        decision: event.decision,
-    }
-}
-
-/// What an event of this ask makes of the accounts and the rows. Most are a READ or WRITE, which changes
-/// a few words of one row.
-pub(crate) fn settle(ledger: &mut Ledger, table: &mut Table, ask: &Ask, event: &Event)
-    requires accounts { FitsAccounts ledger.old table.old event.now }
+/// What an event makes of the accounts and the rows. Most are a READ or WRITE, which changes a few words of one
+/// row. The others are copied first: of an event that no call is given the address of, single words are read.
+pub(crate) fn settle(ledger: &mut Ledger, table: &mut Table, event: &Event)
+    requires accounts { FitsAccounts ledger.old (row_at table.old event.now.worker) event.now }
     requires rows { FitsRows table.old event.now }
-    requires ask { ask.now ≡ event.now.ask }
     ensures accounts { ledger.new ≡ ledger_after ledger.old (row_at table.old event.now.worker) event.now }
     ensures rows { table.new ≡ table_next table.old event.now (number_for ledger.old event.now)
         (grant_for ledger.old.setup (row_at table.old event.now.worker) event.now) }
@@ -224,6 +210,7 @@ pub(crate) fn settle(ledger: &mut Ledger, table: &mut Table, ask: &Ask, event: &
     if is_use(event) {
         table.advance_use(event.worker, event);
     } else {
-        settle_each(ledger, table, &event_again(event, ask));
+        let copy = *event;
+        settle_each(ledger, table, &copy);
     }
 }

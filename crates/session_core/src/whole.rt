@@ -2,20 +2,19 @@
 
 ghost use Rattle.std.specs.Prelude.{◌≡◌, ◌<◌, ◌-◌, ◌^◌, ◌+◌, ◌++◌, ◌∷◌, ◌&&◌, [], List, IfOk, is_none};
 ghost use Rattle.policy_model.specs.declared.event.Event.{Event};
-ghost use Rattle.policy_model.specs.Asks.{is_begin, is_permit};
+ghost use Rattle.policy_model.specs.Asks.{is_begin, opens};
 ghost use Rattle.policy_model.specs.Journal.{open_session_of};
 ghost use Rattle.policy_model.specs.Legal.{next_event};
-ghost use Rattle.policy_model.specs.Verdict.{verdict_of};
 ghost use Rattle.session_core.specs.Deciding.{core_decision};
 ghost use Rattle.session_core.specs.Parts.{row_of};
 ghost use Rattle.session_core.specs.Settling.{core_event};
 ghost use Rattle.session_core.specs.Standing.{HasRoom, KeepsSetup, Stands};
 
 use crate::deciding::judge;
-use crate::settling::{event_again, session_for, session_of, settle};
+use crate::settling::{session_for, session_of, settle};
 use crate::stand_ins::StandIns;
 use otp_ledger::Ledger;
-use policy_model::{Ask, Decision, Event, Setup, Step};
+use policy_model::{Ask, Event, Setup, Step};
 use session_table::Table;
 use std::alloc::{AllocError, Global};
 use std::marker::Model;
@@ -65,25 +64,19 @@ impl Core {
         })
     }
 
-    /// What the accounts and the rows decide.
-    fn judge(&self, worker: u32, ask: &Ask) -> Decision
-        requires { worker < self.now.ledger.setup.workers }
-        ensures { result ≡ core_decision self.now worker ask.now }
-    {
-        let stand_in = self.stand_ins.of(worker);
-        judge(&self.ledger, &self.table, worker, stand_in, ask)
-    }
-
-    /// The event of an ask with its decision.
-    fn event_of(&self, worker: u32, ask: &Ask, decision: Decision) -> Event
+    /// The event of an ask with what the accounts and the rows decide.
+    fn event(&self, worker: u32, ask: &Ask) -> Event
         requires worker { worker < self.now.ledger.setup.workers }
         requires few { self.now.settled < 2 ^ 32 - 1 }
-        ensures { result ≡ core_event self.now worker ask.now decision }
+        ensures { result ≡ core_event self.now worker ask.now (core_decision self.now worker ask.now) }
     {
-        let session = session_of(&self.table, worker);
+        let row = self.table.row(worker);
+        let begun = self.table.begun();
+        let stand_in = self.stand_ins.of(worker);
+        let decision = judge(&self.ledger, row, begun, stand_in, ask);
         Event {
             worker,
-            session: session_for(self.table.begun(), session, ask, &decision),
+            session: session_for(begun, session_of(row), ask, &decision),
             ask: *ask,
             decision,
         }
@@ -94,7 +87,7 @@ impl Core {
         requires worker { worker < self.now.ledger.setup.workers }
         ensures session { (journal : List Event) → Stands self.now journal → result ≡ open_session_of journal worker }
     {
-        session_of(&self.table, worker)
+        session_of(self.table.row(worker))
     }
 
     /// What the policy knows of the accounts.
@@ -104,35 +97,34 @@ impl Core {
         &self.ledger
     }
 
-    /// The verdict on an ask of a worker, over the events settled so far. It is never `Lost`.
-    pub fn decide(&self, worker: u32, ask: &Ask) -> Decision
+    /// The event of an ask of a worker, over the events settled so far: its decision is the verdict, and never
+    /// `Lost`.
+    pub fn next_event(&self, worker: u32, ask: &Ask) -> Event
         requires worker { worker < self.now.ledger.setup.workers }
-        ensures verdict { (journal : List Event) → Stands self.now journal → result ≡ verdict_of self.now.ledger.setup
+        requires few { self.now.settled < 2 ^ 32 - 1 }
+        ensures { (journal : List Event) → Stands self.now journal → result ≡ next_event self.now.ledger.setup
             journal worker ask.now }
     {
-        self.judge(worker, ask)
+        self.event(worker, ask)
     }
 
-    /// Makes the event of an ask with what `decide` answered, and settles it: later decisions take it into
-    /// account. A permitted opening has to be within the sessions that may be opened.
-    pub fn settle(&mut self, worker: u32, ask: &Ask, decision: Decision) -> Event
-        requires worker { worker < self.old.ledger.setup.workers }
-        requires decided { (journal : List Event) → Stands self.old journal
-            → decision ≡ verdict_of self.old.ledger.setup journal worker ask.now }
-        requires room { HasRoom self.old (is_begin ask.now && is_permit decision) }
+    /// Settles the next event of a worker: later decisions take it into account. A permitted opening has to be
+    /// within the sessions that may be opened.
+    pub fn settle(&mut self, event: &Event)
+        requires worker { event.now.worker < self.old.ledger.setup.workers }
+        requires next { (journal : List Event) → Stands self.old journal
+            → event.now ≡ next_event self.old.ledger.setup journal event.now.worker event.now.ask }
+        requires room { HasRoom self.old (opens event.now) }
         ensures kept { KeepsSetup self.old self.new }
-        ensures event { (journal : List Event) → Stands self.old journal → result ≡ next_event self.old.ledger.setup
-            journal worker ask.now }
-        ensures stands { (journal : List Event) → Stands self.old journal → Stands self.new (journal ++ result ∷ []) }
+        ensures stands { (journal : List Event) → Stands self.old journal
+            → Stands self.new (journal ++ event.now ∷ []) }
     {
-        let event = self.event_of(worker, ask, decision);
-        settle(&mut self.ledger, &mut self.table, ask, &event);
+        settle(&mut self.ledger, &mut self.table, event);
         self.settled += 1;
-        self.stand_ins.keep(worker, ask);
-        event_again(&event, ask)
+        self.stand_ins.keep(event.worker, &event.ask);
     }
 
-    /// Decides and settles an ask.
+    /// Makes the next event of a step, and settles it.
     pub fn step(&mut self, step: &Step) -> Event
         requires worker { step.now.worker < self.old.ledger.setup.workers }
         requires room { HasRoom self.old (is_begin step.now.ask && is_none (row_of self.old step.now.worker)) }
@@ -141,7 +133,8 @@ impl Core {
             journal step.now.worker step.now.ask }
         ensures stands { (journal : List Event) → Stands self.old journal → Stands self.new (journal ++ result ∷ []) }
     {
-        let decision = self.judge(step.worker, &step.ask);
-        self.settle(step.worker, &step.ask, decision)
+        let event = self.event(step.worker, &step.ask);
+        self.settle(&event);
+        event
     }
 }
