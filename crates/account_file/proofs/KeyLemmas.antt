@@ -4,7 +4,7 @@ use Rattle.std.specs.Bool.{then_some}
 use Rattle.std.specs.List.{list_all, list_any}
 use Rattle.std.specs.Str.{bytes_eq}
 use Rattle.std.specs.Map.{keys_of as entry_keys}
-use Rattle.toml.specs.Data.{Data, Items, as_array}
+use Rattle.toml.specs.Data.{Data, Items, as_array, as_str}
 use Rattle.std.specs.Prelude.{nat_le, length, ◌≤◌, ◌<◌, ◌==◌}
 use Rattle.std.proofs.lemmas.Bool.Decides.{nat_tests}
 use Rattle.std.proofs.lemmas.List.{length-map}
@@ -15,21 +15,17 @@ use Rattle.account_file.specs.declared.fault.SetupRule.TheVariants as rules
 use Rattle.account_file.specs.declared.fault.Spot.{Spot}
 use Rattle.account_file.specs.declared.fault.SetupFault.{SetupFault}
 use Rattle.account_file.specs.Accounts.{untaken}
-use Rattle.account_file.specs.Faults.{spot_fault, demand_at}
-use Rattle.account_file.specs.Keys.{read_string, read_spelled, passed, read_number}
+use Rattle.account_file.specs.Faults.{demand_at}
+use Rattle.account_file.specs.Keys.{passed, read_as, read_number, read_spelled}
 use Rattle.account_file.specs.Levels.{keys_at}
-use Rattle.account_file.specs.Trees.{data_of, read_items, are_known}
+use Rattle.account_file.specs.Spots.{read_items, spot_fault}
+use Rattle.account_file.specs.Trees.{are_known, data_of}
 use Rattle.account_file.specs.declared.known.Level.{Level}
 
 -- some value of other values
 pub list_any-map : {X Y : Type 0} (p : X → Bool) (f : Y → X) (ys : List Y) → list_any p (map f ys) ≡ list_any (λ y. p (f y)) ys
 list_any-map p f [] = refl
 list_any-map p f (y ∷ ys) = rw (list_any-map p f ys) refl
-
--- the images of images
-pub map_map : {X Y Z : Type 0} (f : Y → Z) (g : X → Y) (xs : List X) → map f (map g xs) ≡ map (λ x. f (g x)) xs
-map_map f g [] = refl
-map_map {X} {Y} {Z} f g (x ∷ xs) = ap (λ (zs : List Z). f (g x) ∷ zs) (map_map f g xs)
 
 -- a key of a map has a meaning
 abbrev pub is_known_at : Level → String Global → Bool
@@ -41,11 +37,11 @@ keys_known known [] = refl
 keys_known known (e ∷ es) = rw (keys_known known es) refl
 
 -- a string that passes a test, beside others that may have it
-pub new_string_read : {E G : Type 0} (spot : Spot) (test : List ℕ → Bool) (f : E → List ℕ) (entry : G → E) (others : List G) (value : Option Data) (text bytes name : List ℕ) (taken : Bool) → read_string spot value ≡ Ok text → bytes ≡ text → name ≡ bytes → true ≡ test bytes → taken ≡ list_any (λ g. bytes_eq (f (entry g)) name) others → untaken spot (λ n. list_any (λ e. bytes_eq (f e) n) (map entry others)) (read_spelled spot (passed test) value) ≡ demand_at spot rules.Twice (then_some (not taken) name)
+pub new_string_read : {E G : Type 0} (spot : Spot) (test : List ℕ → Bool) (f : E → List ℕ) (entry : G → E) (others : List G) (value : Option Data) (text bytes name : List ℕ) (taken : Bool) → read_as spot.account spot.key as_str value ≡ Ok text → bytes ≡ text → name ≡ bytes → true ≡ test bytes → taken ≡ list_any (λ g. bytes_eq (f (entry g)) name) others → untaken spot.account spot.key (λ n. list_any (λ e. bytes_eq (f e) n) (map entry others)) (read_spelled spot.account spot.key (passed test) value) ≡ demand_at spot.account spot.key rules.Twice (then_some (not taken) name)
 new_string_read {E} spot test f entry others value text bytes name taken read cut same legal among =
     let passes : test name ≡ true = ap test same ∙ sym legal in
     let any : list_any (λ (e : E). bytes_eq (f e) name) (map entry others) ≡ taken = list_any-map (λ (e : E). bytes_eq (f e) name) entry others ∙ sym among in
-    ap (λ (r : Result (List ℕ) SetupFault). untaken spot (λ n. list_any (λ (e : E). bytes_eq (f e) n) (map entry others)) (r >>= (λ b. demand_at spot rules.Text (passed test b)))) (read ∙ ap (λ (b : List ℕ). Ok b) (sym (same ∙ cut)))
+    ap (λ (r : Result (List ℕ) SetupFault). untaken spot.account spot.key (λ n. list_any (λ (e : E). bytes_eq (f e) n) (map entry others)) (r >>= (λ b. demand_at spot.account spot.key rules.Text (passed test b)))) (read ∙ ap (λ (b : List ℕ). Ok b) (sym (same ∙ cut)))
     ∙ rw (passes, any) refl
 
 -- the items of an array that is kept, as a list
@@ -54,11 +50,11 @@ data_of-view [] = refl
 data_of-view (v ∷ vs) = ap (λ (ds : List Data). view v ∷ ds) (data_of-view vs)
 
 -- the items of an array, by how many they are
-items_by : (spot : Spot) (most : ℕ) (d : Data) (vs : List Value) → Some (items_view vs) ≡ as_array d → read_items spot most d ≡ demand_at spot rules.Range (then_some (nat_le (length vs) most) (map view vs))
+items_by : (spot : Spot) (most : ℕ) (d : Data) (vs : List Value) → Some (items_view vs) ≡ as_array d → read_items spot most d ≡ demand_at spot.account spot.key rules.Range (then_some (nat_le (length vs) most) (map view vs))
 items_by spot most d vs e =
-    ap (λ (o : Option Items). demand_at spot rules.Kind o >>= (λ items. demand_at spot rules.Range (then_some (nat_le (length (data_of items)) most) (data_of items)))) (sym e)
-    ∙ ap (λ (ds : List Data). demand_at spot rules.Range (then_some (nat_le (length ds) most) ds)) (data_of-view vs)
-    ∙ ap (λ (n : ℕ). demand_at spot rules.Range (then_some (nat_le n most) (map view vs))) (length-map vs view)
+    ap (λ (o : Option Items). demand_at spot.account spot.key rules.Kind o >>= (λ items. demand_at spot.account spot.key rules.Range (then_some (nat_le (length (data_of items)) most) (data_of items)))) (sym e)
+    ∙ ap (λ (ds : List Data). demand_at spot.account spot.key rules.Range (then_some (nat_le (length ds) most) ds)) (data_of-view vs)
+    ∙ ap (λ (n : ℕ). demand_at spot.account spot.key rules.Range (then_some (nat_le n most) (map view vs))) (length-map vs view)
 
 -- the items of an array of so many
 pub items_few : (spot : Spot) (most : ℕ) (d : Data) (vs : List Value) → Some (items_view vs) ≡ as_array d → length vs ≤ most → read_items spot most d ≡ Ok (map view vs)
@@ -73,8 +69,8 @@ items_many spot most d vs e many =
     items_by spot most d vs e ∙ rw test refl
 
 -- a user number, beside others that may have it
-pub uid_read : {E G : Type 0} (spot : Spot) (f : E → ℕ) (entry : G → E) (others : List G) (value : Option Data) (uid : ℕ) (taken : Bool) → read_number spot 1 4294967294 value ≡ Ok uid → taken ≡ list_any (λ g. f (entry g) == uid) others → untaken spot (λ n. list_any (λ e. f e == n) (map entry others)) (read_number spot 1 4294967294 value) ≡ demand_at spot rules.Twice (then_some (not taken) uid)
+pub uid_read : {E G : Type 0} (spot : Spot) (f : E → ℕ) (entry : G → E) (others : List G) (value : Option Data) (uid : ℕ) (taken : Bool) → read_number spot.account spot.key 1 4294967294 value ≡ Ok uid → taken ≡ list_any (λ g. f (entry g) == uid) others → untaken spot.account spot.key (λ n. list_any (λ e. f e == n) (map entry others)) (read_number spot.account spot.key 1 4294967294 value) ≡ demand_at spot.account spot.key rules.Twice (then_some (not taken) uid)
 uid_read {E} spot f entry others value uid taken read among =
     let any : list_any (λ (e : E). f e == uid) (map entry others) ≡ taken = list_any-map (λ (e : E). f e == uid) entry others ∙ sym among in
-    ap (untaken spot (λ n. list_any (λ (e : E). f e == n) (map entry others))) read
-    ∙ ap (λ (t : Bool). demand_at spot rules.Twice (then_some (not t) uid)) any
+    ap (untaken spot.account spot.key (λ n. list_any (λ (e : E). f e == n) (map entry others))) read
+    ∙ ap (λ (t : Bool). demand_at spot.account spot.key rules.Twice (then_some (not t) uid)) any

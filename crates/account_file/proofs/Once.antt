@@ -1,11 +1,12 @@
 -- A file spells one setup: what a file says of two setups is the same only where they are the same.
-use Rattle.std.proofs.Common.{◌≡◌, List, [], ◌∷◌, map, refl, ap}
+use Rattle.std.proofs.Common.{◌≡◌, ℕ, List, [], ◌∷◌, map, refl, ap}
 use Rattle.request_catalogue.proofs.TextLemmas.{same_from_label_bytes, same_from_name_bytes}
 use Rattle.otp_hash.proofs.SeedLemmas.{same_from_seed_bytes}
 use Rattle.policy_model.specs.declared.account.Account.{Account}
 use Rattle.policy_model.specs.declared.account.Grant.{Grant}
 use Rattle.policy_model.specs.Settings.{Settings}
-use Rattle.account_file.specs.Entries.{AccountEntry, GrantEntry, SetupEntries, account_entry, entries_of, grant_entry}
+use Rattle.account_file.specs.Entries.{AccountEntry, SetupEntries, account_entry, entries_of}
+use Rattle.account_file.specs.Texts.{grant_entry}
 
 map_once : {A B : Type 0} (f : A → B) → ((a b : A) → f a ≡ f b → a ≡ b) → (xs ys : List A) → map f xs ≡ map f ys → xs ≡ ys
 map_once f once [] [] e = refl
@@ -20,8 +21,8 @@ map_once f once (x ∷ xs) (y ∷ ys) e =
 
 grant_once : (a b : Grant) → grant_entry a ≡ grant_entry b → a ≡ b
 grant_once a b e =
-    let name = same_from_label_bytes a.name b.name (ap (λ (g : GrantEntry). g.name) e) in
-    let mode = ap (λ (g : GrantEntry). g.mode) e in
+    let name = same_from_label_bytes a.name b.name (ap (λ (g : List ℕ × ℕ). g.0) e) in
+    let mode = ap (λ (g : List ℕ × ℕ). g.1) e in
     λ i. record { name = name i; mode = mode i }
 
 account_once : (a b : Account) → account_entry a ≡ account_entry b → a ≡ b

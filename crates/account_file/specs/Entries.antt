@@ -5,16 +5,10 @@ use Rattle.otp_hash.specs.declared.chain.Algo.{Algo}
 use Rattle.otp_hash.specs.SeedBytes.{seed_bytes}
 use Rattle.request_catalogue.specs.declared.width.Width.{Width}
 use Rattle.request_catalogue.specs.TextBytes.{name_bytes, label_bytes}
-use Rattle.policy_model.specs.declared.account.Grant.{Grant}
 use Rattle.policy_model.specs.declared.account.Account.{Account}
 use Rattle.policy_model.specs.Settings.{Settings}
 
--- all that a setup file says of one grant: a file's label and a mode
-pub record GrantEntry : Type 0 where
-  pub name : List ℕ
-  pub mode : ℕ
-
--- all that a setup file says of one account
+-- all that a setup file says of one account, with a file's label and a mode for each grant
 pub record AccountEntry : Type 0 where
   pub name : List ℕ
   pub uid : ℕ
@@ -23,7 +17,7 @@ pub record AccountEntry : Type 0 where
   pub sequence : ℕ
   pub password : ℕ
   pub enabled : Bool
-  pub grants : List GrantEntry
+  pub grants : List (List ℕ × ℕ)
 
 -- the five texts of a setup file
 pub record TextEntries : Type 0 where
@@ -42,10 +36,6 @@ pub record SetupEntries : Type 0 where
   pub info : List ℕ
   pub accounts : List AccountEntry
 
--- what a setup file says of this grant
-abbrev pub grant_entry : Grant → GrantEntry
-grant_entry g = record { name = label_bytes g.name; mode = g.mode }
-
 -- what a setup file says of this account
 abbrev pub account_entry : Account → AccountEntry
 account_entry a = record {
@@ -56,7 +46,7 @@ account_entry a = record {
   sequence = a.sequence;
   password = a.password;
   enabled = a.enabled;
-  grants = map grant_entry a.grants;
+  grants = map (λ g. (label_bytes g.name, g.mode)) a.grants;
 }
 
 -- what a setup file says of this setup

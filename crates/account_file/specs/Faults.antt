@@ -1,18 +1,14 @@
 -- Believed: values that are read, or the first fault.
-use Rattle.std.specs.Prelude.{◌≡◌, Option, Result, Ok, Err, ok_or}
+use Rattle.std.specs.Prelude.{◌≡◌, ℕ, Option, Result, Ok, Err, ok_or}
+use Rattle.account_file.specs.declared.fault.SetupKey.{SetupKey}
 use Rattle.account_file.specs.declared.fault.SetupRule.{SetupRule}
 use Rattle.account_file.specs.declared.fault.SetupFault.{SetupFault}
 use Rattle.account_file.specs.declared.fault.SetupError.{SetupError}
 use Rattle.account_file.specs.declared.fault.SetupError.TheVariants.{Refused, OutOfMemory}
-use Rattle.account_file.specs.declared.fault.Spot.{Spot}
 
--- the fault that the value at this key breaks this rule
-abbrev pub spot_fault : Spot → SetupRule → SetupFault
-spot_fault spot rule = record { key = spot.key; rule = rule; account = spot.account }
-
--- a value if it is there, otherwise the fault of this rule at this key
-abbrev pub demand_at : {A : Type 0} → Spot → SetupRule → Option A → Result A SetupFault
-demand_at spot rule there = ok_or there (spot_fault spot rule)
+-- a value if it is there, otherwise the fault of this rule at this key of an account, or of the setup itself at 0
+abbrev pub demand_at : {A : Type 0} → ℕ → SetupKey → SetupRule → Option A → Result A SetupFault
+demand_at account key rule there = ok_or there (record { key = key; rule = rule; account = account })
 
 -- a result is the value that a definition gives, seen by a view, or its fault
 abbrev pub Reads : {A B : Type 0} → (A → B) → Result A SetupFault → Result B SetupFault → Type 0

@@ -7,4 +7,5 @@ pub mod Levels
 pub mod Numbers
 pub mod Setups
 pub mod Spellings
+pub mod Spots
 pub mod Trees

@@ -1,5 +1,7 @@
--- Inner: what a setup file says of its texts.
-use Rattle.std.specs.Prelude.{Bool, ◌&&◌}
+-- Inner: what a setup file says of its texts, and of a grant.
+use Rattle.std.specs.Prelude.{ℕ, List, Bool, ◌&&◌}
+use Rattle.policy_model.specs.declared.account.Grant.{Grant}
+use Rattle.request_catalogue.specs.TextBytes.{label_bytes}
 use Rattle.request_catalogue.specs.Texts.{is_text}
 use Rattle.account_file.specs.declared.settings.Texts.{Texts}
 use Rattle.account_file.specs.Entries.{TextEntries}
@@ -20,3 +22,7 @@ abbrev pub are_legal : Texts → Bool
 are_legal t =
     is_text 1 100 t.socket.now && is_text 1 255 t.launcher.now && is_text 1 255 t.vault.now && is_text 1 255 t.words.now
     && is_text 0 200 t.banner.now
+
+-- what a file says of this grant
+abbrev pub grant_entry : Grant → List ℕ × ℕ
+grant_entry g = (label_bytes g.name, g.mode)

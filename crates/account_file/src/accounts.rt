@@ -6,15 +6,14 @@ ghost use Rattle.std.specs.Str.{bytes_eq};
 ghost use Rattle.request_catalogue.specs.Texts.{is_name};
 ghost use Rattle.request_catalogue.specs.TextBytes.{name_bytes};
 ghost use Rattle.policy_model.specs.Settings.{is_account, are_accounts, are_distinct, same_name};
-ghost use Rattle.toml.specs.Data.{get_member};
+ghost use Rattle.toml.specs.Data.{array, get_member, no_items, table as table_data};
 ghost use Rattle.toml.specs.View.{view, table_view};
 ghost use Rattle.account_file.specs.declared.fault.SetupKey.TheVariants as setup_keys;
-ghost use Rattle.account_file.specs.Accounts.{untaken, read_account_keys, read_account, next_account};
+ghost use Rattle.account_file.specs.Accounts.{account_keys, next_account, read_account, untaken};
 ghost use Rattle.account_file.specs.Entries.{account_entry};
 ghost use Rattle.account_file.specs.Faults.{Reads, Answers};
-ghost use Rattle.account_file.specs.Keys.{read_spelled, passed, read_number};
-ghost use Rattle.account_file.specs.Setups.{top};
-ghost use Rattle.account_file.specs.Trees.{read_behind, read_each};
+ghost use Rattle.account_file.specs.Keys.{member_or, passed, read_number, read_spelled};
+ghost use Rattle.account_file.specs.Trees.{are_known, read_behind, read_each};
 
 use crate::fault::{SetupError, SetupFault, SetupKey, SetupRule, Spot};
 use crate::grants::read_grants;
@@ -32,8 +31,8 @@ const ACCOUNTS_MAX: usize = 1_024;
 
 /// The accounts of a setup, none where the key isn't there.
 pub fn read_accounts(alloc: Global, table: &Table) -> Result<Accounts, SetupError>
-    ensures read { Answers (map account_entry) result (read_each (top setup_keys.Account) 1024 next_account
-        (get_member (codes "account") (table_view table.now))) }
+    ensures read { Answers (map account_entry) result (read_each 0 setup_keys.Account 1024 next_account
+        (member_or (array no_items) (codes "account") (table_view table.now))) }
     ensures in_range { IfOk result (λ a. are_accounts a ≡ true) }
 {
     let Some(value) = entry(table, "account") else {
@@ -68,8 +67,7 @@ fn read_account(
     place: u32,
     earlier: &[Account],
 ) -> Result<Account, SetupError>
-    ensures read { Answers account_entry result (read_account place (map (λ a. name_bytes a.name) earlier.now)
-        (map (λ a. a.uid) earlier.now) (view item.now)) }
+    ensures read { Answers account_entry result (read_account place (map account_entry earlier.now) (view item.now)) }
     ensures new_name { IfOk result (λ a. list_any (λ e. same_name e.name a.name) earlier.now ≡ false) }
     ensures new_uid { IfOk result (λ a. list_any (λ e. e.uid == a.uid) earlier.now ≡ false) }
     ensures legal { IfOk result (λ a. is_account a ≡ true) }
@@ -94,8 +92,9 @@ fn keys_of(
     place: u32,
     earlier: &[Account],
 ) -> Result<Account, SetupError>
-    ensures read { Answers account_entry result (read_account_keys place (map (λ a. name_bytes a.name) earlier.now)
-        (map (λ a. a.uid) earlier.now) (table_view table.now)) }
+    ensures read { are_known account_keys (table_view table.now) ≡ true
+        → Answers account_entry result (read_account place (map account_entry earlier.now)
+        (table_data (table_view table.now))) }
     ensures new_name { IfOk result (λ a. list_any (λ e. same_name e.name a.name) earlier.now ≡ false) }
     ensures new_uid { IfOk result (λ a. list_any (λ e. e.uid == a.uid) earlier.now ≡ false) }
     ensures legal { IfOk result (λ a. is_account a ≡ true) }
@@ -129,8 +128,9 @@ fn keys_of(
 /// The name of an account, which none of the others has.
 fn name_of(table: &Table, spot: Spot, others: &[Account]) -> Result<Name, SetupFault>
     ensures read { Reads name_bytes result
-        (untaken spot (λ name. list_any (λ other. bytes_eq other name) (map (λ a. name_bytes a.name) others.now))
-        (read_spelled spot (passed is_name) (get_member (codes "name") (table_view table.now)))) }
+        (untaken spot.account spot.key
+        (λ name. list_any (λ other. bytes_eq other.name name) (map account_entry others.now))
+        (read_spelled spot.account spot.key (passed is_name) (get_member (codes "name") (table_view table.now)))) }
     ensures new { IfOk result (λ n. list_any (λ e. same_name e.name n) others.now ≡ false) }
 {
     let text = read_string(table, "name", spot)?;
@@ -146,8 +146,8 @@ fn name_of(table: &Table, spot: Spot, others: &[Account]) -> Result<Name, SetupF
 /// The user number of an account, which none of the others has.
 fn read_uid(table: &Table, spot: Spot, others: &[Account]) -> Result<u32, SetupFault>
     ensures read { Reads (λ n. n) result
-        (untaken spot (λ uid. list_any (λ other. other == uid) (map (λ a. a.uid) others.now))
-        (read_number spot 1 4294967294 (get_member (codes "uid") (table_view table.now)))) }
+        (untaken spot.account spot.key (λ uid. list_any (λ other. other.uid == uid) (map account_entry others.now))
+        (read_number spot.account spot.key 1 4294967294 (get_member (codes "uid") (table_view table.now)))) }
     ensures new { IfOk result (λ n. list_any (λ e. e.uid == n) others.now ≡ false) }
     ensures within { IfOk result (λ n. (1 ≤ n) × (n ≤ 4294967294)) }
 {

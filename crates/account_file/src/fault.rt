@@ -2,7 +2,7 @@
 
 ghost use Rattle.std.specs.Prelude.{◌≡◌};
 ghost use Rattle.account_file.specs.declared.fault.SetupError.TheVariants.{Refused, OutOfMemory};
-ghost use Rattle.account_file.specs.Faults.{spot_fault};
+ghost use Rattle.account_file.specs.Spots.{spot_fault};
 
 use std::alloc::{AllocError, AllocFailed};
 

@@ -6,13 +6,13 @@ ghost use Rattle.std.specs.Str.{bytes_eq};
 ghost use Rattle.request_catalogue.specs.Texts.{is_label};
 ghost use Rattle.request_catalogue.specs.TextBytes.{label_bytes};
 ghost use Rattle.policy_model.specs.Settings.{is_number, are_grants, are_distinct, same_label};
-ghost use Rattle.toml.specs.Data.{get_member};
+ghost use Rattle.toml.specs.Data.{array, get_member, no_items};
 ghost use Rattle.toml.specs.View.{view, table_view};
 ghost use Rattle.account_file.specs.declared.fault.SetupKey.TheVariants as setup_keys;
-ghost use Rattle.account_file.specs.Accounts.{spot_in, untaken, read_grant};
-ghost use Rattle.account_file.specs.Entries.{grant_entry};
+ghost use Rattle.account_file.specs.Accounts.{untaken, read_grant};
 ghost use Rattle.account_file.specs.Faults.{Reads, Answers};
-ghost use Rattle.account_file.specs.Keys.{read_spelled, passed};
+ghost use Rattle.account_file.specs.Keys.{member_or, passed, read_spelled};
+ghost use Rattle.account_file.specs.Texts.{grant_entry};
 ghost use Rattle.account_file.specs.Trees.{read_behind, read_each};
 
 use crate::fault::{SetupError, SetupFault, SetupKey, SetupRule, Spot};
@@ -28,8 +28,8 @@ const GRANTS_MAX: usize = 64;
 
 /// The grants of the account at a place from 1, none where the key isn't there.
 pub fn read_grants(alloc: Global, table: &Table, account: u32) -> Result<Grants, SetupError>
-    ensures read { Answers (map grant_entry) result (read_each (spot_in account setup_keys.Grants) 64
-        (read_grant account) (get_member (codes "grants") (table_view table.now))) }
+    ensures read { Answers (map grant_entry) result (read_each account setup_keys.Grants 64 (read_grant account)
+        (member_or (array no_items) (codes "grants") (table_view table.now))) }
     ensures in_range { IfOk result (λ g. are_grants g ≡ true) }
 {
     let Some(value) = entry(table, "grants") else {
@@ -79,8 +79,8 @@ fn read_grant(item: &Value, account: u32, earlier: &[Grant]) -> Result<Grant, Se
 /// The name of a grant, which none of the others has.
 fn label_of(table: &Table, spot: Spot, others: &[Grant]) -> Result<Label, SetupFault>
     ensures read { Reads label_bytes result
-        (untaken spot (λ name. list_any (λ other. bytes_eq other.name name) (map grant_entry others.now))
-        (read_spelled spot (passed is_label) (get_member (codes "name") (table_view table.now)))) }
+        (untaken spot.account spot.key (λ name. list_any (λ other. bytes_eq other.0 name) (map grant_entry others.now))
+        (read_spelled spot.account spot.key (passed is_label) (get_member (codes "name") (table_view table.now)))) }
     ensures new { IfOk result (λ l. list_any (λ e. bytes_eq (label_bytes e.name) (label_bytes l)) others.now ≡ false) }
 {
     let text = read_string(table, "name", spot)?;

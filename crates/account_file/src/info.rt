@@ -4,14 +4,14 @@ ghost use Rattle.std.specs.Prelude.{◌≡◌, ◌≤◌, IfOk, true, map, codes
 ghost use Rattle.std.specs.List.{list_all};
 ghost use Rattle.std.specs.Option.{is_some, option_and_then};
 ghost use Rattle.policy_model.specs.Settings.{are_numbers};
-ghost use Rattle.toml.specs.Data.{as_integer, get_member};
+ghost use Rattle.toml.specs.Data.{array, as_integer, no_items};
 ghost use Rattle.toml.specs.View.{view, table_view};
-ghost use Rattle.account_file.specs.Faults.{spot_fault, Answers};
+ghost use Rattle.account_file.specs.Faults.{Answers};
 ghost use Rattle.account_file.specs.declared.fault.SetupKey.TheVariants.{Info};
 ghost use Rattle.account_file.specs.declared.fault.SetupError.TheVariants.{Refused};
-ghost use Rattle.account_file.specs.Keys.{number_in};
-ghost use Rattle.account_file.specs.Numbers.{read_info};
-ghost use Rattle.account_file.specs.Setups.{top, all_some, info_items};
+ghost use Rattle.account_file.specs.Keys.{member_or, number_in};
+ghost use Rattle.account_file.specs.Numbers.{all_some, info_items};
+ghost use Rattle.account_file.specs.Setups.{read_info};
 
 use crate::fault::{SetupError, SetupKey, SetupRule, Spot};
 use crate::keys::{entry, number_in};
@@ -24,7 +24,8 @@ const INFO_MAX: usize = 32;
 
 /// The numbers of information, none where the key isn't there.
 pub fn read_info(alloc: Global, table: &Table) -> Result<Numbers, SetupError>
-    ensures read { Answers (λ n. n) result (read_info (get_member (codes "info") (table_view table.now))) }
+    ensures read { Answers (λ n. n) result (read_info
+        (member_or (array no_items) (codes "info") (table_view table.now))) }
     ensures in_range { IfOk result (λ n. are_numbers n ≡ true) }
 {
     let Some(value) = entry(table, "info") else {
@@ -58,7 +59,7 @@ fn info_items(alloc: Global, items: &[Value]) -> Result<Numbers, SetupError>
 
 /// The refusal by a rule that the numbers of information break.
 fn broken(rule: SetupRule) -> SetupError
-    ensures { result ≡ Refused (spot_fault (top Info) rule) }
+    ensures { result ≡ Refused (record { key = Info; rule = rule; account = 0 }) }
 {
     SetupError::Refused(Spot::new(SetupKey::Info, 0).breaks(rule))
 }

@@ -1,18 +1,16 @@
 //! Single keys of a table.
 
 ghost use Rattle.std.specs.Prelude.{◌≡◌, ℕ, ◌≤◌, ◌^◌, ◌<◌, Ok, IfOk, IfSome, option_map, map, length, true};
-ghost use Rattle.std.specs.Option.{option_map_or};
 ghost use Rattle.otp_hash.specs.Names.{algo_named};
 ghost use Rattle.otp_hash.specs.SeedBytes.{seed_bytes};
 ghost use Rattle.request_catalogue.specs.Texts.{is_text};
 ghost use Rattle.policy_model.specs.Settings.{is_number};
-ghost use Rattle.toml.specs.Data.{as_bool, get_member};
+ghost use Rattle.toml.specs.Data.{as_bool, as_str, boolean, get_member};
 ghost use Rattle.toml.specs.View.{view, table_view};
-ghost use Rattle.account_file.specs.declared.fault.SetupRule.TheVariants.{Kind};
-ghost use Rattle.account_file.specs.Faults.{demand_at, Reads};
-ghost use Rattle.account_file.specs.Keys.{read_string, read_spelled, passed, number_in, read_number, width_named};
-ghost use Rattle.account_file.specs.Keys.{seed_spelled, password_spelled};
-ghost use Rattle.account_file.specs.Trees.{read_items};
+ghost use Rattle.account_file.specs.Faults.{Reads};
+ghost use Rattle.account_file.specs.Keys.{member_or, number_in, passed, read_as, read_number, read_spelled};
+ghost use Rattle.account_file.specs.Keys.{password_spelled, seed_spelled, width_named};
+ghost use Rattle.account_file.specs.Spots.{read_items};
 
 use crate::fault::{SetupFault, SetupRule, Spot};
 use hex::FromHex;
@@ -30,7 +28,8 @@ pub fn entry<'a>(table: &'a Table, key: &str) -> Option<&'a Value>
 
 /// The string at a key that must be there.
 pub fn read_string<'a>(table: &'a Table, key: &str, spot: Spot) -> Result<&'a str, SetupFault>
-    ensures { Reads (λ s. s.now) result (read_string spot (get_member key.now (table_view table.now))) }
+    ensures { Reads (λ s. s.now) result (read_as spot.account spot.key as_str
+        (get_member key.now (table_view table.now))) }
 {
     let Some(value) = entry(table, key) else {
         return Err(spot.breaks(SetupRule::Missing));
@@ -49,7 +48,7 @@ pub fn read_text<'a>(
     low: usize,
     high: usize,
 ) -> Result<&'a str, SetupFault>
-    ensures read { Reads (λ s. s.now) result (read_spelled spot (passed (is_text low high))
+    ensures read { Reads (λ s. s.now) result (read_spelled spot.account spot.key (passed (is_text low high))
         (get_member key.now (table_view table.now))) }
     ensures legal { IfOk result (λ s. is_text low high s.now ≡ true) }
 {
@@ -69,7 +68,8 @@ pub fn read_number(
     low: u32,
     high: u32,
 ) -> Result<u32, SetupFault>
-    ensures read { Reads (λ n. n) result (read_number spot low high (get_member key.now (table_view table.now))) }
+    ensures read { Reads (λ n. n) result (read_number spot.account spot.key low high
+        (get_member key.now (table_view table.now))) }
     ensures within { IfOk result (λ n. (low ≤ n) × (n ≤ high)) }
 {
     let Some(value) = entry(table, key) else {
@@ -83,7 +83,8 @@ pub fn read_number(
 
 /// The algorithm at a key: `md5` or `sha1`.
 pub fn read_algo(table: &Table, key: &str, spot: Spot) -> Result<Algo, SetupFault>
-    ensures { Reads (λ a. a) result (read_spelled spot algo_named (get_member key.now (table_view table.now))) }
+    ensures { Reads (λ a. a) result (read_spelled spot.account spot.key algo_named
+        (get_member key.now (table_view table.now))) }
 {
     let text = read_string(table, key, spot)?;
     algo_named(text.as_bytes()).ok_or(spot.breaks(SetupRule::Text))
@@ -91,7 +92,8 @@ pub fn read_algo(table: &Table, key: &str, spot: Spot) -> Result<Algo, SetupFaul
 
 /// The width of frames at a key: `narrow` or `wide`.
 pub fn read_width(table: &Table, key: &str, spot: Spot) -> Result<Width, SetupFault>
-    ensures { Reads (λ w. w) result (read_spelled spot width_named (get_member key.now (table_view table.now))) }
+    ensures { Reads (λ w. w) result (read_spelled spot.account spot.key width_named
+        (get_member key.now (table_view table.now))) }
 {
     let text = read_string(table, key, spot)?;
     width_named(text.as_bytes()).ok_or(spot.breaks(SetupRule::Text))
@@ -99,7 +101,8 @@ pub fn read_width(table: &Table, key: &str, spot: Spot) -> Result<Width, SetupFa
 
 /// The seed at a key: 1 to 16 ASCII letters and digits, turned into lower case.
 pub fn read_seed(table: &Table, key: &str, spot: Spot) -> Result<Seed, SetupFault>
-    ensures { Reads seed_bytes result (read_spelled spot seed_spelled (get_member key.now (table_view table.now))) }
+    ensures { Reads seed_bytes result (read_spelled spot.account spot.key seed_spelled
+        (get_member key.now (table_view table.now))) }
 {
     let text = read_string(table, key, spot)?;
     Seed::of(text.as_bytes()).ok_or(spot.breaks(SetupRule::Text))
@@ -107,7 +110,8 @@ pub fn read_seed(table: &Table, key: &str, spot: Spot) -> Result<Seed, SetupFaul
 
 /// The password at a key: 16 hexadecimal digits, the most significant first.
 pub fn read_password(table: &Table, key: &str, spot: Spot) -> Result<u64, SetupFault>
-    ensures { Reads (λ n. n) result (read_spelled spot password_spelled (get_member key.now (table_view table.now))) }
+    ensures { Reads (λ n. n) result (read_spelled spot.account spot.key password_spelled
+        (get_member key.now (table_view table.now))) }
 {
     let text = read_string(table, key, spot)?;
     match <[u8; 8] as FromHex>::from_hex(text) {
@@ -118,8 +122,8 @@ pub fn read_password(table: &Table, key: &str, spot: Spot) -> Result<u64, SetupF
 
 /// The truth value at a key, true where it is not there.
 pub fn read_truth(table: &Table, key: &str, spot: Spot) -> Result<bool, SetupFault>
-    ensures { Reads (λ b. b) result (option_map_or (λ value. demand_at spot Kind (as_bool value))
-        (get_member key.now (table_view table.now)) (Ok true)) }
+    ensures { Reads (λ b. b) result (read_as spot.account spot.key as_bool
+        (member_or (boolean true) key.now (table_view table.now))) }
 {
     match entry(table, key) {
         None => Ok(true),

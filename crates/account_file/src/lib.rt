@@ -1,5 +1,6 @@
 //! The setup file: the setup that its bytes spell, or its first fault. Believe `specs/` but for
-//! `Texts.antt`, `Levels.antt` and `Numbers.antt`; the readers of a setup and the account writer stand above.
+//! `Texts.antt`, `Levels.antt`, `Numbers.antt` and `Spots.antt`; the readers of a setup and the account
+//! writer stand above.
 #![tactic(auto)]
 
 mod accounts;

@@ -7,7 +7,7 @@ ghost use Rattle.account_file.specs.declared.fault.SetupKey.TheVariants.{File};
 ghost use Rattle.account_file.specs.declared.fault.SetupRule.TheVariants.{NotToml};
 ghost use Rattle.account_file.specs.Entries.{entries_of};
 ghost use Rattle.account_file.specs.Faults.{Answers, demand_at};
-ghost use Rattle.account_file.specs.Setups.{top, document_of, read_settings, setup_of};
+ghost use Rattle.account_file.specs.Setups.{document_of, read_settings, setup_of};
 
 use crate::accounts::read_accounts;
 use crate::fault::{SetupError, SetupKey, SetupRule, Spot};
@@ -33,7 +33,7 @@ pub fn read_setup(alloc: Global, bytes: &[u8]) -> Result<Setup, SetupError>
 
 /// The table of a TOML document.
 fn document_of(alloc: Global, bytes: &[u8]) -> Result<Table, SetupError>
-    ensures { Answers table_view result (demand_at (top File) NotToml (document_of bytes.now)) }
+    ensures { Answers table_view result (demand_at 0 File NotToml (document_of bytes.now)) }
 {
     let fault = Spot::new(SetupKey::File, 0).breaks(SetupRule::NotToml);
     let Ok(text) = std::str::from_utf8(bytes) else {

@@ -2,18 +2,16 @@
 
 ghost use Rattle.std.specs.Prelude.{◌≡◌, ◌≤◌, ◌+◌, ◌*◌, [], Some, Ok, IfOk, true, codes, nat_le};
 ghost use Rattle.std.specs.Bool.{then_some};
-ghost use Rattle.std.specs.Option.{option_map_or};
 ghost use Rattle.otp_hash.specs.SeedBytes.{seed_bytes};
-ghost use Rattle.request_catalogue.specs.declared.width.Width.TheVariants.{Narrow};
 ghost use Rattle.request_catalogue.specs.Texts.{is_text};
-ghost use Rattle.toml.specs.Data.{get_member};
+ghost use Rattle.toml.specs.Data.{string};
 ghost use Rattle.toml.specs.View.{table_view};
 ghost use Rattle.account_file.specs.declared.fault.SetupKey.TheVariants.{Banner, Frames, Requests, Salt};
 ghost use Rattle.account_file.specs.declared.fault.SetupRule.TheVariants.{Product};
 ghost use Rattle.account_file.specs.Texts.{are_legal, text_entries};
 ghost use Rattle.account_file.specs.Faults.{demand_at, Reads};
-ghost use Rattle.account_file.specs.Keys.{read_spelled, passed, width_named, seed_spelled};
-ghost use Rattle.account_file.specs.Setups.{top, read_texts, read_counts};
+ghost use Rattle.account_file.specs.Keys.{member_or, passed, read_spelled, seed_spelled, width_named};
+ghost use Rattle.account_file.specs.Setups.{read_texts, read_counts};
 
 use crate::fault::{SetupFault, SetupKey, SetupRule, Spot};
 use crate::keys::{entry, read_number, read_seed, read_text, read_width};
@@ -63,8 +61,8 @@ pub fn read_texts(table: &Table) -> Result<Texts<'_>, SetupFault>
 
 /// The banner, empty where the key isn't there.
 fn read_banner(table: &Table) -> Result<&str, SetupFault>
-    ensures read { Reads (λ s. s.now) result (option_map_or (λ value. read_spelled (top Banner) (passed (is_text 0 200))
-        (Some value)) (get_member (codes "banner") (table_view table.now)) (Ok [])) }
+    ensures read { Reads (λ s. s.now) result (read_spelled 0 Banner (passed (is_text 0 200))
+        (member_or (string []) (codes "banner") (table_view table.now))) }
     ensures legal { IfOk result (λ s. is_text 0 200 s.now ≡ true) }
 {
     match entry(table, "banner") {
@@ -75,8 +73,8 @@ fn read_banner(table: &Table) -> Result<&str, SetupFault>
 
 /// What decoys are made of, `decoy` where the key isn't there.
 pub fn read_salt(table: &Table) -> Result<Seed, SetupFault>
-    ensures { Reads seed_bytes result (option_map_or (λ value. read_spelled (top Salt) seed_spelled (Some value))
-        (get_member (codes "salt") (table_view table.now)) (Ok (codes "decoy"))) }
+    ensures { Reads seed_bytes result (read_spelled 0 Salt seed_spelled
+        (member_or (string (codes "decoy")) (codes "salt") (table_view table.now))) }
 {
     match entry(table, "salt") {
         None => Ok(plain_salt()),
@@ -86,8 +84,8 @@ pub fn read_salt(table: &Table) -> Result<Seed, SetupFault>
 
 /// How long frames may be, narrow where the key isn't there.
 pub fn read_frames(table: &Table) -> Result<Width, SetupFault>
-    ensures { Reads (λ w. w) result (option_map_or (λ value. read_spelled (top Frames) width_named (Some value))
-        (get_member (codes "frames") (table_view table.now)) (Ok Narrow)) }
+    ensures { Reads (λ w. w) result (read_spelled 0 Frames width_named
+        (member_or (string (codes "narrow")) (codes "frames") (table_view table.now))) }
 {
     match entry(table, "frames") {
         None => Ok(Width::Narrow),
@@ -119,7 +117,7 @@ pub fn check_product(counts: Counts) -> Result<Counts, SetupFault>
     requires connections { counts.connections ≤ 4096 }
     requires requests { counts.requests ≤ 4096 }
     ensures read { Reads (λ c. c) result
-        (demand_at (top Requests) Product
+        (demand_at 0 Requests Product
         (then_some (nat_le (counts.workers * (counts.connections * (counts.requests + 3))) EVENTS_LIMIT) counts)) }
     ensures same { IfOk result (λ c. c ≡ counts) }
     ensures few { IfOk result (λ c. c.workers * (c.connections * (c.requests + 3)) ≤ EVENTS_LIMIT) }

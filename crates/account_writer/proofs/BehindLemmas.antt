@@ -1,9 +1,12 @@
 -- One account after a setup that is written.
 use Rattle.std.proofs.Common.{◌≡◌, ℕ, zero, suc, Bool, true, false, cond, ◌==◌, List, [], ◌∷◌, ◌++◌, map, length, Option, Some, None, option_and_then, option_map, Result, Ok, IsUtf8, codes, refl, sym, ap, ◌∙◌, subst, eq-eqb, arith}
 use Rattle.std.specs.Str.Lossy.{utf8_valid_len}
+use Rattle.std.specs.Prelude.{nat_le}
+use Rattle.std.specs.List.{list_all}
+use Rattle.std.proofs.lemmas.Bool.{and_parts}
 use Rattle.std.proofs.lemmas.Option.{same_Some}
 use Rattle.std.proofs.lemmas.Str.{IsUtf8-append, utf8_valid_len-IsUtf8}
-use Rattle.toml.specs.Data.{Members, get_member, items_are_sorted, members_are_sorted, members_have_valid_dates}
+use Rattle.toml.specs.Data.{Members, array, no_items, items_are_sorted, members_are_sorted, members_have_valid_dates}
 use Rattle.toml.specs.Tables.{Document, Expression, array_table, close, define, no_nodes}
 use Rattle.toml.specs.Parse.{line, lines, parse_document, skip_bom}
 use Rattle.toml.specs.Text.{IsDocumentText, IsLinesText}
@@ -20,12 +23,15 @@ use Rattle.account_file.specs.declared.fault.SetupRule.TheVariants as rules
 use Rattle.account_file.specs.Accounts.{next_account}
 use Rattle.account_file.specs.Entries.{AccountEntry, account_entry, entries_of}
 use Rattle.account_file.specs.Faults.{demand_at}
-use Rattle.account_file.specs.Setups.{setup_of, top}
+use Rattle.account_file.specs.Keys.{member_or}
+use Rattle.account_file.specs.Setups.{setup_of}
 use Rattle.account_file.specs.Trees.{read_each}
 use Rattle.account_file.proofs.EachLemmas.{list_all_more}
-use Rattle.account_writer.specs.Tables.{account_data, alone, grant_data, is_writable, number, setup_members}
+use Rattle.account_writer.specs.Puts.{alone, is_writable, number}
+use Rattle.account_writer.specs.Tables.{account_data, grant_data, setup_members}
 use Rattle.account_writer.specs.Written.{IsFileOf, IsTextOf, accounts_of, with_account}
 use Rattle.account_writer.proofs.AccountReads.{accounts_read}
+use Rattle.account_writer.proofs.CurrentLemmas.{fits_word, writable_by}
 use Rattle.account_writer.proofs.LengthLemmas.{lines_fit}
 use Rattle.account_writer.proofs.LineLemmas.{Key, account_lines, accounts_key, alone_lines, lines_more, lines_spaced, own_lines}
 use Rattle.account_writer.proofs.SetupReads.{accounts_dated, accounts_flat, setup_dated, setup_flat, text_is_setup}
@@ -51,9 +57,11 @@ setup_sorted s (a ∷ accounts) = rw (accounts_sorted (a ∷ accounts), numbers_
 
 pub file_read : (s : Settings) (bytes : List ℕ) → IsFileOf s bytes → setup_of bytes ≡ Ok (entries_of s)
 file_read s bytes is =
+    let names = and_parts _ _ (and_parts _ _ is.in_range.accounts).0 in
+    let legal = and_parts (nat_le (length s.accounts) 1024) (list_all is_account s.accounts) names.0 in
     text_is_setup bytes s is.utf8 (parse_document-printed false (setup_members s (map account_data s.accounts)) bytes
     is.lines (setup_flat s s.accounts) (setup_dated s s.accounts) (setup_sorted s s.accounts)) is.in_range
-    is.writable
+    (writable_by s.accounts legal.1 is.passwords)
 
 pub alone_dated : (a : Account) → members_have_valid_dates (alone a) ≡ true
 alone_dated a = rw (accounts_dated (a ∷ [])) refl
@@ -122,15 +130,15 @@ alone_legal : (a : Account) → is_account a ≡ true → are_accounts (a ∷ []
 alone_legal a legal = rw legal refl
 
 abbrev accounts_in : Members → Result (List AccountEntry) SetupFault
-accounts_in entries = read_each (top keys.Account) 1024 next_account (get_member (codes "account") entries)
+accounts_in entries = read_each 0 keys.Account 1024 next_account (member_or (array no_items) (codes "account") entries)
 
 alone_read : (a : Account) (text : List ℕ) → IsUtf8 text → is_account a ≡ true → is_writable a ≡ true
     → parse_document text ≡ Some (alone a) → accounts_of text ≡ Ok (account_entry a ∷ [])
 alone_read a text utf8 legal writable parsed =
     let test : (utf8_valid_len text == length text) ≡ true = eq-eqb (utf8_valid_len text) (length text)
     (utf8_valid_len-IsUtf8 text utf8) in
-    ap (λ (t : Bool). demand_at (top keys.File) rules.NotToml (cond t (parse_document text) None) >>= accounts_in) test
-    ∙ ap (λ (o : Option Members). demand_at (top keys.File) rules.NotToml o >>= accounts_in) parsed
+    ap (λ (t : Bool). demand_at 0 keys.File rules.NotToml (cond t (parse_document text) None) >>= accounts_in) test
+    ∙ ap (λ (o : Option Members). demand_at 0 keys.File rules.NotToml o >>= accounts_in) parsed
     ∙ accounts_read (a ∷ []) (alone_legal a legal) (rw writable refl)
 
 -- 3. The text of an account
@@ -142,7 +150,7 @@ file_more s a bytes text is range writable utf8 behind =
     let lines = lines_more s a bytes text is.lines behind in
     record {
       in_range = range;
-      writable = list_all_more is_writable s.accounts a is.writable writable;
+      passwords = list_all_more fits_word s.accounts a is.passwords (and_parts (nat_le a.sequence 9999) (fits_word a) writable).1;
       utf8 = IsUtf8-append bytes text is.utf8 utf8;
       lines = lines;
       few = lines_fit (with_account s a) (bytes ++ text) range lines;

@@ -1,5 +1,6 @@
 -- A setup with what a ledger knows of its accounts is a setup.
-use Rattle.std.proofs.Common.{◌≡◌, ℕ, zero, suc, ◌+◌, ◌<◌, true, ◌&&◌, List, [], ◌∷◌, ◌++◌, map, length, get_or, take, nat_le, refl, sym, ap, subst, ◌∙◌, arith, ◌==◌}
+use Rattle.std.proofs.Common.{◌≡◌, ℕ, zero, suc, ◌+◌, ◌<◌, Bool, true, ◌&&◌, List, [], ◌∷◌, ◌++◌, map, length, get_or, take, nat_le, refl, sym, ap, subst, ◌∙◌, arith, ◌==◌}
+use Rattle.std.specs.Prelude.{nat_lt}
 use Rattle.std.specs.List.{list_all}
 use Rattle.std.proofs.lemmas.Bool.{and_parts, and_from}
 use Rattle.std.proofs.lemmas.List.{map-append, take_more}
@@ -16,7 +17,7 @@ use Rattle.otp_ledger.specs.declared.ledger.Current.{Current}
 use Rattle.otp_ledger.specs.Standing.{state_by}
 use Rattle.policy_model.specs.Logins.{account_after}
 use Rattle.account_writer.specs.CurrentSetup.{IsSetupAfter, current_account, current_accounts, current_setup}
-use Rattle.account_writer.specs.Tables.{is_writable, with_current}
+use Rattle.account_writer.specs.Puts.{is_writable, with_current}
 use Rattle.account_writer.specs.Written.{IsFileOf}
 use Rattle.account_writer.proofs.ListLemmas.{distinct-map}
 
@@ -58,6 +59,26 @@ legal_current (a ∷ accounts) (s ∷ states) legal writable =
     let here = and_parts (is_account a) (list_all is_account accounts) legal in
     let written = and_parts (is_writable (current_account a s)) (list_all is_writable (current_accounts accounts states)) writable in
     and_from _ _ (legal_here a s here.0 written.0) (legal_current accounts states here.1 written.1)
+
+-- a password of 64 bits
+abbrev pub fits_word : Account → Bool
+fits_word a = nat_lt a.password 18446744073709551616
+
+-- accounts in range whose passwords have 64 bits can be written, and those that can be have such passwords
+pub writable_by : (accounts : List Account) → list_all is_account accounts ≡ true → list_all fits_word accounts ≡ true → list_all is_writable accounts ≡ true
+writable_by [] legal fits = refl
+writable_by (a ∷ accounts) legal fits =
+    let here = and_parts (is_account a) (list_all is_account accounts) legal in
+    let own = and_parts (fits_word a) (list_all fits_word accounts) fits in
+    let parts = and_parts (is_number 1 4294967294 a.uid && nat_le a.sequence 9999) (are_grants a.grants) here.0 in
+    let few = (and_parts (is_number 1 4294967294 a.uid) (nat_le a.sequence 9999) parts.0).1 in
+    and_from _ _ (and_from _ _ few own.0) (writable_by accounts here.1 own.1)
+
+pub words_of : (accounts : List Account) → list_all is_writable accounts ≡ true → list_all fits_word accounts ≡ true
+words_of [] writable = refl
+words_of (a ∷ accounts) writable =
+    let here = and_parts (is_writable a) (list_all is_writable accounts) writable in
+    and_from _ _ (and_parts (nat_le a.sequence 9999) (fits_word a) here.0).1 (words_of accounts here.1)
 
 -- 2. The setup
 

@@ -12,7 +12,7 @@ use Rattle.std.proofs.lemmas.Nat.{from_be_bytes-to_be_bytes_8}
 use Rattle.hex.specs.Hex.{IsBytes}
 use Rattle.hex.specs.declared.error.FromHexError.{FromHexError}
 use Rattle.hex.proofs.HexLemmas.{decode_sized-encode_lower}
-use Rattle.toml.specs.Data.{Data, string, array}
+use Rattle.toml.specs.Data.{Data, string}
 use Rattle.toml.specs.View.{items_of}
 use Rattle.otp_hash.specs.declared.chain.Algo.{Algo}
 use Rattle.otp_hash.specs.declared.chain.Algo.TheVariants as algos
@@ -24,28 +24,28 @@ use Rattle.request_catalogue.specs.declared.width.Width.TheVariants.{Narrow, Wid
 use Rattle.request_catalogue.specs.Texts.{is_text}
 use Rattle.policy_model.specs.Settings.{is_number, password_text}
 use Rattle.account_file.specs.declared.fault.SetupRule.TheVariants as rules
-use Rattle.account_file.specs.declared.fault.Spot.{Spot}
+use Rattle.account_file.specs.declared.fault.SetupKey.{SetupKey}
 use Rattle.account_file.specs.Accounts.{untaken}
 use Rattle.account_file.specs.Faults.{demand_at}
 use Rattle.account_file.specs.Keys.{read_spelled, passed, read_number, width_named, seed_spelled, password_spelled}
 use Rattle.account_file.specs.Trees.{data_of}
-use Rattle.account_file.specs.Trees as trees
 use Rattle.otp_hash.specs.Names.{algo_name, algo_named}
-use Rattle.account_writer.specs.Tables.{width_word, number}
+use Rattle.account_writer.specs.Puts.{number}
+use Rattle.account_writer.specs.Tables.{width_word}
 
-pub text_read : (spot : Spot) (low high : ℕ) (bytes : List ℕ) → is_text low high bytes ≡ true → read_spelled spot (passed (is_text low high)) (Some (string bytes)) ≡ Ok bytes
-text_read spot low high bytes legal = ap (λ (b : Bool). demand_at spot rules.Text (then_some b bytes)) legal
+pub text_read : (account : ℕ) (key : SetupKey) (low high : ℕ) (bytes : List ℕ) → is_text low high bytes ≡ true → read_spelled account key (passed (is_text low high)) (Some (string bytes)) ≡ Ok bytes
+text_read account key low high bytes legal = ap (λ (b : Bool). demand_at account key rules.Text (then_some b bytes)) legal
 
-pub number_read : (spot : Spot) (low high n : ℕ) → is_number low high n ≡ true → read_number spot low high (Some (number n)) ≡ Ok n
-number_read spot low high n legal = ap (λ (b : Bool). demand_at spot rules.Range (then_some b n)) legal
+pub number_read : (account : ℕ) (key : SetupKey) (low high n : ℕ) → is_number low high n ≡ true → read_number account key low high (Some (number n)) ≡ Ok n
+number_read account key low high n legal = ap (λ (b : Bool). demand_at account key rules.Range (then_some b n)) legal
 
-pub algo_read : (spot : Spot) (a : Algo) → read_spelled spot algo_named (Some (string (algo_name a))) ≡ Ok a
-algo_read spot algos.Md5 = refl
-algo_read spot algos.Sha1 = refl
+pub algo_read : (account : ℕ) (key : SetupKey) (a : Algo) → read_spelled account key algo_named (Some (string (algo_name a))) ≡ Ok a
+algo_read account key algos.Md5 = refl
+algo_read account key algos.Sha1 = refl
 
-pub width_read : (spot : Spot) (w : Width) → read_spelled spot width_named (Some (string (width_word w))) ≡ Ok w
-width_read spot Narrow = refl
-width_read spot Wide = refl
+pub width_read : (account : ℕ) (key : SetupKey) (w : Width) → read_spelled account key width_named (Some (string (width_word w))) ≡ Ok w
+width_read account key Narrow = refl
+width_read account key Wide = refl
 
 -- a byte of a seed is a letter or a digit, and in lower case
 seed_byte : (c : ℕ) → is_seed_byte c ≡ true → (is_ascii_alphanumeric c ≡ true) × (to_ascii_lowercase c ≡ c)
@@ -67,38 +67,39 @@ seed_text bytes legal =
     let all = seed_bytes_pass bytes parts.1 in
     (and_from _ _ parts.0 all.0, all.1)
 
-pub seed_read : (spot : Spot) (s : Seed) → read_spelled spot seed_spelled (Some (string (seed_bytes s))) ≡ Ok (seed_bytes s)
-seed_read spot s =
+pub seed_read : (account : ℕ) (key : SetupKey) (s : Seed) → read_spelled account key seed_spelled (Some (string (seed_bytes s))) ≡ Ok (seed_bytes s)
+seed_read account key s =
     let is = seed_text (seed_bytes s) s.legal in
-    ap (λ (b : Bool). demand_at spot rules.Text (then_some b (map to_ascii_lowercase (seed_bytes s)))) is.0
+    ap (λ (b : Bool). demand_at account key rules.Text (then_some b (map to_ascii_lowercase (seed_bytes s)))) is.0
     ∙ ap (λ (bytes : List ℕ). Ok bytes) is.1
 
 -- a word's bytes are bytes
 are_bytes : (n : ℕ) → IsBytes (to_be_bytes w64 n)
 are_bytes n i = search (arith)
 
-pub password_read : (spot : Spot) (password : ℕ) → password < 2 ^ 64 → read_spelled spot password_spelled (Some (string (password_text password))) ≡ Ok password
-password_read spot password fits =
-    ap (λ (r : Result (List ℕ) FromHexError). demand_at spot rules.Text (option_map (from_be_bytes w64) (result_ok r))) (decode_sized-encode_lower (to_be_bytes w64 password) 8 refl (are_bytes password))
-    ∙ ap (λ (n : ℕ). demand_at spot rules.Text (Some n)) (from_be_bytes-to_be_bytes_8 password fits)
+pub password_read : (account : ℕ) (key : SetupKey) (password : ℕ) → password < 2 ^ 64 → read_spelled account key password_spelled (Some (string (password_text password))) ≡ Ok password
+password_read account key password fits =
+    ap (λ (r : Result (List ℕ) FromHexError). demand_at account key rules.Text (option_map (from_be_bytes w64) (result_ok r))) (decode_sized-encode_lower (to_be_bytes w64 password) 8 refl (are_bytes password))
+    ∙ ap (λ (n : ℕ). demand_at account key rules.Text (Some n)) (from_be_bytes-to_be_bytes_8 password fits)
 
 -- a string that passes a test, and that isn't taken
-pub new_string_read : (spot : Spot) (test is_taken : List ℕ → Bool) (bytes : List ℕ) → test bytes ≡ true → is_taken bytes ≡ false → untaken spot is_taken (read_spelled spot (passed test) (Some (string bytes))) ≡ Ok bytes
-new_string_read spot test is_taken bytes legal new =
-    ap (λ (b : Bool). untaken spot is_taken (demand_at spot rules.Text (then_some b bytes))) legal
-    ∙ ap (λ (b : Bool). demand_at spot rules.Twice (then_some (not b) bytes)) new
+pub new_string_read : (account : ℕ) (key : SetupKey) (test is_taken : List ℕ → Bool) (bytes : List ℕ) → test bytes ≡ true → is_taken bytes ≡ false → untaken account key is_taken (read_spelled account key (passed test) (Some (string bytes))) ≡ Ok bytes
+new_string_read account key test is_taken bytes legal new =
+    ap (λ (b : Bool). untaken account key is_taken (demand_at account key rules.Text (then_some b bytes))) legal
+    ∙ ap (λ (b : Bool). demand_at account key rules.Twice (then_some (not b) bytes)) new
 
-pub uid_read : (spot : Spot) (is_taken : ℕ → Bool) (uid : ℕ) → is_number 1 4294967294 uid ≡ true → is_taken uid ≡ false → untaken spot is_taken (read_number spot 1 4294967294 (Some (number uid))) ≡ Ok uid
-uid_read spot is_taken uid legal new =
-    ap (untaken spot is_taken) (number_read spot 1 4294967294 uid legal)
-    ∙ ap (λ (b : Bool). demand_at spot rules.Twice (then_some (not b) uid)) new
+pub uid_read : (account : ℕ) (key : SetupKey) (is_taken : ℕ → Bool) (uid : ℕ) → is_number 1 4294967294 uid ≡ true → is_taken uid ≡ false → untaken account key is_taken (read_number account key 1 4294967294 (Some (number uid))) ≡ Ok uid
+uid_read account key is_taken uid legal new =
+    ap (untaken account key is_taken) (number_read account key 1 4294967294 uid legal)
+    ∙ ap (λ (b : Bool). demand_at account key rules.Twice (then_some (not b) uid)) new
 
 -- the items of an array that is written
 pub data_of-items : (ds : List Data) → data_of (items_of ds) ≡ ds
 data_of-items [] = refl
 data_of-items (d ∷ ds) = ap (λ (more : List Data). d ∷ more) (data_of-items ds)
 
-pub items_read : (spot : Spot) (most : ℕ) (ds : List Data) → nat_le (length ds) most ≡ true → trees.read_items spot most (array (items_of ds)) ≡ Ok ds
-items_read spot most ds few =
-    ap (λ (all : List Data). demand_at spot rules.Range (then_some (nat_le (length all) most) all)) (data_of-items ds)
-    ∙ ap (λ (b : Bool). demand_at spot rules.Range (then_some b ds)) few
+-- a list of data of at most so many
+pub items_read : (account : ℕ) (key : SetupKey) (most : ℕ) (ds : List Data) → nat_le (length ds) most ≡ true → demand_at account key rules.Range (passed (λ all. nat_le (length all) most) (data_of (items_of ds))) ≡ Ok ds
+items_read account key most ds few =
+    ap (λ (all : List Data). demand_at account key rules.Range (then_some (nat_le (length all) most) all)) (data_of-items ds)
+    ∙ ap (λ (b : Bool). demand_at account key rules.Range (then_some b ds)) few

@@ -29,9 +29,9 @@ use Rattle.request_catalogue.specs.Texts.{begins_name, continues_label, continue
 use Rattle.policy_model.specs.declared.account.Account.{Account}
 use Rattle.policy_model.specs.declared.account.Grant.{Grant}
 use Rattle.policy_model.specs.Settings.{IsInRange, Settings, are_grants, are_numbers, are_texts, is_account, is_number, password_text}
-use Rattle.account_writer.specs.Tables.{account_data, account_members, grant_data, number, setup_members, width_word}
+use Rattle.account_writer.specs.Puts.{account_members, number}
+use Rattle.account_writer.specs.Tables.{account_data, grant_data, other_members, setup_members, width_word}
 use Rattle.account_writer.proofs.LineLemmas.{Key, accounts_key, setup_lines}
-use Rattle.account_writer.proofs.SetupReads.{others}
 
 -- 1. Strings
 
@@ -504,7 +504,7 @@ upper_short s es n range later =
     (omega arith)
 
 others_short : (s : Settings) (es : List Expression) (n : ℕ) → IsInRange s → AreShort es n
-    → AreShort (pairs (others s) ++ es) (6915 + n)
+    → AreShort (pairs (other_members s) ++ es) (6915 + n)
 others_short s es n range later =
     rw (info_inline s.info) (at_most (upper_short s _ _ range (lower_short s es n range later)) (omega arith))
 
@@ -518,7 +518,7 @@ lines_fit s bytes range lines =
     let first = and_parts (nat_le (length s.accounts) 1024) (list_all is_account s.accounts) names.0 in
     let few : length s.accounts ≤ 1024 = leb-true (length s.accounts) 1024 first.0 in
     let accounts = elements accounts_key (items_of (map account_data s.accounts)) in
-    let own : IsLinesText false false (pairs (others s) ++ accounts) bytes =
+    let own : IsLinesText false false (pairs (other_members s) ++ accounts) bytes =
     subst (λ (es : List Expression). IsLinesText false false es bytes) (setup_lines s s.accounts) lines in
     let all = others_short s accounts (7500 * length s.accounts) range (accounts_short s.accounts first.1) in
     omega (arith, few, all.most false bytes own)

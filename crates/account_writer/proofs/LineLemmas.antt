@@ -7,9 +7,9 @@ use Rattle.toml.specs.Text.{IsDocumentText, IsLinesText, are_tables, elements, e
 use Rattle.toml.specs.View.{items_of}
 use Rattle.policy_model.specs.declared.account.Account.{Account}
 use Rattle.policy_model.specs.Settings.{Settings}
-use Rattle.account_writer.specs.Tables.{account_data, account_members, alone, number, setup_members}
+use Rattle.account_writer.specs.Puts.{account_members, alone, number}
+use Rattle.account_writer.specs.Tables.{account_data, other_members, setup_members}
 use Rattle.account_writer.specs.Written.{with_account}
-use Rattle.account_writer.proofs.SetupReads.{others}
 
 -- 1. Lines after lines
 
@@ -79,16 +79,16 @@ no_info : (info : List ℕ) → section ([], codes "info") (array (items_of (map
 no_info [] = refl
 no_info (n ∷ info) = refl
 
-no_sections : (s : Settings) → sections [] (others s) ≡ []
+no_sections : (s : Settings) → sections [] (other_members s) ≡ []
 no_sections s = rw (no_info s.info) refl
 
 pub setup_lines : (s : Settings) (accounts : List Account)
-    → expressions (setup_members s (map account_data accounts)) ≡ pairs (others s) ++ elements accounts_key
+    → expressions (setup_members s (map account_data accounts)) ≡ pairs (other_members s) ++ elements accounts_key
     (items_of (map account_data accounts))
-setup_lines s [] = ap (λ (es : List Expression). pairs (others s) ++ es) (no_sections s)
+setup_lines s [] = ap (λ (es : List Expression). pairs (other_members s) ++ es) (no_sections s)
 setup_lines s (a ∷ accounts) =
     let own = elements accounts_key (items_of (map account_data (a ∷ accounts))) in
-    rw (all_tables accounts) (ap (λ (es : List Expression). pairs (others s) ++ es)
+    rw (all_tables accounts) (ap (λ (es : List Expression). pairs (other_members s) ++ es)
     (ap (λ (es : List Expression). own ++ es) (no_sections s) ∙ append-nil own))
 
 -- after what is written for a setup, the lines of an account are those of the setup with the account
@@ -97,12 +97,12 @@ pub lines_more : (s : Settings) (a : Account) (bytes text : List ℕ)
     → IsLinesText false true (account_lines a) text
     → IsDocumentText false (setup_members (with_account s a) (map account_data (s.accounts ++ a ∷ []))) (bytes ++ text)
 lines_more s a bytes text file behind =
-    let so_far = pairs (others s) ++ elements accounts_key (items_of (map account_data s.accounts)) in
+    let so_far = pairs (other_members s) ++ elements accounts_key (items_of (map account_data s.accounts)) in
     let all : expressions (setup_members (with_account s a) (map account_data (s.accounts ++ a ∷ []))) ≡ so_far ++
     account_lines a =
     setup_lines (with_account s a) (s.accounts ++ a ∷ [])
-    ∙ ap (λ (es : List Expression). pairs (others s) ++ es) (elements_more s.accounts a)
-    ∙ sym (append_assoc (pairs (others s)) (elements accounts_key (items_of (map account_data s.accounts)))
+    ∙ ap (λ (es : List Expression). pairs (other_members s) ++ es) (elements_more s.accounts a)
+    ∙ sym (append_assoc (pairs (other_members s)) (elements accounts_key (items_of (map account_data s.accounts)))
     (account_lines a)) in
     let own : IsLinesText false false so_far bytes = subst (λ (es : List Expression). IsLinesText false false es bytes)
     (setup_lines s s.accounts) file in

@@ -1,3 +1,4 @@
 pub mod CurrentSetup
+pub mod Puts
 pub mod Tables
 pub mod Written

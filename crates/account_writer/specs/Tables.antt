@@ -1,7 +1,5 @@
--- Believed: the tables that are printed for the parts of a setup.
-use Rattle.std.specs.Prelude.{ℕ, pos, Bool, ◌&&◌, List, [], ◌∷◌, map, codes, nat_le, nat_lt}
-use Rattle.std.specs.Cmp.Lexicographic.{slice_cmp}
-use Rattle.std.specs.Ordering.{nat_cmp, match_ordering}
+-- Believed: the tables that are printed for the parts of a setup, with the keys in the order in which TOML prints them.
+use Rattle.std.specs.Prelude.{ℕ, pos, List, [], map, codes}
 use Rattle.otp_hash.specs.Names.{algo_name}
 use Rattle.otp_hash.specs.SeedBytes.{seed_bytes}
 use Rattle.request_catalogue.specs.declared.width.Width.{Width}
@@ -10,88 +8,47 @@ use Rattle.request_catalogue.specs.TextBytes.{name_bytes, label_bytes}
 use Rattle.policy_model.specs.declared.account.Account.{Account}
 use Rattle.policy_model.specs.declared.account.Grant.{Grant}
 use Rattle.policy_model.specs.Settings.{Settings, password_text}
-use Rattle.otp_ledger.specs.declared.ledger.Current.{Current}
 use Rattle.toml.specs.Data.{Data, string, integer, boolean, array, table, Members, no_members, member}
 use Rattle.toml.specs.View.{items_of}
-
--- a table with one key more, in the order of the keys
-abbrev pub put_member : List ℕ → Data → Members → Members
-put_member k d no_members = member k d no_members
-put_member k d (member l e ms) =
-    match_ordering (slice_cmp nat_cmp k l) (member k d (member l e ms)) (member l d ms) (member l e (put_member k d ms))
 
 -- the word for a width of frames
 abbrev pub width_word : Width → List ℕ
 width_word Narrow = codes "narrow"
 width_word Wide = codes "wide"
 
--- a whole number as TOML has it
-abbrev pub number : ℕ → Data
-number n = integer (pos n)
-
--- the keys of a grant, as they are written
-abbrev pub grant_members : Grant → Members
-grant_members g =
-    put_member (codes "mode") (number g.mode) (put_member (codes "name") (string (label_bytes g.name)) no_members)
-
 -- the table that is written for a grant
 abbrev pub grant_data : Grant → Data
-grant_data g = table (grant_members g)
-
--- the keys of an account, as they are written
-abbrev pub account_members : Account → Members
-account_members a =
-    put_member (codes "grants") (array (items_of (map grant_data a.grants)))
-    (put_member (codes "enabled") (boolean a.enabled)
-    (put_member (codes "password") (string (password_text a.password))
-    (put_member (codes "sequence") (number a.sequence)
-    (put_member (codes "seed") (string (seed_bytes a.seed))
-    (put_member (codes "algorithm") (string (algo_name a.algo))
-    (put_member (codes "uid") (number a.uid)
-    (put_member (codes "name") (string (name_bytes a.name)) no_members)))))))
+grant_data g = table (member (codes "mode") (integer (pos g.mode))
+    (member (codes "name") (string (label_bytes g.name)) no_members))
 
 -- the table that is written for an account
 abbrev pub account_data : Account → Data
-account_data a = table (account_members a)
+account_data a = table (member (codes "algorithm") (string (algo_name a.algo))
+    (member (codes "enabled") (boolean a.enabled)
+    (member (codes "grants") (array (items_of (map grant_data a.grants)))
+    (member (codes "name") (string (name_bytes a.name))
+    (member (codes "password") (string (password_text a.password))
+    (member (codes "seed") (string (seed_bytes a.seed))
+    (member (codes "sequence") (integer (pos a.sequence))
+    (member (codes "uid") (integer (pos a.uid)) no_members))))))))
 
--- the table that has one account alone
-abbrev pub alone : Account → Members
-alone a = put_member (codes "account") (array (items_of (account_data a ∷ []))) no_members
+-- the keys that are written for a setup, without its accounts
+abbrev pub other_members : Settings → Members
+other_members s = member (codes "banner") (string s.banner)
+    (member (codes "connections") (integer (pos s.connections))
+    (member (codes "frames") (string (width_word s.frames))
+    (member (codes "hold") (integer (pos s.hold))
+    (member (codes "info") (array (items_of (map (λ n. integer (pos n)) s.info)))
+    (member (codes "launcher") (string s.launcher)
+    (member (codes "requests") (integer (pos s.requests))
+    (member (codes "salt") (string (seed_bytes s.salt))
+    (member (codes "socket") (string s.socket)
+    (member (codes "tries") (integer (pos s.tries))
+    (member (codes "vault") (string s.vault)
+    (member (codes "words") (string s.words)
+    (member (codes "workers") (integer (pos s.workers)) no_members))))))))))))
 
--- an account with what its chain has come to
-abbrev pub with_current : Account → Current → Account
-with_current a current = record a { sequence = current.sequence; password = current.password }
-
--- the texts of a setup, besides other keys
-abbrev pub put_texts : Settings → Members → Members
-put_texts s ms =
-    put_member (codes "frames") (string (width_word s.frames))
-    (put_member (codes "salt") (string (seed_bytes s.salt))
-    (put_member (codes "banner") (string s.banner)
-    (put_member (codes "words") (string s.words)
-    (put_member (codes "vault") (string s.vault)
-    (put_member (codes "launcher") (string s.launcher)
-    (put_member (codes "socket") (string s.socket) ms))))))
-
--- the numbers of a setup, besides other keys
-abbrev pub put_counts : Settings → Members → Members
-put_counts s ms =
-    put_member (codes "info") (array (items_of (map number s.info)))
-    (put_member (codes "hold") (number s.hold)
-    (put_member (codes "tries") (number s.tries)
-    (put_member (codes "requests") (number s.requests)
-    (put_member (codes "connections") (number s.connections)
-    (put_member (codes "workers") (number s.workers) ms)))))
-
--- the tables of a setup's accounts, besides other keys; no key if there are none, so that tables may be appended
-abbrev pub put_accounts : List Data → Members → Members
-put_accounts [] ms = ms
-put_accounts (d ∷ ds) ms = put_member (codes "account") (array (items_of (d ∷ ds))) ms
-
--- the keys of a setup, with the tables of its accounts, as they are written
+-- the keys that are written for a setup; without accounts none is `account`, so that tables may be appended
 abbrev pub setup_members : Settings → List Data → Members
-setup_members s accounts = put_accounts accounts (put_counts s (put_texts s no_members))
-
--- an account's sequence has at most four digits, and its password 64 bits
-abbrev pub is_writable : Account → Bool
-is_writable a = nat_le a.sequence 9999 && nat_lt a.password 18446744073709551616
+setup_members s [] = other_members s
+setup_members s accounts = member (codes "account") (array (items_of accounts)) (other_members s)

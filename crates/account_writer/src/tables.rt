@@ -4,8 +4,9 @@ ghost use Rattle.std.specs.Prelude.{◌≡◌, ◌≤◌, IfOk, OnOk, map, true}
 ghost use Rattle.toml.specs.Data.{no_members, string};
 ghost use Rattle.toml.specs.View.{table_view, view};
 ghost use Rattle.policy_model.specs.Settings.{is_account};
-ghost use Rattle.account_writer.specs.Tables.{account_members, alone, grant_data, grant_members, is_writable, number};
-ghost use Rattle.account_writer.specs.Tables.{put_accounts, put_counts, put_member, put_texts, with_current};
+ghost use Rattle.account_writer.specs.Puts.{account_members, alone, grant_members, is_writable, number};
+ghost use Rattle.account_writer.specs.Tables.{grant_data};
+ghost use Rattle.account_writer.specs.Puts.{put_accounts, put_counts, put_member, put_texts, with_current};
 
 use crate::values::{
     algo_value, label_value, name_value, password_value, put, seed_value, width_value,

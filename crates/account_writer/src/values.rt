@@ -7,7 +7,8 @@ ghost use Rattle.toml.specs.Data.{string};
 ghost use Rattle.toml.specs.View.{table_view, view};
 ghost use Rattle.otp_hash.specs.Names.{algo_name};
 ghost use Rattle.policy_model.specs.Settings.{password_text};
-ghost use Rattle.account_writer.specs.Tables.{put_member, width_word};
+ghost use Rattle.account_writer.specs.Puts.{put_member};
+ghost use Rattle.account_writer.specs.Tables.{width_word};
 
 use otp_hash::{Algo, Seed};
 use request_catalogue::{Label, Name, Width};

@@ -9,7 +9,8 @@ ghost use Rattle.toml.specs.Data.{members_have_valid_dates};
 ghost use Rattle.toml.specs.Text.{IsDocumentText};
 ghost use Rattle.toml.specs.View.{table_view, view};
 ghost use Rattle.account_writer.specs.CurrentSetup.{IsSetupAfter, current_accounts, current_setup};
-ghost use Rattle.account_writer.specs.Tables.{account_data, is_writable, setup_members};
+ghost use Rattle.account_writer.specs.Puts.{is_writable};
+ghost use Rattle.account_writer.specs.Tables.{account_data, setup_members};
 ghost use Rattle.account_writer.specs.Written.{IsFileOf, IsTextOf};
 
 use crate::tables::{account_table, alone_table, put_accounts, put_counts, put_texts};
@@ -95,6 +96,7 @@ fn account_values(alloc: Global, ledger: &Ledger) -> Result<Vec<Value>, AllocErr
 }
 
 /// The table of a setup, with the tables of its accounts.
+#[tactic(auto, using(crate::proofs::PutLemmas::put_all))]
 fn setup_table(alloc: Global, setup: &Setup, accounts: Vec<Value>) -> Result<Table, AllocError>
     ensures table { IfOk result (λ table. table_view table ≡ setup_members setup.now (map view accounts.items)) }
     ensures in_range { IsInRange setup.now }

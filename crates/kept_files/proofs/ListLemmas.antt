@@ -12,8 +12,7 @@ use Rattle.account_file.specs.declared.fault.SetupFault.{SetupFault}
 use Rattle.account_file.specs.declared.fault.SetupKey.TheVariants as keys
 use Rattle.account_file.specs.declared.fault.SetupRule.TheVariants as rules
 use Rattle.account_file.specs.Entries.{SetupEntries, entries_of}
-use Rattle.account_file.specs.Faults.{spot_fault}
-use Rattle.account_file.specs.Setups.{setup_of, top}
+use Rattle.account_file.specs.Setups.{setup_of}
 use Rattle.setup_reading.specs.Read.{judged_setup}
 use Rattle.kept_files.specs.Kept.{Kept, KeepsAll, is_kept, kept_files}
 use Rattle.kept_files.specs.Setups.{IsListOf, KeepsThese, SpellsList}
@@ -25,7 +24,11 @@ judged_refused : (bytes : List ℕ) (fault : SetupFault) → length bytes ≤ 83
 unfolding judged_setup
 judged_refused bytes fault few spells = rw (le-leb (length bytes) 8388608 few) spells
 
-judged_long : (bytes : List ℕ) → 8388608 < length bytes → judged_setup bytes ≡ Err (spot_fault (top keys.File) rules.TooLong)
+-- the fault of a longer one
+abbrev too_long : SetupFault
+too_long = record { key = keys.File; rule = rules.TooLong; account = 0 }
+
+judged_long : (bytes : List ℕ) → 8388608 < length bytes → judged_setup bytes ≡ Err too_long
 unfolding judged_setup
 judged_long bytes many = rw (lt-leb (length bytes) 8388608 many) refl
 
@@ -50,7 +53,7 @@ pub names_refused : (text : Option (List ℕ)) (bytes : List ℕ) (fault : Setup
 names_refused text bytes fault there few spells = refused text bytes fault there (judged_refused bytes fault few spells)
 
 pub names_long : (text : Option (List ℕ)) (bytes : List ℕ) → text ≡ Some bytes → 8388608 < length bytes → IsListOf text None
-names_long text bytes there many = refused text bytes (spot_fault (top keys.File) rules.TooLong) there (judged_long bytes many)
+names_long text bytes there many = refused text bytes too_long there (judged_long bytes many)
 
 -- a text that spells a setup names just its list
 pub names_list : (text : Option (List ℕ)) (list : List ℕ) → SpellsList text list → IsListOf text (Some list)

@@ -18,7 +18,6 @@ use Rattle.account_file.specs.declared.fault.SetupKey.TheVariants as keys
 use Rattle.account_file.specs.declared.fault.SetupRule.TheVariants as rules
 use Rattle.account_file.specs.Entries.{SetupEntries, entries_of}
 use Rattle.account_file.specs.Faults.{demand_at}
-use Rattle.account_file.specs.Setups.{top}
 use Rattle.setup_reading.specs.declared.reading.SetupFileError.{SetupFileError}
 use Rattle.setup_reading.specs.declared.reading.SetupFileError.TheVariants as setup_errors
 use Rattle.setup_reading.specs.Read.{IsSetupError, IsSetupIn, setup_in, judged_setup}
@@ -62,7 +61,7 @@ uninformed forms (Some files) name ReadFailed setup fault there refused = ap (fo
 pub informed_in : (forms : List Key) (contents : Option Contents) (name : List ℕ) (first setup : Settings) → informed forms (entries_of first) ≡ Ok (entries_of setup) → IsSetupIn contents name first → IsSetupIn contents name setup
 informed_in forms contents name first setup said there =
     subst (λ (e : SetupEntries). IfSome contents (λ files. setup_in files name ≡ Some (Ok e))) (go (are_said forms (entries_of first).info) said) there where
-      go : (b : Bool) → demand_at (top keys.Info) rules.NoHook (then_some b (entries_of first)) ≡ Ok (entries_of setup) → entries_of first ≡ entries_of setup
+      go : (b : Bool) → demand_at 0 keys.Info rules.NoHook (then_some b (entries_of first)) ≡ Ok (entries_of setup) → entries_of first ≡ entries_of setup
       go true e = cc
       go false e = absurd cc
 

@@ -14,7 +14,6 @@ use Rattle.account_file.specs.declared.fault.SetupKey.TheVariants as keys
 use Rattle.account_file.specs.declared.fault.SetupRule.TheVariants as rules
 use Rattle.account_file.specs.Entries.{SetupEntries, entries_of}
 use Rattle.account_file.specs.Faults.{demand_at}
-use Rattle.account_file.specs.Setups.{top}
 use Rattle.setup_reading.specs.Read.{setup_in}
 use Rattle.service_reading.specs.declared.error.ServiceError.{ServiceError}
 use Rattle.service_reading.specs.declared.error.ServiceError.TheVariants as errors
@@ -25,7 +24,7 @@ are_said forms numbers = list_all (λ number. list_any (λ key. key.number == nu
 
 -- a setup whose numbers of information all have a form, otherwise a fault
 abbrev pub informed : List Key → SetupEntries → Result SetupEntries SetupFault
-informed forms entries = demand_at (top keys.Info) rules.NoHook (then_some (are_said forms entries.info) entries)
+informed forms entries = demand_at 0 keys.Info rules.NoHook (then_some (are_said forms entries.info) entries)
 
 -- what a setup file says, and the words of the list that it names
 pub record FoundService : Type 0 where

@@ -12,7 +12,7 @@ use Rattle.account_file.specs.declared.fault.SetupError.{SetupError}
 use Rattle.account_file.specs.declared.fault.SetupError.TheVariants as setup_errors
 use Rattle.account_file.specs.Entries.{SetupEntries, entries_of}
 use Rattle.account_file.specs.Faults.{Answers, demand_at}
-use Rattle.account_file.specs.Setups.{setup_of, top}
+use Rattle.account_file.specs.Setups.{setup_of}
 use Rattle.setup_reading.specs.Read.{IsSetupError, IsSetupIn, error_of_setup, judged_setup, setup_in}
 
 -- a text of at most m bytes is told by its first m + 1
@@ -22,14 +22,14 @@ short-front m bytes = grind (arith, common_steps)
 -- so the first 8,388,609 bytes are judged as the whole file is
 judged-front : (bytes : List ℕ) → judged_setup (take 8388609 bytes) ≡ judged_setup bytes
 unfolding judged_setup
-judged-front bytes = ap (λ short. demand_at (top keys.File) rules.TooLong short >>= setup_of) (short-front 8388608 bytes)
+judged-front bytes = ap (λ short. demand_at 0 keys.File rules.TooLong short >>= setup_of) (short-front 8388608 bytes)
 
 -- a text within the limit is judged by what it spells
 pub judged-short : (bytes : List ℕ) (e : SetupEntries) → length bytes ≤ 8388608 → setup_of bytes ≡ Ok e
     → judged_setup bytes ≡ Ok e
 unfolding judged_setup
 judged-short bytes e few spells =
-    ap (λ (b : Bool). demand_at (top keys.File) rules.TooLong (then_some b bytes) >>= setup_of)
+    ap (λ (b : Bool). demand_at 0 keys.File rules.TooLong (then_some b bytes) >>= setup_of)
     (le-leb (length bytes) 8388608 few)
     ∙ spells
 

@@ -13,14 +13,13 @@ use Rattle.account_file.specs.declared.fault.SetupKey.TheVariants as keys
 use Rattle.account_file.specs.declared.fault.SetupRule.TheVariants as rules
 use Rattle.account_file.specs.Entries.{SetupEntries, entries_of}
 use Rattle.account_file.specs.Faults.{demand_at}
-use Rattle.account_file.specs.Setups.{setup_of, top}
+use Rattle.account_file.specs.Setups.{setup_of}
 use Rattle.setup_reading.specs.declared.reading.SetupFileError.{SetupFileError}
 use Rattle.setup_reading.specs.declared.reading.SetupFileError.TheVariants as errors
 
 -- the setup that a file's bytes spell, or the first fault; a file has at most 8,388,608 bytes
 unfoldable pub judged_setup : List ℕ → Result SetupEntries SetupFault
-judged_setup bytes =
-    demand_at (top keys.File) rules.TooLong (then_some (nat_le (length bytes) 8388608) bytes) >>= setup_of
+judged_setup bytes = demand_at 0 keys.File rules.TooLong (then_some (nat_le (length bytes) 8388608) bytes) >>= setup_of
 
 -- what the named file says of a setup, if there is such a file
 abbrev pub setup_in : Contents → List ℕ → Option (Result SetupEntries SetupFault)

@@ -5,8 +5,7 @@ ghost use Rattle.outside.specs.FilesNow.{OnlyReads, files_now};
 ghost use Rattle.outside.specs.Told.{Rose};
 ghost use Rattle.account_file.specs.declared.fault.SetupError.TheVariants.{Refused};
 ghost use Rattle.account_file.specs.Entries.{entries_of};
-ghost use Rattle.account_file.specs.Faults.{Answers, spot_fault};
-ghost use Rattle.account_file.specs.Setups.{top};
+ghost use Rattle.account_file.specs.Faults.{Answers};
 ghost use Rattle.setup_reading.specs.declared.reading.SetupFileError.{SetupFileError};
 ghost use Rattle.setup_reading.specs.Read.{IsSetupError, IsSetupIn, error_of_front, error_of_setup, judged_setup};
 
@@ -85,7 +84,7 @@ fn judged_setup(alloc: Global, bytes: &[u8]) -> Result<Setup, SetupError>
 
 /// A file has too many bytes for a setup.
 fn too_long() -> Result<Setup, SetupError>
-    ensures { result ≡ Err (Refused (spot_fault (top SetupKey.File) SetupRule.TooLong)) }
+    ensures { result ≡ Err (Refused (record { key = SetupKey.File; rule = SetupRule.TooLong; account = 0 })) }
 {
     Err(SetupError::Refused(SetupFault {
         key: SetupKey::File,

@@ -1,29 +1,24 @@
 use Rattle.std.proofs.Common.{◌≡◌, ◌∙◌, ◌+◌, ◌<◌, ◌∷◌, [], ℕ, List, map, length, length-append, refl, sym, ap, arith}
 use Rattle.std.specs.Prelude.{◌==◌}
 use Rattle.std.proofs.lemmas.List.{length-map, map-append}
-use Rattle.request_catalogue.specs.TextBytes.{name_bytes}
 use Rattle.policy_model.specs.declared.account.Account.{Account}
 use Rattle.policy_model.specs.Settings.{is_account, same_name}
 use Rattle.toml.specs.Data.{Data}
 use Rattle.toml.specs.View.{view}
 use Rattle.account_file.specs.Accounts.{read_account, next_account}
-use Rattle.account_file.specs.Entries.{AccountEntry, account_entry}
+use Rattle.account_file.specs.Entries.{account_entry}
 use Rattle.account_file.proofs.EachLemmas.{read_none, read_stop, read_more, read_all, handed_on, distinct_more, list_all_more, view_at, none_left}
-use Rattle.account_file.proofs.KeyLemmas.{map_map}
 use Rattle.account_file.proofs.accounts.each_account.Goals as goal
 
 pub loop-item-init : goal.loop-item-init
 loop-item-init c = rw c.new-accounts.ensures.items (record { read = read_none next_account (map view c.args.items.now); len = refl; legal = refl; names = refl; uids = refl })
 
 -- an account after the same others
-behind : (place : ℕ) (value : Data) (accounts seen : List Account) → place ≡ length accounts + 1 → seen ≡ accounts → next_account (map account_entry accounts) value ≡ read_account place (map (λ (a : Account). name_bytes a.name) seen) (map (λ (a : Account). a.uid) seen) value
+behind : (place : ℕ) (value : Data) (accounts seen : List Account) → place ≡ length accounts + 1 → seen ≡ accounts → next_account (map account_entry accounts) value ≡ read_account place (map account_entry seen) value
 behind place value accounts seen at same =
-    let others = map account_entry accounts in
-    let next : length others + 1 ≡ place = ap (λ (n : ℕ). n + 1) (length-map accounts account_entry) ∙ sym at in
-    ap (λ (n : ℕ). read_account n (map (λ (e : AccountEntry). e.name) others) (map (λ (e : AccountEntry). e.uid) others) value) next
-    ∙ ap (λ (names : List (List ℕ)). read_account place names (map (λ (e : AccountEntry). e.uid) others) value) (map_map (λ (e : AccountEntry). e.name) account_entry accounts)
-    ∙ ap (λ (uids : List ℕ). read_account place (map (λ (a : Account). name_bytes a.name) accounts) uids value) (map_map (λ (e : AccountEntry). e.uid) account_entry accounts)
-    ∙ ap (λ (all : List Account). read_account place (map (λ (a : Account). name_bytes a.name) all) (map (λ (a : Account). a.uid) all) value) (sym same)
+    let next : length (map account_entry accounts) + 1 ≡ place = ap (λ (n : ℕ). n + 1) (length-map accounts account_entry) ∙ sym at in
+    ap (λ (n : ℕ). read_account n (map account_entry accounts) value) next
+    ∙ ap (λ (all : List Account). read_account place (map account_entry all) value) (sym same)
 
 pub overflow_cast-place : goal.overflow_cast-place
 overflow_cast-place c = omega (arith, c.loop-item.invariant.len, c.loop-item.accounts.ok.0)

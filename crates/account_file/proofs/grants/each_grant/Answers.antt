@@ -5,7 +5,7 @@ use Rattle.policy_model.specs.Settings.{is_number, same_label}
 use Rattle.toml.specs.Data.{Data}
 use Rattle.toml.specs.View.{view}
 use Rattle.account_file.specs.Accounts.{read_grant}
-use Rattle.account_file.specs.Entries.{grant_entry}
+use Rattle.account_file.specs.Texts.{grant_entry}
 use Rattle.account_file.proofs.EachLemmas.{read_none, read_stop, read_more, read_all, refused_on, distinct_more, list_all_more, view_at, none_left}
 use Rattle.account_file.proofs.grants.each_grant.Goals as goal
 

@@ -3,7 +3,7 @@ use Rattle.std.specs.List.{list_all}
 use Rattle.policy_model.specs.Settings.{is_number, are_distinct, same_label}
 use Rattle.toml.specs.View.{view}
 use Rattle.account_file.specs.Accounts.{read_grant}
-use Rattle.account_file.specs.Entries.{grant_entry}
+use Rattle.account_file.specs.Texts.{grant_entry}
 use Rattle.account_file.proofs.EachLemmas.{IsReadTo}
 use Rattle.account_file.proofs.grants.each_grant.Given as goal
 

@@ -2,7 +2,8 @@ use Rattle.std.proofs.Common.{◌≡◌, ◌∙◌, ◌<◌, length, map, get_or
 use Rattle.std.proofs.lemmas.List.{length-map}
 use Rattle.std.proofs.Math.ListN.{get_or-map}
 use Rattle.toml.specs.View.{view}
-use Rattle.account_file.proofs.InfoLemmas.{some_stop, some_more, info_number}
+use Rattle.account_file.specs.Numbers.{info_number}
+use Rattle.account_file.proofs.InfoLemmas.{some_stop, some_more}
 use Rattle.account_file.proofs.info.small_numbers.Goals as goal
 
 pub returns-in-None : goal.returns-in-None

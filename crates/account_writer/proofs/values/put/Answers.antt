@@ -1,6 +1,6 @@
 use Rattle.std.proofs.Common.{◌∙◌, ℕ, List, ap}
 use Rattle.toml.specs.View.{members_view, table_view, view}
-use Rattle.account_writer.specs.Tables.{put_member}
+use Rattle.account_writer.specs.Puts.{put_member}
 use Rattle.account_writer.proofs.PutLemmas.{put_entry}
 use Rattle.account_writer.proofs.values.put.Goals as goal
 

@@ -6,7 +6,8 @@ use Rattle.policy_model.specs.Settings.{Settings}
 use Rattle.toml.specs.Data.{table}
 use Rattle.toml.specs.View.{table_view, view}
 use Rattle.account_writer.specs.CurrentSetup.{current_accounts}
-use Rattle.account_writer.specs.Tables.{account_data, is_writable, with_current}
+use Rattle.account_writer.specs.Puts.{is_writable, with_current}
+use Rattle.account_writer.specs.Tables.{account_data}
 use Rattle.account_writer.proofs.CurrentLemmas.{current_here, length-current, values_more, writable_more}
 use Rattle.account_writer.proofs.writing.account_values.Goals as goal
 

@@ -3,7 +3,7 @@ use Rattle.std.specs.Prelude.{IfOk}
 use Rattle.toml.specs.Data.{Members, members_have_valid_dates}
 use Rattle.toml.specs.Text.{IsDocumentText}
 use Rattle.policy_model.specs.declared.account.Account.{Account}
-use Rattle.account_writer.specs.Tables.{alone}
+use Rattle.account_writer.specs.Puts.{alone}
 use Rattle.account_writer.specs.Written.{IsTextOf}
 use Rattle.account_writer.proofs.BehindLemmas.{alone_dated, is_text}
 use Rattle.account_writer.proofs.writing.write_account.Goals as goal

@@ -8,10 +8,11 @@ use Rattle.toml.specs.Text.{IsDocumentText}
 use Rattle.toml.specs.View.{table_view, view}
 use Rattle.otp_ledger.specs.Accounts.{AccountState}
 use Rattle.account_writer.specs.CurrentSetup.{current_accounts, current_setup}
-use Rattle.account_writer.specs.Tables.{account_data, is_writable, setup_members}
+use Rattle.account_writer.specs.Puts.{is_writable}
+use Rattle.account_writer.specs.Tables.{account_data, setup_members}
 use Rattle.account_writer.specs.Written.{IsFileOf}
 use Rattle.account_writer.proofs.BehindLemmas.{file_read}
-use Rattle.account_writer.proofs.CurrentLemmas.{is_setup_after, range_current}
+use Rattle.account_writer.proofs.CurrentLemmas.{is_setup_after, range_current, words_of}
 use Rattle.account_writer.proofs.LengthLemmas.{lines_fit}
 use Rattle.account_writer.proofs.SetupReads.{setup_dated}
 use Rattle.account_writer.proofs.writing.write_accounts.Goals as goal
@@ -36,7 +37,7 @@ is_file setup states accounts values ms text bytes own range same seen are writa
     (subst (λ (m : Members). IsDocumentText false m text) table lines) in
     record {
       in_range = in_range;
-      writable = legal;
+      passwords = words_of whole.accounts legal;
       utf8 = subst IsUtf8 (sym same_text) utf8;
       lines = written;
       few = lines_fit whole bytes in_range written;
