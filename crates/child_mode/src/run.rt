@@ -8,7 +8,7 @@ ghost use Rattle.child_mode.specs.Commands.{parts_of};
 ghost use Rattle.child_mode.specs.Outcome.{IsOutcome};
 
 use crate::command::ChildCommand;
-use child_protocol::{ChildEnd, PreChild, UserChild, run_child};
+use child_protocol::{Child, ChildEnd, run_child};
 use imsg_frame::Reader;
 use outside::Stream;
 use request_catalogue::Width;
@@ -74,11 +74,11 @@ pub fn run_child_mode<E: Stream>(alloc: Global, command: &ChildCommand, ends: &m
     };
     let end = match command {
         ChildCommand::Pre { session } => {
-            let mut child = PreChild::new(*session);
+            let mut child = Child::pre(*session);
             run_child(&mut child, ends, &mut memory.reader, &mut memory.out)
         }
         ChildCommand::User { session, uid, user } => {
-            let mut child = UserChild::new(*session, *uid, *user);
+            let mut child = Child::user(*session, *uid, *user);
             run_child(&mut child, ends, &mut memory.reader, &mut memory.out)
         }
     };

@@ -1,12 +1,10 @@
 pub mod Fronts
 pub mod Frames
 pub mod MoreBytes
-pub mod Holding
-pub mod Takes
-pub mod UserTakes
 pub mod Runs
 pub mod Replies
-pub mod Messages
-pub mod UserMessages
 pub mod PhaseLemmas
 pub mod UserPhaseLemmas
+pub mod UserCommands
+pub mod Steps
+pub mod Messages

@@ -2,7 +2,7 @@
 use Rattle.std.proofs.Common.{◌≡◌, ℕ, Bool, true, false, not, ◌&&◌, ◌||◌, cond, List, [], ◌∷◌, refl, sym, ap, subst, ◌∙◌, Some, None, Option, codes}
 use Rattle.std.specs.List.{fold}
 use Rattle.request_catalogue.specs.declared.kind.Kind.TheVariants as kinds
-use Rattle.request_catalogue.specs.Catalogue.{RequestValue, kind_of, Banner, Challenge, Reply, Abandon, Export, Import, ReadAt, WriteAt, OpenFile, CloseFile, Info, Note, Finish}
+use Rattle.request_catalogue.specs.Catalogue.{RequestValue, kind_of, Banner, Challenge, Reply, Abandon, Export, ReadAt, WriteAt, Note, Finish}
 use Rattle.request_catalogue.specs.Replies.{AnswerValue, Done, Denied, Device}
 use Rattle.child_protocol.specs.Lines.{Front, More, TooLong, Line}
 use Rattle.child_protocol.specs.Commands.{PreCommand, Terminal, User, Respond, Cancel, Quit, Other, pre_command}
@@ -83,32 +83,16 @@ follows_suits : (request : RequestValue) (answer : AnswerValue) (last : Bool) (f
 follows_suits request (Device device) last front state v c x hv hx = finish_suits _ _ _
 follows_suits (Challenge user) (Denied rule detail) last front state v c x hv hx = say_suits _ v _ x (untrue v hv) (untrue x hx)
 follows_suits (Reply text) (Denied rule detail) last front state v c x hv hx = say_suits _ v _ x (untrue v hv) (untrue x hx)
-follows_suits Banner (Denied rule detail) last front state v c x hv hx = finish_suits _ _ _
-follows_suits Abandon (Denied rule detail) last front state v c x hv hx = finish_suits _ _ _
-follows_suits (Export s) (Denied rule detail) last front state v c x hv hx = finish_suits _ _ _
-follows_suits Import (Denied rule detail) last front state v c x hv hx = finish_suits _ _ _
-follows_suits (ReadAt h o m) (Denied rule detail) last front state v c x hv hx = finish_suits _ _ _
-follows_suits (WriteAt h o b) (Denied rule detail) last front state v c x hv hx = finish_suits _ _ _
-follows_suits (OpenFile m n) (Denied rule detail) last front state v c x hv hx = finish_suits _ _ _
-follows_suits (CloseFile h) (Denied rule detail) last front state v c x hv hx = finish_suits _ _ _
-follows_suits (Info n) (Denied rule detail) last front state v c x hv hx = finish_suits _ _ _
-follows_suits (Note t) (Denied rule detail) last front state v c x hv hx = finish_suits _ _ _
-follows_suits Finish (Denied rule detail) last front state v c x hv hx = finish_suits _ _ _
+follows_suits _ (Denied rule detail) last front state v c x hv hx = finish_suits _ _ _
 follows_suits Banner (Done body) last front state v c x hv hx = say_suits _ v c x (untrue v hv) (untrue x hx)
 follows_suits (Challenge user) (Done body) last front state v c x hv hx = say_suits _ v _ x (untrue v hv) (untrue x hx)
 follows_suits (Reply text) (Done body) last front state v c x hv hx =
     record { cell = refl; no_banner = refl; first_export = λ e. untrue x hx; closing = λ e. refl; last = λ e. absurd (cc (hx e)) }
 follows_suits Abandon (Done body) last front state v c x hv hx = say_suits _ v _ x (untrue v hv) (untrue x hx)
-follows_suits (Export s) (Done body) last front state v c x hv hx = finish_suits _ _ _
-follows_suits Import (Done body) last front state v c x hv hx = finish_suits _ _ _
 follows_suits (ReadAt h o m) (Done []) last front state v c x hv hx = finish_suits _ _ _
 follows_suits (ReadAt h o m) (Done (b ∷ body)) last front state v c x hv hx = next_suits front v c x (untrue v hv) (untrue x hx)
 follows_suits (WriteAt h o b) (Done body) last front state v c x hv hx = last_suits last front v c x (untrue v hv) (untrue x hx)
-follows_suits (OpenFile m n) (Done body) last front state v c x hv hx = finish_suits _ _ _
-follows_suits (CloseFile h) (Done body) last front state v c x hv hx = finish_suits _ _ _
-follows_suits (Info n) (Done body) last front state v c x hv hx = finish_suits _ _ _
-follows_suits (Note t) (Done body) last front state v c x hv hx = finish_suits _ _ _
-follows_suits Finish (Done body) last front state v c x hv hx = finish_suits _ _ _
+follows_suits _ (Done body) last front state v c x hv hx = finish_suits _ _ _
 
 -- a request that suits has a cell that allows it
 cell_of : (request : RequestValue) (v c x had : Bool) → Suits request v c x → (is_export request ≡ true → had ≡ x) → row_allows (table_row (phase_by x v c) (kind_of request)) had ≡ true
@@ -128,7 +112,6 @@ cell_of Abandon false false false had suits same = absurd (cc suits.cell)
 cell_of (Export state) v c true had suits same = absurd (cc (suits.first_export refl))
 cell_of (Export state) true c false had suits same = ap not (same refl)
 cell_of (Export state) false c false had suits same = absurd (cc suits.cell)
-cell_of Import v c x had suits same = absurd (cc suits.cell)
 cell_of (ReadAt h o m) v c true had suits same = refl
 cell_of (ReadAt h o m) true c false had suits same = refl
 cell_of (ReadAt h o m) false true false had suits same = refl
@@ -137,9 +120,6 @@ cell_of (WriteAt h o b) v c true had suits same = refl
 cell_of (WriteAt h o b) true c false had suits same = refl
 cell_of (WriteAt h o b) false true false had suits same = refl
 cell_of (WriteAt h o b) false false false had suits same = refl
-cell_of (OpenFile m n) v c x had suits same = absurd (cc suits.cell)
-cell_of (CloseFile h) v c x had suits same = absurd (cc suits.cell)
-cell_of (Info n) v c x had suits same = absurd (cc suits.cell)
 cell_of (Note t) v c true had suits same = refl
 cell_of (Note t) true c false had suits same = refl
 cell_of (Note t) false true false had suits same = refl
@@ -148,22 +128,12 @@ cell_of Finish v c true had suits same = refl
 cell_of Finish true c false had suits same = refl
 cell_of Finish false true false had suits same = refl
 cell_of Finish false false false had suits same = refl
+cell_of _ v c x had suits same = absurd (cc suits.cell)
 
 -- the two tests of an export are one
 same_export : (request : RequestValue) → is_of kinds.Export request ≡ is_export request
-same_export Banner = refl
-same_export (Challenge user) = refl
-same_export (Reply text) = refl
-same_export Abandon = refl
 same_export (Export state) = refl
-same_export Import = refl
-same_export (ReadAt h o m) = refl
-same_export (WriteAt h o b) = refl
-same_export (OpenFile m n) = refl
-same_export (CloseFile h) = refl
-same_export (Info n) = refl
-same_export (Note t) = refl
-same_export Finish = refl
+same_export _ = refl
 
 had_export : (history : List Exchange) → was_had (is_of kinds.Export) history ≡ was_had is_export history
 had_export [] = refl
@@ -171,18 +141,7 @@ had_export (e ∷ before) = ap (λ (b : Bool). (b && is_permitted e.answer) || w
 
 same_had : (request : RequestValue) (history : List Exchange) → is_export request ≡ true → was_had (is_of (kind_of request)) history ≡ was_had is_export history
 same_had (Export state) history e = had_export history
-same_had Banner history e = absurd (cc)
-same_had (Challenge user) history e = absurd (cc)
-same_had (Reply text) history e = absurd (cc)
-same_had Abandon history e = absurd (cc)
-same_had Import history e = absurd (cc)
-same_had (ReadAt h o m) history e = absurd (cc)
-same_had (WriteAt h o b) history e = absurd (cc)
-same_had (OpenFile m n) history e = absurd (cc)
-same_had (CloseFile h) history e = absurd (cc)
-same_had (Info n) history e = absurd (cc)
-same_had (Note t) history e = absurd (cc)
-same_had Finish history e = absurd (cc)
+same_had _ history e = absurd (cc)
 
 -- the request that follows these exchanges suits them
 record IsProper (history : List Exchange) : Type 0 where

@@ -2,7 +2,7 @@
 use Rattle.std.proofs.Common.{◌≡◌, ℕ, zero, suc, Bool, true, false, cond, List, [], ◌∷◌, ◌++◌, codes, refl, subst, Some, Result, Ok, Err}
 use Rattle.std.specs.Str.{bytes_eq}
 use Rattle.std.specs.Prelude.{◌==◌, ◌&&◌}
-use Rattle.request_catalogue.specs.Catalogue.{RequestValue, kind_of, Banner, Challenge, Reply, Abandon, Export, Import, ReadAt, WriteAt, OpenFile, CloseFile, Info, Note, Finish}
+use Rattle.request_catalogue.specs.Catalogue.{RequestValue, kind_of, Import, ReadAt, WriteAt, OpenFile, CloseFile, Finish}
 use Rattle.request_catalogue.specs.Replies.{AnswerValue, Done, Denied, Device}
 use Rattle.policy_model.specs.declared.phase.Phase.TheVariants as phases
 use Rattle.policy_model.specs.Phases.{table_row}
@@ -12,7 +12,7 @@ use Rattle.state_export.specs.Spelling.{ImportValue}
 use Rattle.child_protocol.specs.Lines.{Front, More, TooLong, Line}
 use Rattle.child_protocol.specs.Exchanges.{Exchange, ends_child, underway}
 use Rattle.child_protocol.specs.Pre.{say}
-use Rattle.child_protocol.specs.User.{Who, UserCommand, Get, Put, Tell, Remark, Leave, Unknown, command_at, file_text, greeting_of, handle_failed, opened_request, read_done, told_by, user_command, user_denied, user_done, user_failed, user_first, user_follows, user_is_last, user_next, user_request, write_done}
+use Rattle.child_protocol.specs.User.{Who, UserCommand, Get, command_at, file_text, greeting_of, handle_failed, opened_request, read_done, told_by, user_command, user_denied, user_done, user_failed, user_first, user_follows, user_is_last, user_next, user_request, write_done}
 use Rattle.child_protocol.specs.Says.{Role, Pre, User, exchanges_of, says}
 use Rattle.child_protocol.specs.Phases.{IsAllowed, is_of, row_allows, was_had}
 use Rattle.child_protocol.proofs.PhaseLemmas.{of_next, pre_allowed}
@@ -23,11 +23,7 @@ IsFree request = (had : Bool) → row_allows (table_row phases.User (kind_of req
 
 command_free : (command : UserCommand) → IsFree (user_request command)
 command_free (Get name) had = refl
-command_free (Put name text) had = refl
-command_free (Tell number) had = refl
-command_free (Remark text) had = refl
-command_free Leave had = refl
-command_free Unknown had = refl
+command_free _ had = refl
 
 first_free : (front : Front) → IsFree (user_first front)
 first_free More had = refl
@@ -52,11 +48,7 @@ greeting_free who (Ok found) had =
 
 opened_free : (command : UserCommand) (handle : ℕ) → IsFree (opened_request command handle)
 opened_free (Get name) handle had = refl
-opened_free (Put name text) handle had = refl
-opened_free (Tell number) handle had = refl
-opened_free (Remark text) handle had = refl
-opened_free Leave handle had = refl
-opened_free Unknown handle had = refl
+opened_free _ handle had = refl
 
 told_free : (request : RequestValue) (answer : AnswerValue) → IsFree (told_by request answer)
 told_free request (Device device) had = refl
@@ -64,28 +56,7 @@ told_free (ReadAt h o m) (Done body) had = refl
 told_free (ReadAt h o m) (Denied rule detail) had = refl
 told_free (WriteAt h o b) (Done body) had = refl
 told_free (WriteAt h o b) (Denied rule detail) had = refl
-told_free Banner (Done body) had = refl
-told_free Banner (Denied rule detail) had = refl
-told_free (Challenge user) (Done body) had = refl
-told_free (Challenge user) (Denied rule detail) had = refl
-told_free (Reply text) (Done body) had = refl
-told_free (Reply text) (Denied rule detail) had = refl
-told_free Abandon (Done body) had = refl
-told_free Abandon (Denied rule detail) had = refl
-told_free (Export s) (Done body) had = refl
-told_free (Export s) (Denied rule detail) had = refl
-told_free Import (Done body) had = refl
-told_free Import (Denied rule detail) had = refl
-told_free (OpenFile m n) (Done body) had = refl
-told_free (OpenFile m n) (Denied rule detail) had = refl
-told_free (CloseFile h) (Done body) had = refl
-told_free (CloseFile h) (Denied rule detail) had = refl
-told_free (Info n) (Done body) had = refl
-told_free (Info n) (Denied rule detail) had = refl
-told_free (Note t) (Done body) had = refl
-told_free (Note t) (Denied rule detail) had = refl
-told_free Finish (Done body) had = refl
-told_free Finish (Denied rule detail) had = refl
+told_free _ _ had = refl
 
 file_free : (before : List Exchange) → IsFree (file_text before)
 file_free [] had = refl
@@ -101,53 +72,25 @@ write_free zero last front had = either_free last Finish (user_first front) fini
 write_free (suc handle) last front had = refl
 
 done_free : (who : Who) (request : RequestValue) (body : List ℕ) (line : Front) (before : List Exchange) (front : Front) → IsFree (user_done who request body line before (user_first front))
-done_free who Banner body line before front had = refl
-done_free who (Challenge user) body line before front had = refl
-done_free who (Reply text) body line before front had = refl
-done_free who Abandon body line before front had = refl
-done_free who (Export s) body line before front had = refl
 done_free who Import body line before front had = greeting_free who (import_of body) had
 done_free who (ReadAt h o m) body line before front had = read_free h body front had
 done_free who (WriteAt h o b) body line before front had = write_free h (user_is_last line) front had
 done_free who (OpenFile m n) body line before front had = opened_free (command_at line) _ had
 done_free who (CloseFile h) body line before front had = file_free before had
-done_free who (Info n) body line before front had = refl
-done_free who (Note t) body line before front had = refl
-done_free who Finish body line before front had = refl
+done_free who _ body line before front had = refl
 
 denied_free : (request : RequestValue) (rule : ℕ) → IsFree (user_denied request rule)
-denied_free Banner rule had = refl
-denied_free (Challenge user) rule had = refl
-denied_free (Reply text) rule had = refl
-denied_free Abandon rule had = refl
-denied_free (Export s) rule had = refl
-denied_free Import rule had = refl
-denied_free (ReadAt h o m) rule had = refl
-denied_free (WriteAt h o b) rule had = refl
 denied_free (OpenFile m n) rule had = refl
-denied_free (CloseFile h) rule had = refl
-denied_free (Info n) rule had = refl
-denied_free (Note t) rule had = refl
-denied_free Finish rule had = refl
+denied_free _ rule had = refl
 
 handle_free : (handle : ℕ) → IsFree (handle_failed handle)
 handle_free zero had = refl
 handle_free (suc handle) had = refl
 
 failed_free : (request : RequestValue) → IsFree (user_failed request)
-failed_free Banner had = refl
-failed_free (Challenge user) had = refl
-failed_free (Reply text) had = refl
-failed_free Abandon had = refl
-failed_free (Export s) had = refl
-failed_free Import had = refl
 failed_free (ReadAt h o m) had = handle_free h had
 failed_free (WriteAt h o b) had = handle_free h had
-failed_free (OpenFile m n) had = refl
-failed_free (CloseFile h) had = refl
-failed_free (Info n) had = refl
-failed_free (Note t) had = refl
-failed_free Finish had = refl
+failed_free _ had = refl
 
 follows_free : (who : Who) (request : RequestValue) (answer : AnswerValue) (line : Front) (before : List Exchange) (front : Front) → IsFree (user_follows who request answer line before (user_first front))
 follows_free who request (Done body) line before front had = done_free who request body line before front had

@@ -11,8 +11,6 @@ pub mod Reading
 pub mod Cores
 pub mod Runs
 pub mod Places
-pub mod UserPlaces
-pub mod Holding
+pub mod Steps
 pub mod Stands
-pub mod UserStands
 pub mod Phases

@@ -1,156 +1,154 @@
--- Inner: what a pre-authentication child keeps, and the exchanges that it stands for.
-use Rattle.std.specs.Prelude.{◌≡◌, ℕ, suc, ◌*◌, ◌≤◌, ◌<◌, Bool, true, false, List, [], length, Some, None}
-use Rattle.request_catalogue.specs.declared.kind.Kind.{Kind}
-use Rattle.request_catalogue.specs.declared.kind.Kind.TheVariants as kinds
+-- Inner: the exchanges that a child stands for, by what it keeps.
+use Rattle.std.specs.Prelude.{◌≡◌, ℕ, suc, ◌*◌, ◌≤◌, Bool, false, true, List, [], length, Option}
 use Rattle.fixed_list.specs.FixedList.{list_of}
-use Rattle.request_catalogue.specs.Catalogue.{Challenge, Reply, Abandon, Export, Finish}
+use Rattle.request_catalogue.specs.TextBytes.{name_bytes}
+use Rattle.request_catalogue.specs.Catalogue.{RequestValue, Banner, Import}
 use Rattle.request_catalogue.specs.Replies.{AnswerValue}
-use Rattle.child_protocol.specs.Lines.{Front, More, TooLong, Line, HasLines, behind_lines, behind_line}
-use Rattle.child_protocol.specs.Commands.{pre_command}
-use Rattle.state_export.specs.Spelling.{StateValue}
+use Rattle.child_protocol.specs.Lines.{Front, HasLines, behind_lines}
 use Rattle.child_protocol.specs.Exchanges.{Exchange, client_bytes, texts_of, underway, is_challenged}
-use Rattle.child_protocol.specs.Pre.{say, read_more, pre_next, pre_is_last, terminal_in, terminal_at}
-use Rattle.child_protocol.specs.Says.{Pre, with_answer, exchanges_of}
-use Rattle.child_protocol.specs.Frames.{IsTurn}
-use Rattle.child_protocol.specs.Places.{place_by}
+use Rattle.child_protocol.specs.Pre.{say, pre_first, pre_is_last, terminal_in}
+use Rattle.child_protocol.specs.User.{Get, Put, command_at, file_text, user_first, user_is_last}
+use Rattle.child_protocol.specs.Says.{Role, Pre, User, next_request, exchanges_of}
+use Rattle.child_protocol.specs.Places.{Heard, Kept, asked_at}
 use Rattle.child_protocol.specs.declared.place.Place.{Place}
 use Rattle.child_protocol.specs.declared.place.Place.TheVariants as places
-use Rattle.child_protocol.specs.declared.form.Form.{Form}
-use Rattle.child_protocol.specs.declared.form.Form.TheVariants as forms
-use Rattle.child_protocol.specs.declared.turn.Turn.{Turn}
-use Rattle.child_protocol.specs.declared.pre.PreDialogue.{PreDialogue}
+use Rattle.child_protocol.specs.declared.child.Child.{Child}
+use Rattle.child_protocol.specs.declared.dialogue.Dialogue.{Dialogue}
+use Rattle.child_protocol.specs.declared.dialogue.Whose.{Whose}
+use Rattle.child_protocol.specs.declared.dialogue.Whose.TheVariants as whose
 
--- what a child keeps
-pub record Kept : Type 0 where
-  pub place : Place
-  pub held : List ℕ
-  pub terminal : List ℕ
-  pub challenged : Bool
-  pub lines : ℕ
-  pub read : ℕ
-
-abbrev pub kept_of : PreDialogue → Kept
+abbrev pub kept_of : Dialogue → Kept
 kept_of core =
     record {
       place = core.place;
-      held = core.held.items;
-      terminal = list_of core.terminal;
-      challenged = core.challenged;
-      lines = core.lines;
-      read = core.read;
+      heard =
+          record {
+            held = core.held.items;
+            terminal = list_of core.terminal;
+            challenged = core.challenged;
+            lines = core.lines;
+            read = core.read;
+          };
+      text = core.text.items;
+      handle = core.handle;
     }
 
+abbrev pub role_value : Whose → Role
+role_value whose.Pre = Pre
+role_value (whose.User uid name) = User (record { uid = uid; name = name_bytes name })
+
+-- what a child keeps that asked nothing yet
+abbrev pub fresh : Kept
+fresh =
+    record {
+      place = places.New;
+      heard = record { held = []; terminal = []; challenged = false; lines = 0; read = 0 };
+      text = [];
+      handle = 0;
+    }
+
+-- what a child asks first, and where
+abbrev pub first_place : Role → Place
+first_place Pre = places.Greeting
+first_place (User who) = places.Importing
+
+abbrev pub first_request : Role → RequestValue
+first_request Pre = Banner
+first_request (User who) = Import
+
+-- what the front of the client's bytes leads to
+abbrev pub line_request : Role → Front → Bool → RequestValue
+line_request Pre front challenged = pre_first front challenged
+line_request (User who) front challenged = user_first front
+
+-- after the text for this line comes FINISH
+abbrev pub is_last : Role → Front → Bool
+is_last Pre front = pre_is_last front
+is_last (User who) front = user_is_last front
+
+-- the terminal and the count of bytes, which only the child before the login exports
+abbrev pub HasState : Role → Heard → List ℕ → Type 0
+HasState Pre heard bytes = (heard.terminal ≡ terminal_in heard.lines bytes) × (heard.read ≡ length bytes)
+HasState (User who) heard bytes = Unit {0}
+
 -- the bytes, lines and choices kept are those of the exchanges
-pub record Keeps (kept : Kept) (history : List Exchange) : Type 0 where
-  pub held : kept.held ≡ behind_lines kept.lines (client_bytes history)
-  pub whole : HasLines kept.lines (client_bytes history)
-  pub terminal : kept.terminal ≡ terminal_in kept.lines (client_bytes history)
-  pub challenged : kept.challenged ≡ is_challenged history
-  pub read : kept.read ≡ length (client_bytes history)
-  pub few_lines : kept.lines ≤ length history
-  pub few_bytes : kept.read ≤ 512 * length history
+pub record Keeps (role : Role) (heard : Heard) (history : List Exchange) : Type 0 where
+  pub held : heard.held ≡ behind_lines heard.lines (client_bytes history)
+  pub whole : HasLines heard.lines (client_bytes history)
+  pub state : HasState role heard (client_bytes history)
+  pub challenged : heard.challenged ≡ is_challenged history
+  pub few_lines : heard.lines ≤ length history
+  pub few_bytes : heard.read ≤ 512 * length history
 
 -- a line, or the greeting, is underway, and after its text comes the next line
-pub record IsOnLine (kept : Kept) (history : List Exchange) : Type 0 where
-  pub keeps : Keeps kept history
-  pub texts : texts_of history ≡ kept.lines
-  pub goes_on : pre_is_last (underway history) ≡ false
+pub record IsOnLine (role : Role) (heard : Heard) (history : List Exchange) : Type 0 where
+  pub keeps : Keeps role heard history
+  pub texts : texts_of history ≡ heard.lines
+  pub goes_on : is_last role (underway history) ≡ false
 
 -- less than a line is held, and more bytes were asked for
-pub record IsReading (kept : Kept) (history : List Exchange) : Type 0 where
-  pub keeps : Keeps kept history
-  pub texts : texts_of history ≡ suc kept.lines
-  pub short : length kept.held ≤ 300
+pub record IsReading (role : Role) (heard : Heard) (history : List Exchange) : Type 0 where
+  pub keeps : Keeps role heard history
+  pub texts : texts_of history ≡ suc heard.lines
+  pub short : length heard.held ≤ 300
 
--- what was asked last, by the place in the dialogue, and what is kept then
-abbrev pub IsAt : Place → Kept → List Exchange → Type 0
-IsAt places.New kept history = (history ≡ []) × IsOnLine kept []
-IsAt places.Greeting kept history = (history ≡ []) × IsOnLine kept []
-IsAt places.Saying kept history = ((text : List ℕ) × (pre_next history ≡ Some (say text))) × IsOnLine kept history
-IsAt places.Parting kept history =
-    ((text : List ℕ) × (pre_next history ≡ Some (say text))) × (pre_is_last (underway history) ≡ true)
-IsAt places.Reading kept history = (pre_next history ≡ Some read_more) × IsReading kept history
-IsAt places.Challenging kept history =
-    ((user : List ℕ) × (pre_next history ≡ Some (Challenge user))) × IsOnLine kept history
-IsAt places.Replying kept history = ((text : List ℕ) × (pre_next history ≡ Some (Reply text))) × IsOnLine kept history
-IsAt places.Abandoning kept history = (pre_next history ≡ Some Abandon) × IsOnLine kept history
-IsAt places.Exporting kept history = (state : List ℕ) × (pre_next history ≡ Some (Export state))
-IsAt places.Finishing kept history = pre_next history ≡ Some Finish
-IsAt places.Ended kept history = pre_next history ≡ None
+abbrev pub IsPre : Role → Type 0
+IsPre Pre = Unit {0}
+IsPre (User who) = ⊥
+
+abbrev pub IsUser : Role → Type 0
+IsUser Pre = ⊥
+IsUser (User who) = Unit {0}
+
+-- how the exchanges are at a place, by the text that was asked with
+abbrev pub IsLineAt : Place → Role → Kept → List ℕ → List Exchange → Type 0
+IsLineAt places.New role kept word history = ⊥
+IsLineAt places.Greeting role kept word history = IsPre role × IsOnLine role kept.heard history
+IsLineAt places.Importing role kept word history = IsUser role × (history ≡ []) × IsOnLine role kept.heard history
+IsLineAt places.Saying role kept word history = IsOnLine role kept.heard history
+IsLineAt places.Parting role kept word history = is_last role (underway history) ≡ true
+IsLineAt places.Reading role kept word history = IsReading role kept.heard history
+IsLineAt places.Challenging role kept word history = IsPre role × IsOnLine role kept.heard history
+IsLineAt places.Replying role kept word history = IsPre role × IsOnLine role kept.heard history
+IsLineAt places.Abandoning role kept word history = IsPre role × IsOnLine role kept.heard history
+IsLineAt places.Exporting role kept word history = IsPre role × Unit {0}
+IsLineAt places.OpeningGet role kept word history =
+    IsUser role × IsOnLine role kept.heard history × (command_at (underway history) ≡ Get word)
+IsLineAt places.OpeningPut role kept word history =
+    IsUser role × IsOnLine role kept.heard history × (command_at (underway history) ≡ Put word kept.text)
+    × (1 ≤ length kept.text)
+IsLineAt places.Getting role kept word history = IsUser role × IsOnLine role kept.heard history × (1 ≤ kept.handle)
+IsLineAt places.Putting role kept word history = IsUser role × IsOnLine role kept.heard history × (1 ≤ kept.handle)
+IsLineAt places.Closing role kept word history =
+    IsUser role × IsOnLine role kept.heard history × (file_text history ≡ say kept.text) × (1 ≤ length kept.text)
+IsLineAt places.Noting role kept word history = IsUser role × IsOnLine role kept.heard history
+IsLineAt places.Asking role kept word history = IsUser role × IsOnLine role kept.heard history
+IsLineAt places.Finishing role kept word history = Unit {0}
+IsLineAt places.Ended role kept word history = Unit {0}
+
+-- this is asked after these exchanges, at the place where the child is
+pub record IsAt (role : Role) (kept : Kept) (asks : Option RequestValue) (history : List Exchange) : Type 0 where
+  pub word : List ℕ
+  pub number : ℕ
+  pub asks_is : asks ≡ asked_at kept.place kept word number
+  pub next : next_request role history ≡ asks
+  pub line : IsLineAt kept.place role kept word history
 
 -- a child that keeps this stands for these exchanges
-abbrev pub Stands : Kept → List Exchange → Type 0
-Stands kept history = IsAt kept.place kept history
-
--- what is kept after what stands in front
-abbrev pub kept_behind : Front → Kept → Kept
-kept_behind More kept = record kept { place = places.Reading }
-kept_behind TooLong kept = record kept { place = places.Parting }
-kept_behind (Line text) kept = record kept {
-  place = place_by (pre_command text) kept.challenged;
-  held = behind_line kept.held;
-  terminal = terminal_at (Line text) kept.terminal;
-  lines = suc kept.lines;
-}
-
--- the same at a text
-abbrev pub at_saying : Kept → Kept
-at_saying kept = record kept { place = places.Saying }
-
--- the state that is left
-abbrev pub kept_state : Kept → StateValue
-kept_state kept = record { terminal = kept.terminal; unread = kept.held; lines = kept.lines; bytes = kept.read }
-
--- after a turn: what is kept stands for the exchanges, and the turn asks what follows them
-pub record TakesTo (history : List Exchange) (kept : Kept) (turn : Turn) (old new : List ℕ) : Type 0 where
-  pub stands : Stands kept history
-  pub asks : IsTurn (pre_next history) turn old new
-
--- of any exchanges that it stood for, a child takes an answer
-abbrev pub Takes : Kept → AnswerValue → Kept → Turn → List ℕ → List ℕ → Type 0
-Takes before answer after turn old new =
-    (history : List Exchange) → Stands before history → TakesTo (with_answer Pre history answer) after turn old new
-
--- a child stands for fewer exchanges than a run has
-abbrev pub HasRun : Kept → Type 0
-HasRun kept = (history : List Exchange) × Stands kept history × (length history < 4097)
-
--- something is asked there
-abbrev pub IsAsked : Place → Type 0
-IsAsked places.New = ⊥
-IsAsked places.Ended = ⊥
-IsAsked _ = Unit {0}
-
--- what is asked there, and what the body of its reply may be
-abbrev pub kind_at : Place → Kind
-kind_at places.New = kinds.Finish
-kind_at places.Greeting = kinds.Banner
-kind_at places.Saying = kinds.WriteAt
-kind_at places.Parting = kinds.WriteAt
-kind_at places.Reading = kinds.ReadAt
-kind_at places.Challenging = kinds.Challenge
-kind_at places.Replying = kinds.Reply
-kind_at places.Abandoning = kinds.Abandon
-kind_at places.Exporting = kinds.Export
-kind_at places.Finishing = kinds.Finish
-kind_at places.Ended = kinds.Finish
-
-abbrev pub form_at : Place → Form
-form_at places.Greeting = forms.AtMost 200
-form_at places.Reading = forms.AtMost 512
-form_at places.Challenging = forms.Challenge
-form_at places.Exporting = forms.Never
-form_at _ = forms.Nothing
+abbrev pub Stands : Role → Kept → List Exchange → Type 0
+Stands role kept history = (asks : Option RequestValue) × IsAt role kept asks history
 
 -- a child stands for these answers
-abbrev pub StandsFor : Kept → List AnswerValue → Type 0
-StandsFor kept answers = Stands kept (exchanges_of Pre answers)
+abbrev pub StandsFor : Role → Kept → List AnswerValue → Type 0
+StandsFor role kept answers = Stands role kept (exchanges_of role answers)
 
--- a child stands for fewer answers than a run has
-abbrev pub HasAnswers : Kept → Type 0
-HasAnswers kept = (answers : List AnswerValue) × StandsFor kept answers × (length answers < 4097)
+-- a child's dialogue, and the answers that it stands for
+abbrev pub role_in : Child → Role
+role_in child = role_value child.whose
 
--- nothing was asked yet
-pub record IsNew (kept : Kept) : Type 0 where
-  pub place : kept.place ≡ places.New
-  pub stands : Stands kept []
+abbrev pub stands_for : Child → List AnswerValue → Type 0
+stands_for child answers = StandsFor (role_in child) (kept_of child.dialogue) answers
+
+-- it asked nothing yet
+abbrev pub IsNew : Child → Type 0
+IsNew child = kept_of child.dialogue ≡ fresh

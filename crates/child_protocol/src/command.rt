@@ -85,19 +85,20 @@ fn respond_of(text: &[u8]) -> Command<'_>
     }
 }
 
-/// What a command leads to first.
-pub(crate) fn request_for<'a>(command: Command<'a>, challenged: bool) -> Request<'a>
+/// Where a command leads to, and what is asked there.
+pub(crate) fn first_of<'a>(command: Command<'a>, challenged: bool) -> (Place, Request<'a>)
     requires { IsLegal (command_value command) }
-    ensures value { value_of result ≡ pre_request (command_value command.entry) challenged }
-    ensures in_range { IsInRange frame_width (value_of result) }
+    ensures place { result.0 ≡ place_by (command_value command.entry) challenged }
+    ensures value { value_of result.1 ≡ pre_request (command_value command.entry) challenged }
+    ensures in_range { IsInRange frame_width (value_of result.1) }
 {
     match (command, challenged) {
-        (Command::Terminal { .. }, _) => say(b"done\n"),
-        (Command::User { name }, false) => Request::Challenge { user: name },
-        (Command::Respond { text }, true) => Request::Reply { text },
-        (Command::Cancel, true) => Request::Abandon,
-        (Command::Quit, _) => say(b"bye\n"),
-        _ => say(b"what\n"),
+        (Command::Terminal { .. }, _) => (Place::Saying, say(b"done\n")),
+        (Command::User { name }, false) => (Place::Challenging, Request::Challenge { user: name }),
+        (Command::Respond { text }, true) => (Place::Replying, Request::Reply { text }),
+        (Command::Cancel, true) => (Place::Abandoning, Request::Abandon),
+        (Command::Quit, _) => (Place::Parting, say(b"bye\n")),
+        _ => (Place::Saying, say(b"what\n")),
     }
 }
 
@@ -109,18 +110,5 @@ pub(crate) fn say(bytes: &[u8]) -> Request<'_>
         handle: 0,
         offset: 0,
         bytes,
-    }
-}
-
-/// Where a command leads to.
-pub(crate) fn place_for(command: &Command<'_>, challenged: bool) -> Place
-    ensures { result ≡ place_by (command_value command.now) challenged }
-{
-    match (command, challenged) {
-        (Command::User { .. }, false) => Place::Challenging,
-        (Command::Respond { .. }, true) => Place::Replying,
-        (Command::Cancel, true) => Place::Abandoning,
-        (Command::Quit, _) => Place::Parting,
-        _ => Place::Saying,
     }
 }

@@ -1,9 +1,10 @@
 //! Frames of requests.
 
-ghost use Rattle.std.specs.Prelude.{◌≡◌, ◌≤◌, length};
+ghost use Rattle.std.specs.Prelude.{◌≡◌, ◌≤◌, Some, length};
 ghost use Rattle.request_catalogue.specs.Catalogue.{value_of, IsInRange};
-ghost use Rattle.child_protocol.specs.Frames.{IsPut, frame_width};
+ghost use Rattle.child_protocol.specs.Frames.{IsPut, IsTurn, frame_width};
 
+use crate::turn::Turn;
 use imsg_frame::compose;
 use request_catalogue::{Request, Width, write_request};
 
@@ -28,4 +29,14 @@ pub(crate) fn put_frame(request: &Request<'_>, out: &mut [u8]) -> usize
         unreachable!()
     };
     len
+}
+
+/// A turn that asks this.
+pub(crate) fn ask(request: &Request<'_>, out: &mut [u8]) -> Turn
+    requires in_range { IsInRange frame_width (value_of request.now) }
+    requires room { 16384 ≤ length out.old }
+    ensures { IsTurn (Some (value_of request.now)) result out.old out.new }
+{
+    let len = put_frame(request, out);
+    Turn::Asked { len }
 }

@@ -5,25 +5,19 @@
 #![tactic(auto)]
 
 mod child;
-mod child_core;
 mod command;
+mod dialogue;
 mod form;
 mod frame;
 mod line;
 mod place;
-mod pre;
 mod reply;
 pub mod rows;
 mod run;
 mod text;
 mod turn;
-mod user;
-mod user_child;
 mod user_command;
-mod user_place;
 
-pub use child::PreChild;
-pub use child_core::ChildCore;
+pub use child::Child;
 pub use run::{ChildEnd, run_child};
 pub use turn::Turn;
-pub use user_child::UserChild;

@@ -7,9 +7,11 @@ ghost use Rattle.request_catalogue.specs.Replies.{AnswerValue};
 ghost use Rattle.outside.specs.Told.{Rose};
 ghost use Rattle.child_protocol.specs.Frames.{frame_width};
 ghost use Rattle.child_protocol.specs.Cores.{IsShort, TakesMessage, WhereAsked};
+ghost use Rattle.child_protocol.specs.Places.{IsAsked};
+ghost use Rattle.child_protocol.specs.Stands.{IsNew, role_in, stands_for};
 ghost use Rattle.child_protocol.specs.Runs.{Brings, HasRun, Hears, Receives};
 
-use crate::child_core::ChildCore;
+use crate::child::Child;
 use crate::turn::Turn;
 use imsg_frame::{Frame, Next, Reader};
 use outside::{Failed, Stream};
@@ -61,27 +63,27 @@ fn receive<E: Stream>(link: &mut E, reader: &mut Reader) -> Option<ChildEnd>
 }
 
 /// Waits for the next frame, and lets the child take it.
-fn hear<C: ChildCore, E: Stream>(
-    core: &mut C,
+fn hear<E: Stream>(
+    core: &mut Child,
     link: &mut E,
     reader: &mut Reader,
     out: &mut [u8],
 ) -> Result<Turn, ChildEnd>
-    requires asked { C.is_asked core.old }
-    requires run { IsShort (C.stands core.old) }
+    requires asked { IsAsked core.old.dialogue.place }
+    requires run { IsShort (stands_for core.old) }
     requires width { reader.old.width ≡ frame_width }
     requires max { reader.old.max ≡ 16384 }
     requires within { length reader.old.bytes ≤ reader.old.max }
     requires room { 16384 ≤ length out.old }
-    ensures role { C.role core.new ≡ C.role core.old }
-    ensures session { C.session core.new ≡ C.session core.old }
-    ensures asked { IfOk result (λ turn. WhereAsked turn (C.is_asked core.new)) }
+    ensures role { role_in core.new ≡ role_in core.old }
+    ensures session { core.new.session ≡ core.old.session }
+    ensures asked { IfOk result (λ turn. WhereAsked turn (IsAsked core.new.dialogue.place)) }
     ensures width { reader.new.width ≡ frame_width }
     ensures max { reader.new.max ≡ 16384 }
     ensures within { length reader.new.bytes ≤ reader.new.max }
     ensures hears { (bytes : List ℕ) × Receives reader.old.bytes bytes (E.link link.old) (E.link link.new)
-        × Hears result (λ message turn. (answers : List AnswerValue) → C.stands core.old answers
-        → TakesMessage (C.role core.old) (C.session core.old) answers message (C.stands core.new) turn out.old out.new)
+        × Hears result (λ message turn. (answers : List AnswerValue) → stands_for core.old answers
+        → TakesMessage (role_in core.old) core.old.session answers message (stands_for core.new) turn out.old out.new)
         bytes reader.new.bytes (E.link link.new) }
     ensures fault { result ≡ Err ChildEnd.LinkFault → Rose (E.faults link.old) (E.faults link.new) }
     ensures faults { E.faults link.old ≤ E.faults link.new }
@@ -104,23 +106,23 @@ fn hear<C: ChildCore, E: Stream>(
 }
 
 /// Runs a child over its link.
-pub fn run_child<C: ChildCore, E: Stream>(
-    core: &mut C,
+pub fn run_child<E: Stream>(
+    core: &mut Child,
     link: &mut E,
     reader: &mut Reader,
     out: &mut [u8],
 ) -> ChildEnd
-    requires new { C.is_new core.old }
+    requires new { IsNew core.old }
     requires empty { reader.old.bytes ≡ [] }
     requires width { reader.old.width ≡ frame_width }
     requires max { reader.old.max ≡ 16384 }
     requires room { 16384 ≤ length out.old }
-    ensures run { HasRun (C.role core.old) (C.session core.old) result (E.link link.old) (E.link link.new) }
+    ensures run { HasRun (role_in core.old) core.old.session result (E.link link.old) (E.link link.new) }
     ensures fault { result ≡ ChildEnd.LinkFault → Rose (E.faults link.old) (E.faults link.new) }
     ensures faults { E.faults link.old ≤ E.faults link.new }
     ensures link_role { E.role link.new ≡ E.role link.old }
-    ensures role { C.role core.new ≡ C.role core.old }
-    ensures session { C.session core.new ≡ C.session core.old }
+    ensures role { role_in core.new ≡ role_in core.old }
+    ensures session { core.new.session ≡ core.old.session }
     ensures width { reader.new.width ≡ frame_width }
     ensures max { reader.new.max ≡ 16384 }
 {

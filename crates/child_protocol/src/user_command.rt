@@ -7,10 +7,10 @@ ghost use Rattle.child_protocol.specs.User.{Get, Remark, IsLegalUser, if_legal, 
 ghost use Rattle.child_protocol.specs.User.{put_parts, space_in, tell_command, user_command, user_request};
 ghost use Rattle.child_protocol.specs.Frames.{frame_width};
 ghost use Rattle.child_protocol.specs.Reading.{line_value};
-ghost use Rattle.child_protocol.specs.UserPlaces.{user_place_by};
+ghost use Rattle.child_protocol.specs.Places.{user_place_by};
 
 use crate::command::say;
-use crate::user_place::UserPlace;
+use crate::place::Place;
 use request_catalogue::{Label, Note, Request, are_printable};
 use text_line::long_of;
 
@@ -133,32 +133,19 @@ fn remark_of(text: &[u8]) -> UserLine<'_>
     }
 }
 
-/// What a command leads to first.
-pub(crate) fn user_request_for<'a>(command: &UserLine<'a>) -> Request<'a>
+/// Where a command leads to, and what is asked there.
+pub(crate) fn user_first_of<'a>(command: &UserLine<'a>) -> (Place, Request<'a>)
     requires { IsLegalUser (line_value command.now) }
-    ensures value { value_of result ≡ user_request (line_value command.now) }
-    ensures in_range { IsInRange frame_width (value_of result) }
+    ensures place { result.0 ≡ user_place_by (line_value command.now) }
+    ensures value { value_of result.1 ≡ user_request (line_value command.now) }
+    ensures in_range { IsInRange frame_width (value_of result.1) }
 {
     match *command {
-        UserLine::Get { name } => Request::OpenFile { mode: 1, name },
-        UserLine::Put { name, .. } => Request::OpenFile { mode: 2, name },
-        UserLine::Tell { number } => Request::Info { number },
-        UserLine::Remark { text } => Request::Note { text },
-        UserLine::Leave => say(b"bye\n"),
-        UserLine::Unknown => say(b"what\n"),
-    }
-}
-
-/// Where a command leads to.
-pub(crate) fn user_place_for(command: &UserLine<'_>) -> UserPlace
-    ensures { result ≡ user_place_by (line_value command.now) }
-{
-    match command {
-        UserLine::Get { .. } => UserPlace::OpeningGet,
-        UserLine::Put { .. } => UserPlace::OpeningPut,
-        UserLine::Tell { .. } => UserPlace::Asking,
-        UserLine::Remark { .. } => UserPlace::Noting,
-        UserLine::Leave => UserPlace::Parting,
-        UserLine::Unknown => UserPlace::Saying,
+        UserLine::Get { name } => (Place::OpeningGet, Request::OpenFile { mode: 1, name }),
+        UserLine::Put { name, .. } => (Place::OpeningPut, Request::OpenFile { mode: 2, name }),
+        UserLine::Tell { number } => (Place::Asking, Request::Info { number }),
+        UserLine::Remark { text } => (Place::Noting, Request::Note { text }),
+        UserLine::Leave => (Place::Parting, say(b"bye\n")),
+        UserLine::Unknown => (Place::Saying, say(b"what\n")),
     }
 }

@@ -4,8 +4,9 @@
 mod lines;
 
 ghost use Rattle.std.specs.Prelude.{◌≡◌, ◌<◌, ◌≤◌, IfSome};
+ghost use Rattle.child_protocol.specs.Stands.{IsNew};
 
-use child_protocol::{ChildCore, ChildEnd, PreChild, Turn, UserChild, run_child};
+use child_protocol::{Child, ChildEnd, Turn, run_child};
 use imsg_frame::{Frame, Header, Reader};
 use outside_memory::{CallKind, Fail, MemStream};
 use request_catalogue::{Name, Width};
@@ -91,14 +92,14 @@ fn rows_of(alloc: Global, replies: &str, requests: &str) -> Result<Rows, AllocEr
 
 /// Whether a child that is sent the replies in pieces of a length ends so, and has sent just the
 /// requests.
-fn asks<C: ChildCore>(
+fn asks(
     alloc: Global,
-    child: &mut C,
+    child: &mut Child,
     rows: &Rows,
     piece: usize,
     end: ChildEnd,
 ) -> Result<bool, AllocError>
-    requires new { C.is_new child.old }
+    requires new { IsNew child.old }
     requires some { 1 ≤ piece }
 {
     let mut link = MemStream::new(alloc, &rows.replies, &[piece], &[])?;
@@ -111,9 +112,9 @@ fn asks<C: ChildCore>(
 /// Whether the child before the login, of session 7, ends so and asks just this, however the replies
 /// are cut.
 fn pre_asks(alloc: Global, rows: &Rows, end: ChildEnd) -> Result<bool, AllocError> {
-    let whole = asks(alloc, &mut PreChild::new(7), rows, 16_384, end)?;
-    let sevens = asks(alloc, &mut PreChild::new(7), rows, 7, end)?;
-    let ones = asks(alloc, &mut PreChild::new(7), rows, 1, end)?;
+    let whole = asks(alloc, &mut Child::pre(7), rows, 16_384, end)?;
+    let sevens = asks(alloc, &mut Child::pre(7), rows, 7, end)?;
+    let ones = asks(alloc, &mut Child::pre(7), rows, 1, end)?;
     Ok(whole && sevens && ones)
 }
 
@@ -123,9 +124,9 @@ fn bob_asks(alloc: Global, rows: &Rows) -> Result<bool, AllocError> {
         return Ok(false);
     };
     let end = ChildEnd::Done;
-    let whole = asks(alloc, &mut UserChild::new(7, 1_001, bob), rows, 16_384, end)?;
-    let sevens = asks(alloc, &mut UserChild::new(7, 1_001, bob), rows, 7, end)?;
-    let ones = asks(alloc, &mut UserChild::new(7, 1_001, bob), rows, 1, end)?;
+    let whole = asks(alloc, &mut Child::user(7, 1_001, bob), rows, 16_384, end)?;
+    let sevens = asks(alloc, &mut Child::user(7, 1_001, bob), rows, 7, end)?;
+    let ones = asks(alloc, &mut Child::user(7, 1_001, bob), rows, 1, end)?;
     Ok(whole && sevens && ones)
 }
 
@@ -146,7 +147,7 @@ fn banner_reply(pid: u32) -> Frame<'static> {
 #[test]
 fn a_child_begins_with_the_banner(rt: HostRuntime) -> Result<(), Fault> {
     let mut out = vec![in rt.alloc(); 0; 16_384]?;
-    let mut child = PreChild::new(7);
+    let mut child = Child::pre(7);
     let len = child.begin(&mut out);
     assert!(rt; len == 16);
     assert!(rt;
@@ -166,7 +167,7 @@ fn a_child_begins_with_the_banner(rt: HostRuntime) -> Result<(), Fault> {
 #[test]
 fn another_session_s_reply_is_unreadable(rt: HostRuntime) -> Result<(), Fault> {
     let mut out = vec![in rt.alloc(); 0; 16_384]?;
-    let mut child = PreChild::new(7);
+    let mut child = Child::pre(7);
     let _len = child.begin(&mut out);
     let turn = child.take(&banner_reply(8), &mut out);
     assert!(rt; turn == Turn::Unreadable);
@@ -198,7 +199,7 @@ fn run_over(
     let mut link = MemStream::new(alloc, replies, &[piece], fails)?;
     let mut reader = Reader::new(alloc, Width::Narrow, Width::Narrow.frame_max())?;
     let mut out = vec![in alloc; 0; 16_384]?;
-    let mut child = PreChild::new(7);
+    let mut child = Child::pre(7);
     Ok(run_child(&mut child, &mut link, &mut reader, &mut out))
 }
 

@@ -1,9 +1,10 @@
 //! What the shipped children send over a link on which the monitor's replies came.
 
 ghost use Rattle.std.specs.Prelude.{◌≡◌, ◌≢◌, false, IfOk};
+ghost use Rattle.child_protocol.specs.Stands.{IsNew, role_in};
 ghost use Rattle.welcome_laws.specs.Shipped.{IsSaidWhole, role_session, shipped_role};
 
-use child_protocol::{ChildCore, ChildEnd, PreChild, UserChild, run_child};
+use child_protocol::{Child, ChildEnd, run_child};
 use imsg_frame::Reader;
 use outside::Role;
 use outside_memory::MemStream;
@@ -18,13 +19,13 @@ fn has_failed(end: ChildEnd) -> bool
 }
 
 /// What a child sends that is sent these replies.
-fn said_by<C: ChildCore>(
+fn said_by(
     alloc: Global,
-    child: &mut C,
+    child: &mut Child,
     replies: &[u8],
 ) -> Result<Vec<u8>, AllocError>
-    requires { C.is_new child.old }
-    ensures { IfOk result (λ said. IsSaidWhole (C.role child.old) (C.session child.old) replies.now said.items) }
+    requires { IsNew child.old }
+    ensures { IfOk result (λ said. IsSaidWhole (role_in child.old) child.old.session replies.now said.items) }
 {
     let mut link = MemStream::new(alloc, replies, &[4_096], &[])?;
     let mut reader = Reader::new(alloc, Width::Narrow, Width::Narrow.frame_max())?;
@@ -46,9 +47,9 @@ pub fn said_by_shipped(alloc: Global, role: &Role, replies: &[u8]) -> Result<Vec
     ensures { IfOk result (λ said. IsSaidWhole (shipped_role role.now) (role_session role.now) replies.now said.items) }
 {
     match *role {
-        Role::Pre { session } => said_by(alloc, &mut PreChild::new(session), replies),
+        Role::Pre { session } => said_by(alloc, &mut Child::pre(session), replies),
         Role::User { session, uid, user } => {
-            said_by(alloc, &mut UserChild::new(session, uid, user), replies)
+            said_by(alloc, &mut Child::user(session, uid, user), replies)
         }
     }
 }

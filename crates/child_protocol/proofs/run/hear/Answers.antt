@@ -5,6 +5,7 @@ use Rattle.imsg_frame.specs.Held.{Held}
 use Rattle.imsg_frame.specs.Message.{spelling_of}
 use Rattle.imsg_frame.specs.Cut.{IsPartialFront}
 use Rattle.child_protocol.specs.Frames.{frame_width}
+use Rattle.child_protocol.specs.Stands.{role_in, stands_for}
 use Rattle.child_protocol.specs.Runs.{Receives}
 use Rattle.child_protocol.proofs.Runs.{Receives-then, TookBy, bad_front, brought, frame_len, front_right, front_taken, nothing_taken, partial_front}
 use Rattle.child_protocol.proofs.run.hear.Goals as goal
@@ -27,15 +28,15 @@ returns-in-Frame-clause-hears g c =
     let lent = ap (λ (r : Held). r.bytes) c.contiguous.ensures.same in
     let taken = subst (λ b. old.bytes ≡ spelling_of frame_width (given_as header new.given) ++ b) (sym lent) (front_taken old new c.next.result header c.in-Frame.is c.loop-header.invariant.width c.next.ensures.after) in
     let told = c.in_front.ensures new.given new.bytes c.contiguous.ensures.value len in
-    let takes = subst (λ m. TookBy (g.C.ChildCore.role c.loop-header.core) (g.C.ChildCore.session c.loop-header.core) (g.C.ChildCore.stands c.loop-header.core) (g.C.ChildCore.stands c.take.new.self) c.loop-header.out c.take.new.out m c.take.result) told c.take.ensures.takes in (
+    let takes = subst (λ m. TookBy (role_in c.loop-header.core) c.loop-header.core.session (stands_for c.loop-header.core) (stands_for c.take.new.self) c.loop-header.out c.take.new.out m c.take.result) told c.take.ensures.takes in (
       old.bytes,
       c.loop-header.invariant.received,
       (
         message,
         front_right old.width old.max old.bytes new.given c.next.result header c.in-Frame.is c.loop-header.invariant.width c.loop-header.invariant.max c.next.ensures.answer,
         taken,
-        subst (λ k. TookBy (g.C.ChildCore.role k) (g.C.ChildCore.session k) (g.C.ChildCore.stands k) (g.C.ChildCore.stands c.take.new.self) c.args.out.now c.take.new.out message c.take.result) c.loop-header.invariant.core
-            (subst (λ o. TookBy (g.C.ChildCore.role c.loop-header.core) (g.C.ChildCore.session c.loop-header.core) (g.C.ChildCore.stands c.loop-header.core) (g.C.ChildCore.stands c.take.new.self) o c.take.new.out message c.take.result) c.loop-header.invariant.out takes),
+        subst (λ k. TookBy (role_in k) k.session (stands_for k) (stands_for c.take.new.self) c.args.out.now c.take.new.out message c.take.result) c.loop-header.invariant.core
+            (subst (λ o. TookBy (role_in c.loop-header.core) c.loop-header.core.session (stands_for c.loop-header.core) (stands_for c.take.new.self) o c.take.new.out message c.take.result) c.loop-header.invariant.out takes),
       ),
     )
 

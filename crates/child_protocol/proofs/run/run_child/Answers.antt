@@ -1,5 +1,7 @@
 use Rattle.std.proofs.Common.{length, refl, ap, ◌∙◌, arith, subst, Ok, Err}
 use Rattle.child_protocol.specs.Cores.{WhereAsked}
+use Rattle.child_protocol.specs.Places.{IsAsked}
+use Rattle.child_protocol.specs.Stands.{role_in, stands_for}
 use Rattle.child_protocol.specs.Runs.{Hears}
 use Rattle.child_protocol.specs.declared.turn.Turn.{Turn}
 use Rattle.child_protocol.specs.declared.run.ChildEnd.{ChildEnd}
@@ -9,7 +11,7 @@ use Rattle.child_protocol.proofs.run.run_child.Goals as goal
 pub loop-turn-init : goal.loop-turn-init
 loop-turn-init g c =
     record {
-      running = begun (g.C.ChildCore.role c.args.core.now) (g.C.ChildCore.session c.args.core.now) (g.C.ChildCore.stands c.begin-len.new.self) c.begin-len.result c.args.out.now c.begin-len.new.out c.args.reader.now.bytes (g.E.Stream.link c.args.link.now) c.requires.empty c.begin-len.ensures.stands c.begin-len.ensures.begun;
+      running = begun (role_in c.args.core.now) c.args.core.now.session (stands_for c.begin-len.new.self) c.begin-len.result c.args.out.now c.begin-len.new.out c.args.reader.now.bytes (g.E.Stream.link c.args.link.now) c.requires.empty c.begin-len.ensures.stands c.begin-len.ensures.begun;
       asked = c.begin-len.ensures.asked;
       role = c.begin-len.ensures.role;
       session = c.begin-len.ensures.session;
@@ -27,129 +29,41 @@ slice_bounds-send-end g c =
 
 pub returns-in_default-clause-run : goal.returns-in_default-clause-run
 returns-in_default-clause-run g c =
-    fault_sending (g.C.ChildCore.role c.args.core.now) (g.C.ChildCore.session c.args.core.now) (g.C.ChildCore.stands c.loop-turn.core) c.loop-turn._turn c.loop-turn.len c.loop-turn.out c.loop-turn.reader.bytes (g.E.Stream.link c.args.link.now) (g.E.Stream.link c.loop-turn.link) (g.E.Stream.link c.send.new.self) c.loop-turn.invariant.running c.loop-turn.auto._turn-end c.in_default.ensures.part
+    fault_sending (role_in c.args.core.now) c.args.core.now.session (stands_for c.loop-turn.core) c.loop-turn._turn c.loop-turn.len c.loop-turn.out c.loop-turn.reader.bytes (g.E.Stream.link c.args.link.now) (g.E.Stream.link c.loop-turn.link) (g.E.Stream.link c.send.new.self) c.loop-turn.invariant.running c.loop-turn.auto._turn-end c.in_default.ensures.part
 
 pub returns-in_default-clause-fault : goal.returns-in_default-clause-fault
 returns-in_default-clause-fault g c =
     λ e. Rose-within (g.E.Stream.faults c.args.link.now) (g.E.Stream.faults c.loop-turn.link) (g.E.Stream.faults c.send.new.self) (g.E.Stream.faults c.send.new.self) c.loop-turn.invariant.faults (counted (g.E.Stream.faults c.loop-turn.link) (g.E.Stream.faults c.send.new.self) c.in_default.ensures.counts) (omega arith)
 
-pub returns-in_default-clause-faults : goal.returns-in_default-clause-faults
-returns-in_default-clause-faults g c =
-    omega (arith, c.loop-turn.invariant.faults, c.in_default.ensures.kept)
-
-pub returns-in_default-clause-link_role : goal.returns-in_default-clause-link_role
-returns-in_default-clause-link_role g c =
-    c.in_default.ensures.role ∙ c.loop-turn.invariant.link_role
-
-pub returns-in_default-clause-role : goal.returns-in_default-clause-role
-returns-in_default-clause-role g c =
-    c.loop-turn.invariant.role
-
-pub returns-in_default-clause-session : goal.returns-in_default-clause-session
-returns-in_default-clause-session g c =
-    c.loop-turn.invariant.session
-
-pub returns-in_default-clause-max : goal.returns-in_default-clause-max
-returns-in_default-clause-max g c =
-    c.loop-turn.invariant.max
-
-pub returns-in_default-clause-width : goal.returns-in_default-clause-width
-returns-in_default-clause-width g c =
-    c.loop-turn.invariant.width
-
-pub hear-requires-clause-asked : goal.hear-requires-clause-asked
-hear-requires-clause-asked g c κs within =
-    c.loop-turn.invariant.asked
-
 pub hear-requires-clause-run : goal.hear-requires-clause-run
 hear-requires-clause-run g c κs within =
     (c.loop-turn.invariant.running.answers, c.loop-turn.invariant.running.stands_for, omega (arith, c.loop-turn.invariant.running.counted, c.loop-turn-test.true))
 
-pub hear-requires-clause-max : goal.hear-requires-clause-max
-hear-requires-clause-max g c κs within =
-    c.loop-turn.invariant.max
-
-pub hear-requires-clause-width : goal.hear-requires-clause-width
-hear-requires-clause-width g c κs within =
-    c.loop-turn.invariant.width
-
-pub hear-requires-clause-within : goal.hear-requires-clause-within
-hear-requires-clause-within g c κs within =
-    omega (arith, c.loop-turn.invariant.within, c.loop-turn.invariant.max)
-
 pub returns-in-Ok-Ended-clause-run : goal.returns-in-Ok-Ended-clause-run
 returns-in-Ok-Ended-clause-run g c =
-    done (g.C.ChildCore.role c.args.core.now) (g.C.ChildCore.role c.loop-turn.core) (g.C.ChildCore.session c.args.core.now) (g.C.ChildCore.session c.loop-turn.core) (g.C.ChildCore.stands c.loop-turn.core) (g.C.ChildCore.stands c.hear.new.core) c.loop-turn._turn c.in-Ok-Ended.ensures.hears.0 c.hear.new.reader.bytes c.loop-turn.out c.hear.new.out (g.E.Stream.link c.args.link.now) (g.E.Stream.link c.hear.new.link)
-    (waits (g.C.ChildCore.role c.args.core.now) (g.C.ChildCore.session c.args.core.now) (g.C.ChildCore.stands c.loop-turn.core) c.loop-turn._turn c.loop-turn.len c.loop-turn.out c.loop-turn.reader.bytes c.in-Ok-Ended.ensures.hears.0 (g.E.Stream.link c.args.link.now) (g.E.Stream.link c.loop-turn.link) (g.E.Stream.link c.send.new.self) (g.E.Stream.link c.hear.new.link) c.loop-turn.invariant.running c.in-Ok.ensures.ok c.in-Ok-Ended.ensures.hears.1) c.loop-turn.invariant.role c.loop-turn.invariant.session c.loop-turn-test.true (subst (λ (t : Turn). Hears (Ok t) (TookBy (g.C.ChildCore.role c.loop-turn.core) (g.C.ChildCore.session c.loop-turn.core) (g.C.ChildCore.stands c.loop-turn.core) (g.C.ChildCore.stands c.hear.new.core) c.loop-turn.out c.hear.new.out) c.in-Ok-Ended.ensures.hears.0 c.hear.new.reader.bytes (g.E.Stream.link c.hear.new.link)) c.in-Ok-Ended.field-0-is c.in-Ok-Ended.ensures.hears.2)
+    done (role_in c.args.core.now) (role_in c.loop-turn.core) c.args.core.now.session c.loop-turn.core.session (stands_for c.loop-turn.core) (stands_for c.hear.new.core) c.loop-turn._turn c.in-Ok-Ended.ensures.hears.0 c.hear.new.reader.bytes c.loop-turn.out c.hear.new.out (g.E.Stream.link c.args.link.now) (g.E.Stream.link c.hear.new.link)
+    (waits (role_in c.args.core.now) c.args.core.now.session (stands_for c.loop-turn.core) c.loop-turn._turn c.loop-turn.len c.loop-turn.out c.loop-turn.reader.bytes c.in-Ok-Ended.ensures.hears.0 (g.E.Stream.link c.args.link.now) (g.E.Stream.link c.loop-turn.link) (g.E.Stream.link c.send.new.self) (g.E.Stream.link c.hear.new.link) c.loop-turn.invariant.running c.in-Ok.ensures.ok c.in-Ok-Ended.ensures.hears.1) c.loop-turn.invariant.role c.loop-turn.invariant.session c.loop-turn-test.true (subst (λ (t : Turn). Hears (Ok t) (TookBy (role_in c.loop-turn.core) c.loop-turn.core.session (stands_for c.loop-turn.core) (stands_for c.hear.new.core) c.loop-turn.out c.hear.new.out) c.in-Ok-Ended.ensures.hears.0 c.hear.new.reader.bytes (g.E.Stream.link c.hear.new.link)) c.in-Ok-Ended.field-0-is c.in-Ok-Ended.ensures.hears.2)
 
 pub returns-in-Ok-Unreadable-clause-run : goal.returns-in-Ok-Unreadable-clause-run
 returns-in-Ok-Unreadable-clause-run g c =
-    unreadable (g.C.ChildCore.role c.args.core.now) (g.C.ChildCore.role c.loop-turn.core) (g.C.ChildCore.session c.args.core.now) (g.C.ChildCore.session c.loop-turn.core) (g.C.ChildCore.stands c.loop-turn.core) (g.C.ChildCore.stands c.hear.new.core) c.loop-turn._turn c.in-Ok-Unreadable.ensures.hears.0 c.hear.new.reader.bytes c.loop-turn.out c.hear.new.out (g.E.Stream.link c.args.link.now) (g.E.Stream.link c.hear.new.link)
-    (waits (g.C.ChildCore.role c.args.core.now) (g.C.ChildCore.session c.args.core.now) (g.C.ChildCore.stands c.loop-turn.core) c.loop-turn._turn c.loop-turn.len c.loop-turn.out c.loop-turn.reader.bytes c.in-Ok-Unreadable.ensures.hears.0 (g.E.Stream.link c.args.link.now) (g.E.Stream.link c.loop-turn.link) (g.E.Stream.link c.send.new.self) (g.E.Stream.link c.hear.new.link) c.loop-turn.invariant.running c.in-Ok.ensures.ok c.in-Ok-Unreadable.ensures.hears.1) c.loop-turn.invariant.role c.loop-turn.invariant.session c.loop-turn.auto._turn-end (subst (λ (t : Turn). Hears (Ok t) (TookBy (g.C.ChildCore.role c.loop-turn.core) (g.C.ChildCore.session c.loop-turn.core) (g.C.ChildCore.stands c.loop-turn.core) (g.C.ChildCore.stands c.hear.new.core) c.loop-turn.out c.hear.new.out) c.in-Ok-Unreadable.ensures.hears.0 c.hear.new.reader.bytes (g.E.Stream.link c.hear.new.link)) c.in-Ok-Unreadable.field-0-is c.in-Ok-Unreadable.ensures.hears.2)
+    unreadable (role_in c.args.core.now) (role_in c.loop-turn.core) c.args.core.now.session c.loop-turn.core.session (stands_for c.loop-turn.core) (stands_for c.hear.new.core) c.loop-turn._turn c.in-Ok-Unreadable.ensures.hears.0 c.hear.new.reader.bytes c.loop-turn.out c.hear.new.out (g.E.Stream.link c.args.link.now) (g.E.Stream.link c.hear.new.link)
+    (waits (role_in c.args.core.now) c.args.core.now.session (stands_for c.loop-turn.core) c.loop-turn._turn c.loop-turn.len c.loop-turn.out c.loop-turn.reader.bytes c.in-Ok-Unreadable.ensures.hears.0 (g.E.Stream.link c.args.link.now) (g.E.Stream.link c.loop-turn.link) (g.E.Stream.link c.send.new.self) (g.E.Stream.link c.hear.new.link) c.loop-turn.invariant.running c.in-Ok.ensures.ok c.in-Ok-Unreadable.ensures.hears.1) c.loop-turn.invariant.role c.loop-turn.invariant.session c.loop-turn.auto._turn-end (subst (λ (t : Turn). Hears (Ok t) (TookBy (role_in c.loop-turn.core) c.loop-turn.core.session (stands_for c.loop-turn.core) (stands_for c.hear.new.core) c.loop-turn.out c.hear.new.out) c.in-Ok-Unreadable.ensures.hears.0 c.hear.new.reader.bytes (g.E.Stream.link c.hear.new.link)) c.in-Ok-Unreadable.field-0-is c.in-Ok-Unreadable.ensures.hears.2)
 
 pub returns-in-Err-clause-run : goal.returns-in-Err-clause-run
 returns-in-Err-clause-run g c =
-    ended_waiting (g.C.ChildCore.role c.args.core.now) (g.C.ChildCore.session c.args.core.now) (g.C.ChildCore.stands c.loop-turn.core) c.loop-turn._turn c.in-Err.ensures.hears.0 c.hear.new.reader.bytes (g.E.Stream.link c.args.link.now) (g.E.Stream.link c.hear.new.link) c.in-Err.end (TookBy (g.C.ChildCore.role c.loop-turn.core) (g.C.ChildCore.session c.loop-turn.core) (g.C.ChildCore.stands c.loop-turn.core) (g.C.ChildCore.stands c.hear.new.core) c.loop-turn.out c.hear.new.out)
-    (waits (g.C.ChildCore.role c.args.core.now) (g.C.ChildCore.session c.args.core.now) (g.C.ChildCore.stands c.loop-turn.core) c.loop-turn._turn c.loop-turn.len c.loop-turn.out c.loop-turn.reader.bytes c.in-Err.ensures.hears.0 (g.E.Stream.link c.args.link.now) (g.E.Stream.link c.loop-turn.link) (g.E.Stream.link c.send.new.self) (g.E.Stream.link c.hear.new.link) c.loop-turn.invariant.running c.in-Ok.ensures.ok c.in-Err.ensures.hears.1) c.loop-turn.auto._turn-end c.in-Err.ensures.hears.2
+    ended_waiting (role_in c.args.core.now) c.args.core.now.session (stands_for c.loop-turn.core) c.loop-turn._turn c.in-Err.ensures.hears.0 c.hear.new.reader.bytes (g.E.Stream.link c.args.link.now) (g.E.Stream.link c.hear.new.link) c.in-Err.end (TookBy (role_in c.loop-turn.core) c.loop-turn.core.session (stands_for c.loop-turn.core) (stands_for c.hear.new.core) c.loop-turn.out c.hear.new.out)
+    (waits (role_in c.args.core.now) c.args.core.now.session (stands_for c.loop-turn.core) c.loop-turn._turn c.loop-turn.len c.loop-turn.out c.loop-turn.reader.bytes c.in-Err.ensures.hears.0 (g.E.Stream.link c.args.link.now) (g.E.Stream.link c.loop-turn.link) (g.E.Stream.link c.send.new.self) (g.E.Stream.link c.hear.new.link) c.loop-turn.invariant.running c.in-Ok.ensures.ok c.in-Err.ensures.hears.1) c.loop-turn.auto._turn-end c.in-Err.ensures.hears.2
 
 pub returns-in-Err-clause-fault : goal.returns-in-Err-clause-fault
 returns-in-Err-clause-fault g c =
     λ e. Rose-within (g.E.Stream.faults c.args.link.now) (g.E.Stream.faults c.send.new.self) (g.E.Stream.faults c.hear.new.link) (g.E.Stream.faults c.hear.new.link) (omega (arith, c.loop-turn.invariant.faults, c.in-Ok.ensures.kept)) (c.in-Err.ensures.fault (ap (λ (x : ChildEnd). Err x) e)) (omega arith)
 
-pub returns-in-Ok-Ended-clause-faults : goal.returns-in-Ok-Ended-clause-faults
-returns-in-Ok-Ended-clause-faults g c =
-    omega (arith, c.loop-turn.invariant.faults, c.in-Ok.ensures.kept, c.hear.ensures.faults)
-
-pub returns-in-Ok-Ended-clause-link_role : goal.returns-in-Ok-Ended-clause-link_role
-returns-in-Ok-Ended-clause-link_role g c =
-    c.hear.ensures.link_role ∙ c.in-Ok.ensures.role ∙ c.loop-turn.invariant.link_role
-
-pub returns-in-Ok-Ended-clause-role : goal.returns-in-Ok-Ended-clause-role
-returns-in-Ok-Ended-clause-role g c =
-    c.hear.ensures.role ∙ c.loop-turn.invariant.role
-
-pub returns-in-Ok-Ended-clause-session : goal.returns-in-Ok-Ended-clause-session
-returns-in-Ok-Ended-clause-session g c =
-    c.hear.ensures.session ∙ c.loop-turn.invariant.session
-
-pub returns-in-Ok-Unreadable-clause-faults : goal.returns-in-Ok-Unreadable-clause-faults
-returns-in-Ok-Unreadable-clause-faults g c =
-    omega (arith, c.loop-turn.invariant.faults, c.in-Ok.ensures.kept, c.hear.ensures.faults)
-
-pub returns-in-Ok-Unreadable-clause-link_role : goal.returns-in-Ok-Unreadable-clause-link_role
-returns-in-Ok-Unreadable-clause-link_role g c =
-    c.hear.ensures.link_role ∙ c.in-Ok.ensures.role ∙ c.loop-turn.invariant.link_role
-
-pub returns-in-Ok-Unreadable-clause-role : goal.returns-in-Ok-Unreadable-clause-role
-returns-in-Ok-Unreadable-clause-role g c =
-    c.hear.ensures.role ∙ c.loop-turn.invariant.role
-
-pub returns-in-Ok-Unreadable-clause-session : goal.returns-in-Ok-Unreadable-clause-session
-returns-in-Ok-Unreadable-clause-session g c =
-    c.hear.ensures.session ∙ c.loop-turn.invariant.session
-
-pub returns-in-Err-clause-faults : goal.returns-in-Err-clause-faults
-returns-in-Err-clause-faults g c =
-    omega (arith, c.loop-turn.invariant.faults, c.in-Ok.ensures.kept, c.hear.ensures.faults)
-
-pub returns-in-Err-clause-link_role : goal.returns-in-Err-clause-link_role
-returns-in-Err-clause-link_role g c =
-    c.hear.ensures.link_role ∙ c.in-Ok.ensures.role ∙ c.loop-turn.invariant.link_role
-
-pub returns-in-Err-clause-role : goal.returns-in-Err-clause-role
-returns-in-Err-clause-role g c =
-    c.hear.ensures.role ∙ c.loop-turn.invariant.role
-
-pub returns-in-Err-clause-session : goal.returns-in-Err-clause-session
-returns-in-Err-clause-session g c =
-    c.hear.ensures.session ∙ c.loop-turn.invariant.session
-
 pub loop-turn-preserved : goal.loop-turn-preserved
 loop-turn-preserved g c =
     record {
-      running = goes_on (g.C.ChildCore.role c.args.core.now) (g.C.ChildCore.role c.loop-turn.core) (g.C.ChildCore.session c.args.core.now) (g.C.ChildCore.session c.loop-turn.core) (g.C.ChildCore.stands c.loop-turn.core) (g.C.ChildCore.stands c.hear.new.core) c.loop-turn._turn c.in-Ok-Asked.next c.in-Ok-Asked.ensures.hears.0 c.hear.new.reader.bytes c.loop-turn.out c.hear.new.out (g.E.Stream.link c.args.link.now) (g.E.Stream.link c.hear.new.link)
-          (waits (g.C.ChildCore.role c.args.core.now) (g.C.ChildCore.session c.args.core.now) (g.C.ChildCore.stands c.loop-turn.core) c.loop-turn._turn c.loop-turn.len c.loop-turn.out c.loop-turn.reader.bytes c.in-Ok-Asked.ensures.hears.0 (g.E.Stream.link c.args.link.now) (g.E.Stream.link c.loop-turn.link) (g.E.Stream.link c.send.new.self) (g.E.Stream.link c.hear.new.link) c.loop-turn.invariant.running c.in-Ok.ensures.ok c.in-Ok-Asked.ensures.hears.1) c.loop-turn.invariant.role c.loop-turn.invariant.session (subst (λ (t : Turn). Hears (Ok t) (TookBy (g.C.ChildCore.role c.loop-turn.core) (g.C.ChildCore.session c.loop-turn.core) (g.C.ChildCore.stands c.loop-turn.core) (g.C.ChildCore.stands c.hear.new.core) c.loop-turn.out c.hear.new.out) c.in-Ok-Asked.ensures.hears.0 c.hear.new.reader.bytes (g.E.Stream.link c.hear.new.link)) c.in-Ok-Asked.field-0-is c.in-Ok-Asked.ensures.hears.2);
-      asked = subst (λ (t : Turn). WhereAsked t (g.C.ChildCore.is_asked c.hear.new.core)) c.in-Ok-Asked.field-0-is c.in-Ok-Asked.ensures.asked;
+      running = goes_on (role_in c.args.core.now) (role_in c.loop-turn.core) c.args.core.now.session c.loop-turn.core.session (stands_for c.loop-turn.core) (stands_for c.hear.new.core) c.loop-turn._turn c.in-Ok-Asked.next c.in-Ok-Asked.ensures.hears.0 c.hear.new.reader.bytes c.loop-turn.out c.hear.new.out (g.E.Stream.link c.args.link.now) (g.E.Stream.link c.hear.new.link)
+          (waits (role_in c.args.core.now) c.args.core.now.session (stands_for c.loop-turn.core) c.loop-turn._turn c.loop-turn.len c.loop-turn.out c.loop-turn.reader.bytes c.in-Ok-Asked.ensures.hears.0 (g.E.Stream.link c.args.link.now) (g.E.Stream.link c.loop-turn.link) (g.E.Stream.link c.send.new.self) (g.E.Stream.link c.hear.new.link) c.loop-turn.invariant.running c.in-Ok.ensures.ok c.in-Ok-Asked.ensures.hears.1) c.loop-turn.invariant.role c.loop-turn.invariant.session (subst (λ (t : Turn). Hears (Ok t) (TookBy (role_in c.loop-turn.core) c.loop-turn.core.session (stands_for c.loop-turn.core) (stands_for c.hear.new.core) c.loop-turn.out c.hear.new.out) c.in-Ok-Asked.ensures.hears.0 c.hear.new.reader.bytes (g.E.Stream.link c.hear.new.link)) c.in-Ok-Asked.field-0-is c.in-Ok-Asked.ensures.hears.2);
+      asked = subst (λ (t : Turn). WhereAsked t (IsAsked c.hear.new.core.dialogue.place)) c.in-Ok-Asked.field-0-is c.in-Ok-Asked.ensures.asked;
       role = c.hear.ensures.role ∙ c.loop-turn.invariant.role;
       session = c.hear.ensures.session ∙ c.loop-turn.invariant.session;
       width = c.hear.ensures.width;
@@ -162,28 +76,4 @@ loop-turn-preserved g c =
 
 pub returns-clause-run : goal.returns-clause-run
 returns-clause-run g c =
-    spent (g.C.ChildCore.role c.args.core.now) (g.C.ChildCore.session c.args.core.now) (g.C.ChildCore.stands c.loop-turn.core) c.loop-turn._turn c.loop-turn.len c.loop-turn.out c.loop-turn.reader.bytes (g.E.Stream.link c.args.link.now) (g.E.Stream.link c.loop-turn.link) c.loop-turn.invariant.running (omega (arith, c.loop-turn-test.false, c.loop-turn.auto._turn-end))
-
-pub returns-clause-faults : goal.returns-clause-faults
-returns-clause-faults g c =
-    c.loop-turn.invariant.faults
-
-pub returns-clause-link_role : goal.returns-clause-link_role
-returns-clause-link_role g c =
-    c.loop-turn.invariant.link_role
-
-pub returns-clause-role : goal.returns-clause-role
-returns-clause-role g c =
-    c.loop-turn.invariant.role
-
-pub returns-clause-session : goal.returns-clause-session
-returns-clause-session g c =
-    c.loop-turn.invariant.session
-
-pub returns-clause-max : goal.returns-clause-max
-returns-clause-max g c =
-    c.loop-turn.invariant.max
-
-pub returns-clause-width : goal.returns-clause-width
-returns-clause-width g c =
-    c.loop-turn.invariant.width
+    spent (role_in c.args.core.now) c.args.core.now.session (stands_for c.loop-turn.core) c.loop-turn._turn c.loop-turn.len c.loop-turn.out c.loop-turn.reader.bytes (g.E.Stream.link c.args.link.now) (g.E.Stream.link c.loop-turn.link) c.loop-turn.invariant.running (omega (arith, c.loop-turn-test.false, c.loop-turn.auto._turn-end))
