@@ -1,39 +1,34 @@
 -- Each request of the user's child is in its range.
 use Rattle.std.proofs.Common.{◌≡◌, ℕ, zero, suc, ◌+◌, ◌<◌, ◌≤◌, ◌^◌, Bool, true, false, ◌&&◌, cond, List, [], ◌∷◌, ◌++◌}
-use Rattle.std.proofs.Common.{length, take, drop, Option, Some, None, Result, Ok, Err, refl, subst, arith}
+use Rattle.std.proofs.Common.{length, take, drop, Some, Result, Ok, Err, refl, subst, arith}
 use Rattle.std.proofs.Common.{lit<, lit≤}
-use Rattle.std.specs.Prelude.{codes, nat_le, nat_lt, option_and_then, slice_index, ◌==◌}
+use Rattle.std.specs.Prelude.{codes, nat_le, slice_index, ◌==◌}
 use Rattle.std.specs.Bool.{then_some}
 use Rattle.std.specs.Fmt.{decimal}
 use Rattle.std.specs.Int.{w32, from_le_bytes}
 use Rattle.std.specs.Str.{bytes_eq}
-use Rattle.std.proofs.lemmas.Bool.{and_parts, leb-true, ltb-true}
 use Rattle.std.proofs.lemmas.List.{length-append}
 use Rattle.std.proofs.lemmas.Slice.Eq.{bytes_eq-Decides}
-use Rattle.request_catalogue.specs.Catalogue.{RequestValue, IsInRange}
+use Rattle.request_catalogue.specs.Catalogue.{RequestValue}
 use Rattle.request_catalogue.specs.Catalogue as requests
 use Rattle.request_catalogue.specs.Replies.{AnswerValue, Done, Denied, Device, IsAnswer}
 use Rattle.request_catalogue.specs.Results.{demand, ◌>>=◌}
 use Rattle.request_catalogue.specs.Fields.{number_at}
-use Rattle.request_catalogue.specs.Texts.{is_label, is_name, is_note}
+use Rattle.request_catalogue.specs.Texts.{is_name}
 use Rattle.state_export.specs.declared.fault.ImportFault.{ImportFault}
 use Rattle.state_export.specs.declared.fault.ImportFault.TheVariants.{Head}
 use Rattle.state_export.specs.declared.fault.StateFault.{StateFault}
 use Rattle.state_export.specs.Reading.{import_of, imported, state_of}
 use Rattle.state_export.specs.Spelling.{ImportValue, StateValue}
 use Rattle.state_export.proofs.Fields.{after}
-use Rattle.text_line.specs.Reading.{decimal_of}
-use Rattle.child_protocol.specs.Commands.{text_behind}
 use Rattle.child_protocol.specs.Exchanges.{Exchange, ends_child, underway}
 use Rattle.child_protocol.specs.Lines.{Front, Line, More, TooLong}
 use Rattle.child_protocol.specs.Pre.{denied_text, say}
 use Rattle.child_protocol.specs.Replies.{FitsForm, form_of}
 use Rattle.child_protocol.specs.Says.{User}
 use Rattle.child_protocol.specs.User.{Get, IsLegalUser, Leave, Put, Remark, Tell, Unknown, UserCommand, Who, command_at}
-use Rattle.child_protocol.specs.User.{file_text, get_command, greeting_of, handle_failed, if_legal, info_command}
-use Rattle.child_protocol.specs.User.{is_content, note_command, number_of, opened_request, put_command, put_or_command}
-use Rattle.child_protocol.specs.User.{read_done, space_in, tell_command, told_by, user_command}
-use Rattle.child_protocol.specs.User.{user_first, user_follows, user_is_last, user_next, user_request}
+use Rattle.child_protocol.specs.User.{file_text, greeting_of, handle_failed, opened_request, read_done, told_by}
+use Rattle.child_protocol.specs.User.{user_command, user_first, user_follows, user_is_last, user_next, user_request}
 use Rattle.child_protocol.specs.User.{write_done}
 use Rattle.child_protocol.proofs.UserCommands.{legal_line}
 use Rattle.welcome_laws.proofs.Lines.{decimal_short}
