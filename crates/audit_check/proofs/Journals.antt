@@ -34,7 +34,7 @@ use Rattle.audit_check.proofs.Replies.{given_may, reply_is}
 use Rattle.audit_check.specs.Said.{AreSaid, IsLogOf}
 use Rattle.audit_check.specs.Written.{IsJournalOf}
 use Rattle.decision_log.proofs.EventLines.{line_is}
-use Rattle.decision_log.proofs.Writable.{IsWritable, kept_writable}
+use Rattle.decision_log.proofs.Writable.{IsWritable, kept_writable, line_ask}
 
 -- 1. What is shown of an event
 
@@ -135,7 +135,7 @@ shown_said : (count : ℕ) (events : List Event) → count + length events ≤ E
 shown_said count [] few all = tt
 shown_said count (e ∷ events) few all =
     let w = all.0 in
-    let line : IsLine (line_value (count + 1) e) = record { number = omega (arith, few); worker = w.typed.worker; session = w.typed.session; ask = w.typed.ask; decision = w.shown } in
+    let line : IsLine (line_value (count + 1) e) = record { number = omega (arith, few); worker = w.typed.worker; session = w.typed.session; ask = line_ask e.ask w.typed.ask; decision = w.shown } in
     (subst IsLine (sym (value_line (count + 1) e)) line, without_twice e.ask, shown_said (count + 1) events (omega (arith, few)) all.1)
 
 kept_few : (journal : List Event) → length (kept_events journal) ≤ length journal

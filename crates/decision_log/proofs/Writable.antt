@@ -23,8 +23,8 @@ use Rattle.policy_model.proofs.Lists.{filter-push}
 use Rattle.policy_model.proofs.Runs.{next_decision, next_session}
 use Rattle.policy_model.proofs.Verdicts.{session_of-begin, verdict_of-is}
 use Rattle.session_laws.proofs.ByEvents.{by_events}
-use Rattle.decision_log.specs.Values.{IsShown, IsValue, ask_value}
-use Rattle.decision_log.specs.Typed.{IsSmall, IsTyped}
+use Rattle.decision_log.specs.Values.{IsAsk, IsShown, IsValue, ask_value}
+use Rattle.decision_log.specs.Typed.{IsSmall, IsTyped, IsTypedAsk}
 
 -- an ask whose value a line doesn't show
 abbrev shows_none : Ask → Bool
@@ -119,6 +119,25 @@ shown_is : (setup : Settings) (before : List Event) (worker session : ℕ) (a : 
 shown_is setup before worker session a (Permit value) given own proper small = value_is setup before worker session a value given own small
 shown_is setup before worker session a (Deny rule detail) given own proper small = let named : IsVerdict (Deny rule detail) = subst IsVerdict (sym given) (verdict_of-is setup before worker a proper) in (named.0, named.1, small)
 shown_is setup before worker session a Lost given own proper small = absurd (subst IsVerdict (sym given) (verdict_of-is setup before worker a proper))
+
+-- what a line says of an ask is in the ranges of a line
+pub line_ask : (a : Ask) → IsTypedAsk a → IsAsk (ask_value a)
+line_ask asks.Begin is = is
+line_ask asks.Banner is = is
+line_ask (asks.Challenge user now) is = is
+line_ask (asks.Reply words hex) is = is
+line_ask asks.Abandon is = is
+line_ask (asks.Export len) is = is
+line_ask asks.Import is = is
+line_ask (asks.ReadAt handle offset max) is = is
+line_ask (asks.WriteAt handle offset len) is = is
+line_ask (asks.OpenFile mode name) is = is
+line_ask (asks.CloseFile handle) is = is
+line_ask (asks.Info number) is = is
+line_ask (asks.Note text) is = is
+line_ask asks.Finish is = is
+line_ask (asks.Bad rule detail) is = is
+line_ask (asks.End why) is = is
 
 -- an event of a legal journal that isn't lost
 pub record IsWritable (e : Event) : Type 0 where

@@ -2,8 +2,7 @@
 
 ghost use Rattle.std.specs.Prelude.{◌≡◌, ◌<◌, ◌^◌, true};
 ghost use Rattle.policy_model.specs.Asks.{is_proper};
-ghost use Rattle.decision_log.specs.Typed.{IsSmall, IsTyped};
-ghost use Rattle.decision_log.specs.Values.{IsAsk, ask_value};
+ghost use Rattle.decision_log.specs.Typed.{IsSmall, IsTyped, IsTypedAsk};
 
 use policy_model::{Ask, Decision, Event, Why};
 
@@ -24,7 +23,7 @@ fn is_u64(number: u64)
 {}
 
 fn is_typed_ask(ask: &Ask)
-    ensures { is_proper ask.now ≡ true → IsAsk (ask_value ask.now) }
+    ensures { is_proper ask.now ≡ true → IsTypedAsk ask.now }
 {
     match ask {
         Ask::Challenge { now, .. } => is_u64(*now),

@@ -1,7 +1,7 @@
 -- The shipped children of a run's sessions keep the rules.
 use Rattle.std.proofs.Common.{◌≡◌, ◌≢◌, ℕ, ◌<◌, ◌≤◌, ◌^◌, true, ◌&&◌, List, [], ◌∷◌, ◌++◌, length}
 use Rattle.std.proofs.Common.{Option, Some, None, option_to_list, refl, sym, ap, subst, ◌∙◌, append_assoc, arith}
-use Rattle.std.specs.Prelude.{IsSomeAnd, option_and_then}
+use Rattle.std.specs.Prelude.{IsSomeAnd, option_and_then, take}
 use Rattle.std.specs.List.{AllByRecursion, flat_map}
 use Rattle.std.proofs.lemmas.List.{append-nil, length-append}
 use Rattle.request_catalogue.specs.Replies.{Done}
@@ -61,7 +61,7 @@ record IsServed (service : Service) (exported : List ℕ) (part : Part) : Type 0
 served_by : (service : Service) (exported : List ℕ) (end : PartEnd) (part : Part) → IsPart service exported end part
     → IsServed service exported part
 served_by service exported end part is =
-    record { each = is.each; on = is.on; taken = is.taken; last = is.sent.0; sent = is.sent.1 }
+    record { each = is.each; on = is.on; taken = is.taken; last = take is.sent.0 (answers service exported (option_to_list part.final)); sent = is.sent.1 }
 
 served_first : (service : Service) (why : Why) (pre : Part) → EndsFirst service why pre → IsServed service [] pre
 served_first service whys.KeeperFault pre ends = served_by service [] HandsOver pre ends.0

@@ -4,8 +4,8 @@ use Rattle.std.specs.Prelude.{All, IfSome, IsSome, slice_get, slice_index_or}
 use Rattle.std.specs.List.{list_all, list_any}
 use Rattle.std.proofs.lemmas.List.{length-map}
 use Rattle.std.proofs.lemmas.Option.{slice_get-get_or, slice_get_cases, slice_get_within}
-use Rattle.monitor_run.specs.Headline.{AreFaultless, IsFaultless, RunPromises, lost_by, openings_by}
-use Rattle.monitor_run.specs.Posts.{seen}
+use Rattle.monitor_run.specs.Headline.{IsFaultless, RunPromises, lost_by, openings_by}
+use Rattle.monitor_run.specs.Posts.{EachPost, seen}
 use Rattle.monitor_run.proofs.Seen.{each_seen, seen_stands}
 use Rattle.monitor_run.specs.Ran.{PlansStay}
 use Rattle.outside.specs.declared.act.Act.{Act}
@@ -125,7 +125,7 @@ whole_drill n service failed log journal before after is count new stay whole pr
   setup = service.setup;
   setup_is = is.setup;
   legal = promises.legal;
-  drill = is_drill n service journal is.setup promises.legal.legal promises.legal.workers kept (promises.whole faultless kept).ended by_plan;
+  drill = is_drill n service journal is.setup promises.legal.legal promises.legal.workers kept (promises.unfaulted faultless kept) by_plan;
   kept = kept;
 } where
   one_each : length after ≡ service.setup.workers
@@ -152,8 +152,8 @@ whole_drill n service failed log journal before after is count new stay whole pr
       let told : IfSome (Some has.scene) (λ s. list_any is_stop s.acts ≡ false → lost_by journal worker ≡ false → openings_by journal worker ≡ service.setup.connections) = subst (λ s. IfSome s (λ s. list_any is_stop s.acts ≡ false → lost_by journal worker ≡ false → openings_by journal worker ≡ service.setup.connections)) has.told (promises.quota.quota worker (seen scene_of faults_of post.0) (seen_stands scene_of faults_of after worker post.0 post.1)) in
       told has.enough (none_lost journal worker kept) ∙ ap (λ (s : Settings). s.connections) is.setup.plain
 
-  faultless : AreFaultless (map (seen scene_of faults_of) after)
-  faultless = record { each = each_seen scene_of faults_of after (λ worker post. IsFaultless post) (λ worker post stands. record { no_accept_fault = refl; no_keeper_fault = refl; no_link_fault = refl }) }
+  faultless : EachPost (map (seen scene_of faults_of) after) (λ worker post. IsFaultless post)
+  faultless = each_seen scene_of faults_of after (λ worker post. IsFaultless post) (λ worker post stands. record { no_accept_fault = refl; no_keeper_fault = refl; no_link_fault = refl })
 
   -- a worker's sessions went by its plan
   by_plan : (worker : ℕ) → worker < 4 → IsPlayed n service journal worker

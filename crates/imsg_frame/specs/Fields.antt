@@ -14,8 +14,7 @@ abbrev pub flags_limit : Width → ℕ
 flags_limit widths.Narrow = 2 ^ 16
 flags_limit widths.Wide = 2
 
--- bytes 4 to 8 of a header: narrow, len and flags in two bytes each; wide, len with the descriptor's mark above its 31
--- bits
+-- bytes 4 to 8 of a header: narrow, len and flags in 16 bits each; wide, len in 31 bits and the descriptor's mark above
 unfoldable pub len_bytes : Width → ℕ → ℕ → List ℕ
 len_bytes widths.Narrow len flags = to_le_bytes w16 len ++ to_le_bytes w16 flags
 len_bytes widths.Wide len flags = to_le_bytes w32 (len + 2 ^ 31 * flags)

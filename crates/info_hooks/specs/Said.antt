@@ -15,10 +15,6 @@ pub record IsCard (card : Card) : Type 0 where
   pub uid : card.uid < 2 ^ 32
   pub sequence : card.sequence < 2 ^ 16
 
--- the pieces of a form
-abbrev pub form_pieces : Form → List Piece
-form_pieces form = take form.len form.pieces
-
 -- the text of a piece: fixed, or the user's name, number, algorithm or sequence
 abbrev pub piece_text : Card → Piece → List ℕ
 piece_text card (pieces.Fixed short) = short_bytes short
@@ -29,4 +25,4 @@ piece_text card pieces.Sequence = decimal card.sequence
 
 -- what a form says of a card: the texts of its pieces, one after the other
 unfoldable pub said : Form → Card → List ℕ
-said form card = flat_map (piece_text card) (form_pieces form)
+said form card = flat_map (piece_text card) (take form.len form.pieces)

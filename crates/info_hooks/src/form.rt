@@ -1,6 +1,6 @@
 //! Forms: the pieces of what a stored function says.
 
-ghost use Rattle.std.specs.Prelude.{◌≡◌, ◌≤◌, length};
+ghost use Rattle.std.specs.Prelude.{◌≡◌, ◌≤◌, length, take};
 
 use crate::card::Short;
 
@@ -30,12 +30,10 @@ pub struct Form {
 }
 
 impl Form {
-    ghost use Rattle.info_hooks.specs.Said.{form_pieces};
-
     /// The form of these pieces.
     pub fn of(pieces: &[Piece]) -> Form
         requires { length pieces.now ≤ 8 }
-        ensures { form_pieces result ≡ pieces.now }
+        ensures { take result.len result.pieces ≡ pieces.now }
     {
         let mut padded = [Piece::Name; PIECES_MAX];
         padded[..pieces.len()].copy_from_slice(pieces);
@@ -47,7 +45,7 @@ impl Form {
 
     /// The pieces.
     pub fn as_slice(&self) -> &[Piece]
-        ensures pieces { result.now ≡ form_pieces self.now }
+        ensures pieces { result.now ≡ take self.now.len self.now.pieces }
         ensures few { length result.now ≤ 8 }
     {
         &self.pieces[..usize::from(self.len)]

@@ -17,7 +17,7 @@ use Rattle.decision_log.proofs.EventLines.{event_forth}
 use Rattle.ledger_journal.specs.Journals.{IsWhole, records_after, records_of}
 use Rattle.ledger_journal.specs.Lines.{line_at, lines_after, lines_of, numbered}
 use Rattle.ledger_journal.specs.Recovering.{IsNoLine}
-use Rattle.decision_log.proofs.Writable.{IsWritable, kept_writable}
+use Rattle.decision_log.proofs.Writable.{IsWritable, kept_writable, line_ask}
 
 -- what the lines of events say, where so many stand before them
 abbrev pub values_after : ℕ → List Event → List LineValue
@@ -36,7 +36,7 @@ event_is_line number e few w = record {
   number = (let limit : 1048576 < 2 ^ 32 = lit< tt in omega (arith, few, limit));
   worker = w.typed.worker;
   session = w.typed.session;
-  ask = w.typed.ask;
+  ask = line_ask e.ask w.typed.ask;
   decision = w.shown;
 }
 

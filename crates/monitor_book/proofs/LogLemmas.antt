@@ -1,6 +1,6 @@
 -- The log goes on by the line of an event.
 use Rattle.std.proofs.Common.{◌≡◌, ℕ, zero, suc, ◌+◌, ◌≤◌, Bool, true, false, ◌||◌, not, cond, List, [], ◌∷◌, ◌++◌, length, take, Option, Some, None, refl, sym, ap, subst, ◌∙◌, append_assoc, arith}
-use Rattle.std.specs.Prelude.{find}
+use Rattle.std.specs.Prelude.{find, if◌then◌else◌}
 use Rattle.std.proofs.lemmas.Bool.{false≢true}
 use Rattle.std.proofs.lemmas.List.{append-nil}
 use Rattle.std.proofs.lemmas.List.Folds.{find-append}
@@ -16,7 +16,7 @@ use Rattle.policy_model.proofs.Runs.{has_lost-push}
 use Rattle.decision_log.specs.Log.{line_of, lines_after, log_text}
 use Rattle.monitor_book.specs.declared.opened.Held.{Held}
 use Rattle.monitor_book.specs.Kept.{IsLogged, lost_line_of}
-use Rattle.monitor_book.specs.Lines.{AppendsLines, HoldsLines, IsUnwritten, LogMatches, lengths_after, lost_append, lost_line}
+use Rattle.monitor_book.specs.Lines.{AppendsLines, HoldsLines, IsUnwritten, LogMatches, lengths_after, lost_line}
 
 -- a line was written by one append, or a front of it by a fault, or nothing where one was lost before
 pub record WritesLine (before lost : Bool) (line : List ℕ) (held_old held_new : Held) (faults_old faults_new : ℕ) : Type 0 where
@@ -168,6 +168,10 @@ lengths-push : (journal : List Event) (e : Event) → has_lost journal ≡ false
 lengths-push journal e none kept =
     let all : kept_events (journal ++ e ∷ []) ≡ journal ++ e ∷ [] = filter-push (λ x. not (is_lost x.decision)) journal e ∙ rw kept (ap (λ xs. xs ++ e ∷ []) (kept_all journal none)) in
     ap (lengths_after 0) all ∙ lengths_after-push 0 journal e ∙ ap (λ n. lengths_after 0 journal ++ length (line_of n e) ∷ []) (omega arith) ∙ ap (λ xs. lengths_after 0 xs ++ length (line_of (length journal + 1) e) ∷ []) (sym (kept_all journal none))
+
+-- one append of this length, if an event was lost
+abbrev lost_append : List Event → ℕ → List ℕ
+lost_append journal n = if has_lost journal then n ∷ [] else []
 
 lost_append-none : (journal : List Event) (n : ℕ) → has_lost journal ≡ false → lost_append journal n ≡ []
 lost_append-none journal n h = rw h refl

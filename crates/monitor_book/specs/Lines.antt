@@ -36,13 +36,10 @@ abbrev pub lengths_after : ℕ → List Event → List ℕ
 lengths_after count [] = []
 lengths_after count (e ∷ events) = length (line_of (count + 1) e) ∷ lengths_after (count + 1) events
 
--- one append of this length, if an event was lost
-abbrev pub lost_append : List Event → ℕ → List ℕ
-lost_append journal n = if has_lost journal then n ∷ [] else []
-
 -- after its earlier appends the log had one for each kept event, of just its line, and one more if an event was lost
 pub record AppendsLines (journal : List Event) (before after : List ℕ) : Type 0 where
-  pub appends : (n : ℕ) × (after ≡ before ++ lengths_after 0 (kept_events journal) ++ lost_append journal n)
+  pub appends : (n : ℕ)
+      × (after ≡ before ++ lengths_after 0 (kept_events journal) ++ (if has_lost journal then n ∷ [] else []))
 
 -- where the log reports: it holds what it held and the lines of the journal, each by one append
 pub record LogMatches (setup : Settings) (journal : List Event) (before after : Held) : Type 0 where

@@ -29,8 +29,8 @@ use Rattle.service_model.proofs.Lists.{any-none, count-any, count-cons, count-no
 use Rattle.service_model.proofs.Places.{count_of-places}
 use Rattle.service_model.proofs.Stories.{all_lost_ends, all_opened, never_stopped}
 use Rattle.session_loop.specs.Stories.{RoseBy, asks_among}
-use Rattle.monitor_run.specs.Headline.{AreFaultless, ConversationsMatch, FaultEndsAreCounted, IsAnsweredWhole, IsFaultless, IsServedWhole, NoAcceptFailed, RunsToQuota, SessionsInOrder, SomeAcceptFailed, ends_by, ends_by_accept_fault, lost_by, openings_by}
-use Rattle.monitor_run.specs.Posts.{EachScene, seen}
+use Rattle.monitor_run.specs.Headline.{ConversationsMatch, IsFaultless, RunsToQuota, ServesUsers, SessionsInOrder, SomeAcceptFailed, ends_by, ends_by_accept_fault, lost_by, openings_by}
+use Rattle.monitor_run.specs.Posts.{EachPost, EachScene, seen}
 use Rattle.monitor_run.specs.Ran.{RunEnded, WorkerRan}
 use Rattle.monitor_run.proofs.Seen.{each_seen, seen_stands}
 use Rattle.welcome_laws.proofs.Welcomed.{users_are_served, users_get_in}
@@ -127,12 +127,10 @@ some_accept_failed service failed journal posts scene faults run h =
       told = IfSome-weaker (scene one.1) (IsStory one.3.sittings AcceptFailed) (λ s. ends_by_accept_fault s ≡ true) (λ s story. failed_accept one.3.sittings s story.acts) one.3.story;
     }
 
-pub no_accept_failed : {P : Type 0} (service : Service) (failed : Bool) (journal : List Event) (posts : List P) (scene : P → Option Scene) (faults : P → Faults) → RunEnded service failed journal posts scene faults → failed ≡ false → NoAcceptFailed (map (seen scene faults) posts)
-no_accept_failed service failed journal posts scene faults run h = record {
-  told = each_seen scene faults posts (λ worker post. IfSome post.scene (λ s. ends_by_accept_fault s ≡ false)) (λ worker post is.
-      let did = run.each worker post is in
-      IfSome-weaker (scene post) (IsStory did.2.sittings did.0) (λ s. ends_by_accept_fault s ≡ false) (λ s story. no_failed_accept service did.2.sittings did.0 s did.2.each (did.1 h) story.acts) did.2.story);
-}
+pub no_accept_failed : {P : Type 0} (service : Service) (failed : Bool) (journal : List Event) (posts : List P) (scene : P → Option Scene) (faults : P → Faults) → RunEnded service failed journal posts scene faults → failed ≡ false → EachScene (map (seen scene faults) posts) (λ worker s. ends_by_accept_fault s ≡ false)
+no_accept_failed service failed journal posts scene faults run h = each_seen scene faults posts (λ worker post. IfSome post.scene (λ s. ends_by_accept_fault s ≡ false)) (λ worker post is.
+    let did = run.each worker post is in
+    IfSome-weaker (scene post) (IsStory did.2.sittings did.0) (λ s. ends_by_accept_fault s ≡ false) (λ s story. no_failed_accept service did.2.sittings did.0 s did.2.each (did.1 h) story.acts) did.2.story)
 
 -- ---- the length of the run
 
@@ -162,11 +160,13 @@ ends_counted test journal worker count rose few =
     let le : ends_by test journal worker ≤ length journal = count_by-le-length (λ e. eqb e.worker worker && test e.ask) journal in
     omega (arith, same, le, few, rose.by)
 
-pub fault_ends_are_counted : {P : Type 0} (service : Service) (failed : Bool) (journal : List Event) (posts : List P) (scene : P → Option Scene) (faults : P → Faults) → RunEnded service failed journal posts scene faults → length journal ≤ 1048576 → FaultEndsAreCounted journal (map (seen scene faults) posts)
-fault_ends_are_counted service failed journal posts scene faults run few = record {
-  link = each_seen scene faults posts (λ worker post. ends_by is_link_end journal worker ≤ post.faults.link) (λ worker post is. ends_counted is_link_end journal worker (faults post).link (run.each worker post is).2.link few);
-  keeper = each_seen scene faults posts (λ worker post. ends_by is_keeper_end journal worker ≤ post.faults.keeper) (λ worker post is. ends_counted is_keeper_end journal worker (faults post).keeper (run.each worker post is).2.keeper few);
-}
+pub ends_of_links : {P : Type 0} (service : Service) (failed : Bool) (journal : List Event) (posts : List P) (scene : P → Option Scene) (faults : P → Faults) → RunEnded service failed journal posts scene faults → length journal ≤ 1048576 → EachPost (map (seen scene faults) posts) (λ worker post. ends_by is_link_end journal worker ≤ post.faults.link)
+ends_of_links service failed journal posts scene faults run few =
+    each_seen scene faults posts (λ worker post. ends_by is_link_end journal worker ≤ post.faults.link) (λ worker post is. ends_counted is_link_end journal worker (faults post).link (run.each worker post is).2.link few)
+
+pub ends_of_starts : {P : Type 0} (service : Service) (failed : Bool) (journal : List Event) (posts : List P) (scene : P → Option Scene) (faults : P → Faults) → RunEnded service failed journal posts scene faults → length journal ≤ 1048576 → EachPost (map (seen scene faults) posts) (λ worker post. ends_by is_keeper_end journal worker ≤ post.faults.keeper)
+ends_of_starts service failed journal posts scene faults run few =
+    each_seen scene faults posts (λ worker post. ends_by is_keeper_end journal worker ≤ post.faults.keeper) (λ worker post is. ends_counted is_keeper_end journal worker (faults post).keeper (run.each worker post is).2.keeper few)
 
 -- ---- completeness
 
@@ -221,40 +221,36 @@ no_fault_ends {P} service failed journal posts scene faults run kept faultless w
       let lost : asks_among is_lost_end (worker_places journal worker) ≤ lost_places (worker_places journal worker) = subst (λ ps. asks_among is_lost_end ps ≤ lost_places ps) (sym did.all) (all_lost_ends service did.sittings did.each) in
       omega (arith, faults_split (worker_places journal worker), link, keeper, lost, lost_all journal worker kept)
 
-pub answered_whole : {P : Type 0} (service : Service) (failed : Bool) (journal : List Event) (posts : List P)
-    (scene : P → Option Scene) (faults : P → Faults) → RunEnded service failed journal posts scene faults
-    → IsLegal service.setup journal → length journal ≤ EVENTS_LIMIT → IsInRange service.setup
-    → AreFaultless (map (seen scene faults) posts) → has_lost journal ≡ false → IsAnsweredWhole service journal (map (seen scene faults) posts)
-answered_whole {P} service failed journal posts scene faults run legal few range none kept =
-    record { ended = ended; answered = answered } where
-      faultless : (worker : ℕ) (post : P) → slice_get posts worker ≡ Some post → IsFaultless (seen scene faults post)
-      faultless worker post is = none.each worker (seen scene faults post) (seen_stands scene faults posts worker post is)
+-- every worker's sessions were served whole, and users got in, where no post counts a fault and no decision was lost
+module _ {P : Type 0} (service : Service) (failed : Bool) (journal : List Event) (posts : List P)
+    (scene : P → Option Scene) (faults : P → Faults) (run : RunEnded service failed journal posts scene faults)
+    (legal : IsLegal service.setup journal) (few : length journal ≤ EVENTS_LIMIT) (range : IsInRange service.setup)
+    (none : EachPost (map (seen scene faults) posts) (λ worker post. IsFaultless post))
+    (kept : has_lost journal ≡ false) where
+  faultless : (worker : ℕ) (post : P) → slice_get posts worker ≡ Some post → IsFaultless (seen scene faults post)
+  faultless worker post is = none worker (seen scene faults post) (seen_stands scene faults posts worker post is)
 
-      ended : list_any (λ e. is_fault_end e.ask) journal ≡ false
-      ended = none_by_worker (λ e. is_fault_end e.ask) journal
-          (λ worker. count_of-places (λ e. is_fault_end e.ask) worker journal
-          ∙ no_fault_ends service failed journal posts scene faults run kept faultless worker)
+  pub unfaulted : list_any (λ e. is_fault_end e.ask) journal ≡ false
+  unfaulted = none_by_worker (λ e. is_fault_end e.ask) journal
+      (λ worker. count_of-places (λ e. is_fault_end e.ask) worker journal
+      ∙ no_fault_ends service failed journal posts scene faults run kept faultless worker)
 
-      whole : (worker : ℕ) (post : P) → slice_get posts worker ≡ Some post → IfSome (scene post) (IsServedWhole service journal worker)
-      whole worker post is =
-          let did = run.each worker post is in
-          let link = none_rose (asks_among is_link_end (worker_places journal worker)) (faults post).link did.2.link
-          (faultless worker post is).no_link_fault in
-          let each = all_answered service did.2.sittings did.2.each
-          (sym (ap (asks_among is_link_end) did.2.all) ∙ link) in
-          let served = sittings_of service did.0 journal worker (scene post) (faults post) did.2 in
-          let welcomed = users_get_in service journal legal few kept range ended worker did.2.sittings served each in
-          let files = users_are_served service journal legal few kept range ended worker did.2.sittings served each in
-          IfSome-weaker (scene post) (IsStory did.2.sittings did.0) (IsServedWhole service journal worker)
-          (λ s story. record {
-            sittings = did.2.sittings;
-            last = did.0;
-            served = served;
-            story = story;
-            answered = each;
-            welcomed = welcomed;
-            files = files;
-          }) did.2.story
+  served : (worker : ℕ) (post : P) → slice_get posts worker ≡ Some post
+      → IfSome (scene post) (ServesUsers service journal worker)
+  served worker post is =
+      let did = run.each worker post is in
+      let link = none_rose (asks_among is_link_end (worker_places journal worker)) (faults post).link did.2.link
+      (faultless worker post is).no_link_fault in
+      let each = all_answered service did.2.sittings did.2.each
+      (sym (ap (asks_among is_link_end) did.2.all) ∙ link) in
+      let own = sittings_of service did.0 journal worker (scene post) (faults post) did.2 in
+      IfSome-weaker (scene post) (IsStory did.2.sittings did.0) (ServesUsers service journal worker)
+      (λ s story. record {
+        whole = record { sittings = did.2.sittings; last = did.0; served = own; story = story; answered = each };
+        welcomed = users_get_in service journal legal few kept range unfaulted worker did.2.sittings own each;
+        files = users_are_served service journal legal few kept range unfaulted worker did.2.sittings own each;
+      }) did.2.story
 
-      answered : EachScene (map (seen scene faults) posts) (IsServedWhole service journal)
-      answered = each_seen scene faults posts (λ worker post. IfSome post.scene (IsServedWhole service journal worker)) whole
+  pub users_served : EachScene (map (seen scene faults) posts) (ServesUsers service journal)
+  users_served =
+      each_seen scene faults posts (λ worker post. IfSome post.scene (ServesUsers service journal worker)) served

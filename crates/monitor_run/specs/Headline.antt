@@ -28,24 +28,20 @@ use Rattle.monitor_run.specs.Posts.{EachPost, EachScene, PostNow}
 
 -- ---- the journal is legal
 
--- every event is the policy's decision on those before it, or lost like all later ones; asks are proper, workers the
--- setup's, events within the limit, numbers within their types
+-- each event is the policy's decision on those before it, or lost like all later ones; asks are proper
 pub record JournalIsLegal (setup : Settings) (journal : List Event) : Type 0 where
   pub legal : IsLegal setup journal
   pub proper : AllByRecursion IsProperEvent journal
   pub workers : AllByRecursion (IsOfWorker setup) journal
   pub few : length journal ≤ EVENTS_LIMIT
-  pub typed : AllByRecursion IsTyped (decided_in setup journal)
 
--- each worker's events are whole sessions, one after the other, and none follows a lost opening or a session that ended
--- by a loss
+-- each worker's events are whole sessions, one after the other; none follows a lost opening or an end by a loss
 pub record SessionsInOrder (service : Service) (journal : List Event) : Type 0 where
   pub in_order : (worker : ℕ) → (sittings : List Sitting) × AreSittingsOf service journal worker sittings
 
 -- ---- the operations and the bytes
 
--- what a post reports, if it does, is exactly its worker's sessions: operations, bytes sent, taken and left unread, and
--- at most one last accept
+-- what a post reports, if it does, is exactly its worker's sessions: operations, bytes, and at most one last accept
 pub record ConversationsMatch (service : Service) (journal : List Event) (posts : List PostNow) : Type 0 where
   pub held : EachScene posts (λ worker s. (sittings : List Sitting) × (last : LastAccept)
       × AreSittingsOf service journal worker sittings × IsStory sittings last s)
@@ -60,8 +56,7 @@ openings_by journal worker = count_by (λ e. e.worker == worker && opens e) jour
 abbrev pub lost_by : List Event → ℕ → Bool
 lost_by journal worker = list_any (λ e. e.worker == worker && is_lost e.decision) journal
 
--- a worker that no accept stopped and that lost no decision opened exactly as many sessions as the setup has
--- connections, if its post reports
+-- a worker that no accept stopped and that lost no decision opened all the setup's connections, if its post reports
 pub record RunsToQuota (setup : Settings) (journal : List Event) (posts : List PostNow) : Type 0 where
   pub quota : EachScene posts (λ worker s. list_any is_stop s.acts ≡ false → lost_by journal worker ≡ false
       → openings_by journal worker ≡ setup.connections)
@@ -80,54 +75,42 @@ pub record SomeAcceptFailed (posts : List PostNow) : Type 0 where
   pub counted : 0 < post.faults.accept
   pub told : IfSome post.scene (λ s. ends_by_accept_fault s ≡ true)
 
--- no worker's post reports a failed accept as its last operation
-pub record NoAcceptFailed (posts : List PostNow) : Type 0 where
-  pub told : EachScene posts (λ worker s. ends_by_accept_fault s ≡ false)
-
 -- ---- the ends by a fault
 
 -- how many of a worker's asks pass a test of ends
 abbrev pub ends_by : (Ask → Bool) → List Event → ℕ → ℕ
 ends_by test journal worker = count_by (λ e. e.worker == worker && test e.ask) journal
 
--- at most as many of a worker's sessions ended by a failed link or a failed start as its post counts
-pub record FaultEndsAreCounted (journal : List Event) (posts : List PostNow) : Type 0 where
+-- a run's numbers: those of what was decided are in their types' ranges, and a post counts what failed, and no less
+pub record KeepsNumbers (setup : Settings) (journal : List Event) (posts : List PostNow) : Type 0 where
+  pub typed : AllByRecursion IsTyped (decided_in setup journal)
+  -- exactly the failed operations that a post reports, if it does
+  pub counted : EachPost posts (λ worker post. IfSome post.scene (λ s. CountsAsTold s post.faults))
+  -- at most as many of a worker's sessions ended by a failed link or a failed start as its post counts
   pub link : EachPost posts (λ worker post. ends_by is_link_end journal worker ≤ post.faults.link)
   pub keeper : EachPost posts (λ worker post. ends_by is_keeper_end journal worker ≤ post.faults.keeper)
 
--- each post, if it reports, counts exactly the failed operations that it reports: accepts, starts, and those on
--- connections and users' files
-pub record FaultsAreCounted (posts : List PostNow) : Type 0 where
-  pub each : EachPost posts (λ worker post. IfSome post.scene (λ s. CountsAsTold s post.faults))
-
 -- ---- completeness
 
--- a post counts no failed accept, start or link; of connections and users' files, whose failures are answered, it may
--- count some
+-- a post counts no failed accept, start or link; failures on clients and users' files, which are answered, it may count
 pub record IsFaultless (post : PostNow) : Type 0 where
   pub no_accept_fault : post.faults.accept ≡ 0
   pub no_keeper_fault : post.faults.keeper ≡ 0
   pub no_link_fault : post.faults.link ≡ 0
 
--- every post is without a fault (`IsFaultless`)
-pub record AreFaultless (posts : List PostNow) : Type 0 where
-  pub each : EachPost posts (λ worker post. IsFaultless post)
-
--- a worker's sessions are all its events, match what its post reports, and got every answer; users who came to log in
--- were welcomed and served their files
+-- a worker's sessions are all its events, match what its post reports, and got every answer
 pub record IsServedWhole (service : Service) (journal : List Event) (worker : ℕ) (s : Scene) : Type 0 where
   pub sittings : List Sitting
   pub last : LastAccept
   pub served : AreSittingsOf service journal worker sittings
   pub story : IsStory sittings last s
   pub answered : AllByRecursion (λ sitting. AreAnswered service [] sitting.parts) sittings
-  pub welcomed : UsersGetIn service journal sittings
-  pub files : UsersAreServed service journal sittings
 
--- no session ended by a fault, and each worker's sessions were served whole (`IsServedWhole`)
-pub record IsAnsweredWhole (service : Service) (journal : List Event) (posts : List PostNow) : Type 0 where
-  pub ended : list_any (λ e. is_fault_end e.ask) journal ≡ false
-  pub answered : EachScene posts (IsServedWhole service journal)
+-- a worker's sessions were served whole, and users who came to log in were welcomed and served their files
+pub record ServesUsers (service : Service) (journal : List Event) (worker : ℕ) (s : Scene) : Type 0 where
+  pub whole : IsServedWhole service journal worker s
+  pub welcomed : UsersGetIn service journal whole.sittings
+  pub files : UsersAreServed service journal whole.sittings
 
 -- ---- all of it
 
@@ -142,11 +125,13 @@ pub record RunPromises (service : Service) (failed : Bool) (journal : List Event
   pub consequences : HasConsequences service.setup journal
   pub unseen : ShowsNoAccounts service.setup journal
   pub quota : RunsToQuota service.setup journal posts
-  pub fault_ends : FaultEndsAreCounted journal posts
-  pub counted : FaultsAreCounted posts
+  pub numbers : KeepsNumbers service.setup journal posts
   pub one_each : length posts ≡ service.setup.workers
   pub lost : has_lost journal ≡ true → Rose log_old log_new
   pub kept : has_lost journal ≡ false → log_new ≡ log_old
   pub accept_failed : failed ≡ true → SomeAcceptFailed posts
-  pub accepted : failed ≡ false → NoAcceptFailed posts
-  pub whole : AreFaultless posts → has_lost journal ≡ false → IsAnsweredWhole service journal posts
+  pub accepted : failed ≡ false → EachScene posts (λ worker s. ends_by_accept_fault s ≡ false)
+  pub unfaulted : EachPost posts (λ worker post. IsFaultless post) → has_lost journal ≡ false
+      → list_any (λ e. is_fault_end e.ask) journal ≡ false
+  pub users : EachPost posts (λ worker post. IsFaultless post) → has_lost journal ≡ false
+      → EachScene posts (ServesUsers service journal)

@@ -8,11 +8,12 @@ use Rattle.monitor_server.specs.declared.command.AloneCommand.{AloneCommand}
 use Rattle.monitor_server.specs.declared.report.Answer.{Answer}
 use Rattle.monitor_server.specs.Alone.{IsRunOf}
 use Rattle.monitor_server.specs.Around.{Around, Said, SidesNow, answer_in, only_answer, sides_of}
-use Rattle.monitor_server.specs.Modes.{PasswordRan, ServeRan}
+use Rattle.monitor_server.specs.Modes.{PasswordRan}
+use Rattle.monitor_server.specs.Whole.{HasServed}
 
 pub served_from : {F S K E : Type 0} {contents : F → Option Contents} {forms : List Key} {first before after : Around F S K E} {said : Said} {source : Source}
-    → first ≡ before → ServeRan source forms contents first after said → ServeRan source forms contents before after said
-served_from {contents = contents} {forms} {after = after} {said} {source} is ran = subst (λ b. ServeRan source forms contents b after said) is ran
+    → first ≡ before → HasServed source forms contents first after said → HasServed source forms contents before after said
+served_from {contents = contents} {forms} {after = after} {said} {source} is ran = subst (λ b. HasServed source forms contents b after said) is ran
 
 pub printed_from : {F E : Type 0} {contents : F → Option Contents} {first before after : SidesNow F E} {answer : Answer} {parts : OtpParts}
     → first ≡ before → PasswordRan parts contents first after answer → PasswordRan parts contents before after answer

@@ -28,6 +28,7 @@ use Rattle.recover_mode.specs.Words.{RecoverParts, recover_command}
 use Rattle.drill_mode.specs.declared.error.DrillError.TheVariants as drill_errors
 use Rattle.serve_mode.specs.declared.error.ServeError.TheVariants as serve_errors
 use Rattle.serve_mode.specs.Errors as serves
+use Rattle.serve_mode.specs.Keeping.{IsKept}
 use Rattle.serve_mode.specs.Words.{Plain, Source, files_of, serve_command, setups_of}
 use Rattle.setup_reading.specs.Touching.{TouchesNamed}
 use Rattle.serve_mode.proofs.Promises.{memory_why, unserved_ended}
@@ -47,7 +48,7 @@ use Rattle.monitor_server.specs.Commands.{AsksAlone, IsCommand, IsReading, asks_
 use Rattle.monitor_server.specs.Headline.{IsStatus, StatusHasCause, UsesEndsAlone, UsesNothing}
 use Rattle.monitor_server.specs.Modes.{AuditRan, ChangesFiles, CheckRan, ChildRan, DrillRan, EnrolRan, LeavesRest, PasswordRan, RecoverRan, RenewRan, ServeRan, audit_detail, checked_detail, detail_of, recover_detail, renew_detail, serve_detail}
 use Rattle.monitor_server.specs.Touching.{TouchesFilesNamed, TouchesGiven}
-use Rattle.monitor_server.specs.Whole.{Whole}
+use Rattle.monitor_server.specs.Whole.{HasServed, Whole}
 use Rattle.monitor_server.proofs.Apart.{AskOnly, Recover, Renew, none-some, only_audit, only_check, only_child, only_drill, only_enrol, only_otp, only_recover, only_renew, only_serve, spoken}
 use Rattle.monitor_server.proofs.Touching.{touches_alone, touches_same, touches_served}
 use Rattle.monitor_server.proofs.Told.{IsModeStatus, audit_plain, audit_status, check_detail, check_status, child_status, detail-by, drill_status, enrol_files, enrol_status, moded, password_detail, password_status, recover_plain, recover_status, renew_plain, renew_status, serve_command_status, serve_plain, serve_status, served, uncommanded, unremembered}
@@ -120,12 +121,18 @@ taking_none : {A B : Type 0} → A ⊎ B → A ⊎ B × (false ≡ false)
 taking_none (inl a) = inl a
 taking_none (inr b) = inr (b, refl)
 
+-- what a run keeps, by the status that is said
+is_kept : {F S K E : Type 0} (forms : List Key) (contents : F → Option Contents) (before after : Around F S K E) (said : Said) (source : Source)
+    → HasServed source forms contents before after said → IsKept source forms said.status said.journal said.posts (run_around contents before) (run_around contents after)
+is_kept forms contents before after said source done = subst (λ (n : ℕ). IsKept source forms n said.journal said.posts (run_around contents before) (run_around contents after)) (sym done.ran.status_is) done.kept
+
 module _ {F S K E : Type 0} {words : List (List ℕ)} {forms : List Key} {contents : F → Option Contents} {before after : Around F S K E} {said : Said} where
-  pub whole-served : (source : Source) → asks_serve words ≡ Some source → ServeRan source forms contents before after said → (source ≡ Plain → after.files ≡ before.files) → after.ends ≡ before.ends → TouchesNamed (files_of source) (setups_of source) (setups_of source) (files_with contents before.files) (files_with contents after.files)
+  pub whole-served : (source : Source) → asks_serve words ≡ Some source → HasServed source forms contents before after said → (source ≡ Plain → after.files ≡ before.files) → after.ends ≡ before.ends → TouchesNamed (files_of source) (setups_of source) (setups_of source) (files_with contents before.files) (files_with contents after.files)
       → Whole words forms contents before after said
-  whole-served source asked ran plain ends touches = let only = only_serve words source asked in record {
+  whole-served source asked done plain ends touches = let only = only_serve words source asked in let ran = done.ran in record {
     causes = served words source said.status asked (spoken serve_command words source asked) (subst IsStatus (sym ran.status_is) (serve_status ran.end)) (λ two. serve_command_status ran.end (sym ran.status_is ∙ two));
-    serve = record { ran = λ other is. subst (λ s. ServeRan s forms contents before after said) (once source other (sym asked ∙ is)) ran };
+    serve = record { ran = λ other is. (served_for other is).ran };
+    keeps = record { kept = λ other is. is_kept forms contents before after said other (served_for other is) };
     password = record { ran = λ other is. none-some (asks_otp words) other (only.otp refl) is };
     check = record { ran = λ other is. none-some (asks_check words) other (only.check refl) is };
     child = record { ran = λ other is. none-some (asks_child words) other (only.child refl) is };
@@ -157,6 +164,9 @@ module _ {F S K E : Type 0} {words : List (List ℕ)} {forms : List Key} {conten
     once : (a b : Source) → Some a ≡ Some b → a ≡ b
     once a b e = cc
 
+    served_for : (other : Source) → asks_serve words ≡ Some other → HasServed other forms contents before after said
+    served_for other is = subst (λ s. HasServed s forms contents before after said) (once source other (sym asked ∙ is)) done
+
   pub whole-password : (parts : OtpParts) → asks_otp words ≡ Some parts → PasswordRan parts contents (sides_of before) (sides_of after) (answer_in said) → UsesNothing before after said → (parts.list ≡ None → after.files ≡ before.files) → ((said.status ≡ 3) ⊎ (said.status ≡ 9) → after.ends ≡ before.ends) → ((said.status ≡ 4) ⊎ (said.status ≡ 5) ⊎ (said.status ≡ 13) → after.ends ≡ before.ends) → FilesGo SameFiles contents before.files after.files → TouchesFilesNamed words contents before after
       → Whole words forms contents before after said
   whole-password parts asked ran unused unread silent at_list goes touches =
@@ -166,6 +176,7 @@ module _ {F S K E : Type 0} {words : List (List ℕ)} {forms : List Key} {conten
       record {
         causes = moded words said.status (inr (inl (parts, asked))) (spoken otp_command words parts asked) of;
         serve = record { ran = λ other is. none-some (asks_serve words) other (only.serve refl) is };
+        keeps = record { kept = λ other is. none-some (asks_serve words) other (only.serve refl) is };
         password = record {
           ran = λ other is.
               let same : parts ≡ other = (let e : Some parts ≡ Some other = sym asked ∙ is in cc) in
@@ -192,6 +203,7 @@ module _ {F S K E : Type 0} {words : List (List ℕ)} {forms : List Key} {conten
       record {
         causes = moded words said.status (inr (inr (inl (setup, asked)))) (spoken check_command words setup asked) of;
         serve = record { ran = λ other is. none-some (asks_serve words) other (only.serve refl) is };
+        keeps = record { kept = λ other is. none-some (asks_serve words) other (only.serve refl) is };
         password = record { ran = λ other is. none-some (asks_otp words) other (only.otp refl) is };
         check = record {
           ran = λ other is.
@@ -218,6 +230,7 @@ module _ {F S K E : Type 0} {words : List (List ℕ)} {forms : List Key} {conten
       record {
         causes = moded words said.status (inr (inr (inr (inl (parts, asked))))) (spoken child_command words parts asked) of;
         serve = record { ran = λ other is. none-some (asks_serve words) other (only.serve refl) is };
+        keeps = record { kept = λ other is. none-some (asks_serve words) other (only.serve refl) is };
         password = record { ran = λ other is. none-some (asks_otp words) other (only.otp refl) is };
         check = record { ran = λ other is. none-some (asks_check words) other (only.check refl) is };
         child = record {
@@ -244,6 +257,7 @@ module _ {F S K E : Type 0} {words : List (List ℕ)} {forms : List Key} {conten
       record {
         causes = moded words said.status (inr (inr (inr (inr (inl (parts, asked)))))) (spoken audit_command words parts asked) of;
         serve = record { ran = λ other is. none-some (asks_serve words) other (only.serve refl) is };
+        keeps = record { kept = λ other is. none-some (asks_serve words) other (only.serve refl) is };
         password = record { ran = λ other is. none-some (asks_otp words) other (only.otp refl) is };
         check = record { ran = λ other is. none-some (asks_check words) other (only.check refl) is };
         child = record { ran = λ other is. none-some (asks_child words) other (only.child refl) is };
@@ -270,6 +284,7 @@ module _ {F S K E : Type 0} {words : List (List ℕ)} {forms : List Key} {conten
       record {
         causes = moded words said.status (inr (inr (inr (inr (inr (inl (parts, asked))))))) (spoken renew_command words parts asked) of;
         serve = record { ran = λ other is. none-some (asks_serve words) other (only.serve refl) is };
+        keeps = record { kept = λ other is. none-some (asks_serve words) other (only.serve refl) is };
         password = record { ran = λ other is. none-some (asks_otp words) other (only.otp refl) is };
         check = record { ran = λ other is. none-some (asks_check words) other (only.check refl) is };
         child = record { ran = λ other is. none-some (asks_child words) other (only.child refl) is };
@@ -298,6 +313,7 @@ module _ {F S K E : Type 0} {words : List (List ℕ)} {forms : List Key} {conten
       record {
         causes = moded words said.status (inr (inr (inr (inr (inr (inr (inl (number, asked)))))))) (spoken drill_command words number asked) of;
         serve = record { ran = λ other is. none-some (asks_serve words) other (only.serve refl) is };
+        keeps = record { kept = λ other is. none-some (asks_serve words) other (only.serve refl) is };
         password = record { ran = λ other is. none-some (asks_otp words) other (only.otp refl) is };
         check = record { ran = λ other is. none-some (asks_check words) other (only.check refl) is };
         child = record { ran = λ other is. none-some (asks_child words) other (only.child refl) is };
@@ -335,6 +351,7 @@ module _ {F S K E : Type 0} {words : List (List ℕ)} {forms : List Key} {conten
       record {
         causes = moded words said.status (inr (inr (inr (inr (inr (inr (inr (inl (parts, asked))))))))) (spoken recover_command words parts asked) of;
         serve = record { ran = λ other is. none-some (asks_serve words) other (only.serve refl) is };
+        keeps = record { kept = λ other is. none-some (asks_serve words) other (only.serve refl) is };
         password = record { ran = λ other is. none-some (asks_otp words) other (only.otp refl) is };
         check = record { ran = λ other is. none-some (asks_check words) other (only.check refl) is };
         child = record { ran = λ other is. none-some (asks_child words) other (only.child refl) is };
@@ -360,6 +377,7 @@ module _ {F S K E : Type 0} {words : List (List ℕ)} {forms : List Key} {conten
       record {
         causes = moded words said.status (inr (inr (inr (inr (inr (inr (inr (inr (parts, asked))))))))) (spoken enrol_command words parts asked) of;
         serve = record { ran = λ other is. none-some (asks_serve words) other (only.serve refl) is };
+        keeps = record { kept = λ other is. none-some (asks_serve words) other (only.serve refl) is };
         password = record { ran = λ other is. none-some (asks_otp words) other (only.otp refl) is };
         check = record { ran = λ other is. none-some (asks_check words) other (only.check refl) is };
         child = record { ran = λ other is. none-some (asks_child words) other (only.child refl) is };
@@ -420,7 +438,8 @@ module _ {F S K E : Type 0} {words : List (List ℕ)} {forms : List Key} {conten
       → Whole words forms contents before after said
   whole-nothing known why plain events workers same = record {
     causes = known;
-    serve = record { ran = λ source asked. unremembered_serve source (nine why (inl (source, asked))) };
+    serve = record { ran = λ source asked. (unremembered_serve source (nine why (inl (source, asked)))).ran };
+    keeps = record { kept = λ source asked. is_kept forms contents before after said source (unremembered_serve source (nine why (inl (source, asked)))) };
     password = record { ran = λ parts asked. ran why (inr (inl (parts, asked))) };
     check = record { ran = λ setup asked. ran why (inr (inr (inl (setup, asked)))) };
     child = record { ran = λ parts asked. ran why (inr (inr (inr (inl (parts, asked))))) };
@@ -464,16 +483,15 @@ module _ {F S K E : Type 0} {words : List (List ℕ)} {forms : List Key} {conten
     nine (inl is) command = is
     nine (inr none) command = absurd (none command)
 
-    unremembered_serve : (source : Source) → said.status ≡ 9 → ServeRan source forms contents before after said
+    unremembered_serve : (source : Source) → said.status ≡ 9 → HasServed source forms contents before after said
     unremembered_serve source is =
         let logs = subst (λ (a : Around F S K E). IsUnwritten before.log.held a.log.held) (sym same) (unwritten before.log.held) in
         let placed = subst (λ (a : Around F S K E). Gains before.site.listens [] a.site.listens) (sym same) (Gains-none before.site.listens) in
+        let run = unserved_ended source forms serve_errors.OutOfMemory (Err serve_errors.OutOfMemory) said.journal said.posts (run_around contents before) (run_around contents after)
+        refl (memory_why source forms (contents before.files.it) (contents after.files.it) (ReadRose before.files after.files) (Rose before.site.faults after.site.faults)) events workers (kept_files contents before.files after.files files) placed logs in
         record {
-          end = Err serve_errors.OutOfMemory;
-          status_is = is;
-          detail_is = plain;
-          ended = unserved_ended source forms serve_errors.OutOfMemory (Err serve_errors.OutOfMemory) said.journal said.posts (run_around contents before) (run_around contents after)
-              refl (memory_why source forms (contents before.files.it) (contents after.files.it) (ReadRose before.files after.files) (Rose before.site.faults after.site.faults)) events workers (kept_files contents before.files after.files files) placed logs;
+          ran = record { end = Err serve_errors.OutOfMemory; status_is = is; detail_is = plain; ended = run.serve };
+          kept = run.kept;
         }
 
     unremembered_drill : (number : ℕ) → said.status ≡ 9 → DrillRan number before.ends after.ends said

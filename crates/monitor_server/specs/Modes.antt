@@ -10,6 +10,7 @@ use Rattle.serve_mode.specs.declared.error.ServeError.{ServeError}
 use Rattle.serve_mode.specs.declared.error.ServeError.TheVariants as serve_errors
 use Rattle.serve_mode.specs.Errors as serves
 use Rattle.serve_mode.specs.Headline.{ServeEnded}
+use Rattle.serve_mode.specs.Keeping.{IsKept}
 use Rattle.serve_mode.specs.Words.{Plain, Source}
 use Rattle.otp_mode.specs.declared.fault.OtpFault.{OtpFault}
 use Rattle.otp_mode.specs.declared.fault.OtpFault.TheVariants as faults
@@ -86,6 +87,13 @@ pub record ServeRan {F S K E : Type 0} (source : Source) (forms : List Key) (con
 pub record ServeMode {F S K E : Type 0} (words : List (List ℕ)) (forms : List Key) (contents : F → Option Contents)
     (before after : Around F S K E) (said : Said) : Type 0 where
   pub ran : (source : Source) → asks_serve words ≡ Some source → ServeRan source forms contents before after said
+
+-- what a run of `serve` keeps besides (`IsKept`), if the command line asks for it
+pub record KeepsMode {F S K E : Type 0} (words : List (List ℕ)) (forms : List Key) (contents : F → Option Contents)
+    (before after : Around F S K E) (said : Said) : Type 0 where
+  pub kept : (source : Source) → asks_serve words ≡ Some source
+      → IsKept source forms said.status said.journal said.posts (run_around contents before)
+      (run_around contents after)
 
 -- the detail of a fault of `otp`: a word list that is missing or refused
 abbrev pub fault_detail : OtpFault → Detail
@@ -179,8 +187,7 @@ pub record AuditMode {F S K E : Type 0} (words : List (List ℕ)) (contents : F 
   pub ran : (parts : AuditParts) → asks_audit words ≡ Some parts
       → (said.status ≡ 9) ⊎ AuditRan parts contents (sides_of before) (sides_of after) (answer_in said)
 
--- the detail of an end of `renew`: what is missing or refused, that the log isn't fresh, or why the response was
--- refused
+-- the detail of an end of `renew`: what is missing or refused, a log that isn't fresh, or why the response was refused
 abbrev pub renew_detail : Result Renewed RenewError → Detail
 renew_detail (Err renew_errors.SetupMissing) = Missing Setup
 renew_detail (Err (renew_errors.SetupRefused fault)) = SetupBad fault
@@ -246,8 +253,7 @@ pub record EnrolRan {E : Type 0} (parts : EnrolParts) (before after : EndsNow E)
   pub cause : enrols.IsOutcome parts before.link after.link (EndsRose before after) outcome
   pub exact : enrols_exact.IsExact before.link after.link (EndsRose before after) outcome
 
--- `enrol` ran as it promises, or ended with 9 (out of memory) and sent and received nothing, if the command line asks
--- for it
+-- `enrol` ran as it promises, or ended with 9 and neither sent nor received, if the command line asks for it
 pub record EnrolMode {F S K E : Type 0} (words : List (List ℕ)) (before after : Around F S K E) (said : Said)
     : Type 0 where
   pub ran : (parts : EnrolParts) → asks_enrol words ≡ Some parts
@@ -270,8 +276,7 @@ pub record DrillMode {F S K E : Type 0} (words : List (List ℕ)) (before after 
     : Type 0 where
   pub ran : (number : ℕ) → asks_drill words ≡ Some number → DrillRan number before.ends after.ends said
 
--- only `serve`, `renew` and `recover` change files: `renew` only the setup's, `recover` the setup's and the log's,
--- these two only with status 0, 8 or 11
+-- only `serve`, `renew` (the setup's) and `recover` (the setup's and the log's, with status 0, 8 or 11) change files
 pub record ChangesFiles {F S K E : Type 0} (words : List (List ℕ)) (contents : F → Option Contents)
     (before after : Around F S K E) (said : Said) : Type 0 where
   pub same : asks_serve words ≡ None → asks_renew words ≡ None → asks_recover words ≡ None
@@ -283,8 +288,7 @@ pub record ChangesFiles {F S K E : Type 0} (words : List (List ℕ)) (contents :
   pub unwritten : asks_serve words ≡ None → said.status ≢ 0 → said.status ≢ 8 → said.status ≢ 11
       → FilesGo SameFiles contents before.files after.files
 
--- what a mode doesn't use it leaves as it was: files, site, ends, log, posts and journal; only some statuses come with
--- a detail
+-- what a mode doesn't use it leaves as it was: files, site, ends, log, posts, journal; only some statuses have a detail
 pub record LeavesRest {F S K E : Type 0} (words : List (List ℕ)) (before after : Around F S K E) (said : Said)
     : Type 0 where
   pub files : asks_serve words ≡ None → asks_otp words ≡ None → asks_check words ≡ None → asks_audit words ≡ None

@@ -19,7 +19,8 @@ ghost use Rattle.monitor_server.specs.Around.{files_with};
 ghost use Rattle.monitor_server.specs.Headline.{UsesEndsAlone};
 ghost use Rattle.monitor_server.specs.Modes.{AuditRan, CheckRan, ChildRan, DrillRan, EnrolRan, PasswordRan, RecoverRan};
 ghost use Rattle.monitor_server.specs.Touching.{TouchesGiven};
-ghost use Rattle.monitor_server.specs.Modes.{RenewRan, ServeRan, audit_detail, detail_of, finding_detail};
+ghost use Rattle.monitor_server.specs.Whole.{HasServed};
+ghost use Rattle.monitor_server.specs.Modes.{RenewRan, audit_detail, detail_of, finding_detail};
 ghost use Rattle.monitor_server.specs.Modes.{recover_detail, renew_detail, serve_detail};
 
 use crate::report::{Answer, Detail, Ended, FEW_REQUESTS, FileKind, Report};
@@ -56,7 +57,7 @@ pub(crate) fn serve_setup<
     world: World<F, S, K, E>,
     information: &I,
 ) -> Ended<F, S, K, E>
-    ensures serve { ServeRan (serves.source_of command.now) (I.forms information.now) F.contents
+    ensures serve { HasServed (serves.source_of command.now) (I.forms information.now) F.contents
         world result.world result.said }
     ensures plain { serves.source_of command.now ≡ Plain → result.world.files ≡ world.files }
     ensures ends { result.world.ends ≡ world.ends }

@@ -4,7 +4,7 @@ ghost use Rattle.std.specs.Prelude.{◌≡◌, false};
 ghost use Rattle.policy_model.specs.Journal.{has_lost};
 ghost use Rattle.monitor_server.specs.Headline.{StatusHasCause};
 ghost use Rattle.monitor_server.specs.Modes.{AuditMode, ChangesFiles, CheckMode, ChildMode, DrillMode, EnrolMode};
-ghost use Rattle.monitor_server.specs.Modes.{LeavesRest, PasswordMode, RecoverMode, RenewMode, ServeMode};
+ghost use Rattle.monitor_server.specs.Modes.{KeepsMode, LeavesRest, PasswordMode, RecoverMode, RenewMode, ServeMode};
 ghost use Rattle.monitor_server.specs.Touching.{TouchesFilesNamed};
 ghost use Rattle.monitor_server.specs.Whole.{Whole};
 
@@ -89,6 +89,8 @@ pub fn otplogd<
     ensures causes { StatusHasCause words.now result.said.status }
     // The mode `serve` serves by the setup that the words name, as its promises say, or says why not.
     ensures serve { ServeMode words.now (I.forms information.now) F.contents world result.world result.said }
+    // By the same service it keeps what that means for users, the accounts in the setup's file, and its numbers.
+    ensures keeps { KeepsMode words.now (I.forms information.now) F.contents world result.world result.said }
     // The mode `otp` prints the password that its words, files and input spell, or says why not.
     ensures password { PasswordMode words.now F.contents world result.world result.said }
     // The mode `check` says what its files hold of a setup, or why it says nothing.

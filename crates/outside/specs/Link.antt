@@ -4,8 +4,7 @@ use Rattle.outside.specs.declared.act.Failed.{Failed}
 use Rattle.outside.specs.declared.receiving.Receiving.{Receiving}
 use Rattle.outside.specs.Told.{Gains, Goes}
 
--- what a stream reports: the bytes still to come, those received and those sent so far, and, where it reports them,
--- the receivings that were asked of it
+-- what a stream reports: bytes to come, bytes received, bytes sent, and perhaps the receivings that were asked of it
 pub record Link : Type 0 where
   pub left : List ℕ
   pub taken : List ℕ

@@ -14,8 +14,7 @@ use Rattle.outside.specs.Faults.{AreCounts}
 use Rattle.outside.specs.Told.{Goes}
 use Rattle.outside.specs.Link.{Link}
 
--- what a post reports: its operations, what passed with each child, what nobody received, and what each connection's
--- children have to send
+-- what a post reports: operations, talks with children, bytes not received, and what each connection's children send
 pub record Scene : Type 0 where
   pub acts : List Act
   pub talks : List Talk
@@ -129,9 +128,7 @@ is_failed_vault _ = false
 abbrev pub counted : ℕ → ℕ
 counted number = min number (2 ^ 64 - 1)
 
--- a post counts exactly the failed operations that it reports, up to
--- the greatest number of a count: accepts, starts, and
--- those on connections and users' files
+-- a post counts exactly the failed operations that it reports, as far as a count goes
 pub record CountsAsTold (scene : Scene) (faults : Faults) : Type 0 where
   pub accept : faults.accept ≡ counted (count_by is_failed_accept scene.acts)
   pub keeper : faults.keeper ≡ counted (count_by is_failed_start scene.acts)

@@ -24,8 +24,7 @@ pub record NoPasswordTwice (setup : Settings) (journal : List Event) : Type 0 wh
   pub distinct : (user : Name) (account : Account) → account_of setup user ≡ Some account
       → are_distinct ◌==◌ (accepted_of journal account) ≡ true
 
--- a user has at most as many permitted replies as passwords in the setup, and each of them lowers the number that later
--- challenges name, decoys aside
+-- a user has no more permitted replies than passwords, and each lowers the number of later challenges, decoys aside
 pub record SequenceFalls (setup : Settings) (journal : List Event) : Type 0 where
   pub few : (user : Name) (account : Account) → account_of setup user ≡ Some account → length (replies_of journal user)
       ≤ account.sequence
@@ -38,15 +37,13 @@ pub record IsLastTaking (journal : List Event) (user : Name) (i k : ℕ) (taking
   pub taken : StandsAt journal (takes_user user) i taking
   pub last : (n : ℕ) (e : Event) → i < n → n < k → StandsAt journal (takes_user user) n e → e.session ≢ taking.session
 
--- between a session's last permitted CHALLENGE for a user and its permitted REPLY, no session has another permitted
--- CHALLENGE for that user, decoys included
+-- from a session's last CHALLENGE for a user to its permitted REPLY no other CHALLENGE for that user is permitted
 pub record OneTakerAtATime (setup : Settings) (journal : List Event) : Type 0 where
   pub alone : (user : Name) (i k : ℕ) (taking reply : Event) → RepliesAt journal user k reply
       → IsLastTaking journal user i k taking → taking.session ≡ reply.session → (m : ℕ) (e : Event) → i < m → m < k
       → StandsAt journal (takes_user user) m e → ⊥
 
--- before place k the session has a permitted REPLY for the account of this number, whose password hashed to the current
--- one
+-- before place k the session has a permitted REPLY for this account, and its password hashed to the current one
 pub record IsVerifiedBefore (setup : Settings) (journal : List Event) (k session number : ℕ) : Type 0 where
   pub place : ℕ
   pub reply : Event
@@ -65,8 +62,7 @@ pub record VerifiedBeforeExport (setup : Settings) (journal : List Event) : Type
   pub verified : (k : ℕ) (e : Event) → slice_get journal k ≡ Some e → exports e ≡ true
       → IsVerifiedBefore setup journal k e.session (value_of e.decision)
 
--- what every legal journal ensures: a login before each export, no password accepted twice, a sequence that falls, one
--- taker at a time
+-- of every legal journal: a login before each export, no password twice, a falling sequence, one taker at a time
 pub record HasConsequences (setup : Settings) (journal : List Event) : Type 0 where
   pub verified : VerifiedBeforeExport setup journal
   pub once : NoPasswordTwice setup journal

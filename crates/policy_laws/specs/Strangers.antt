@@ -23,8 +23,7 @@ abbrev pub without_readings : Ask → Ask
 without_readings (asks.Reply words hex) = asks.Reply None None
 without_readings ask = ask
 
--- what a session was told of an ask: its kind, if it is a request, and whether it was permitted, or the rule that
--- denied it
+-- what a session was told of an ask: its kind, if it is a request, and whether it was permitted, or the rule
 pub record Told : Type 0 where
   pub kind : Option Kind
   pub decision : Decision
@@ -45,8 +44,7 @@ asks_in journal session = filter (is_own session is_between) journal
 abbrev pub told_in : List Event → ℕ → List Told
 told_in journal session = map told_of (asks_in journal session)
 
--- a stranger's ask at this place: its session was opened and has no accepted REPLY so far; it is no CHALLENGE, no end,
--- not lost
+-- a stranger's ask at this place: its session is open and has no accepted REPLY; it is no CHALLENGE, no end, not lost
 pub record IsStrangersAsk (journal : List Event) (place : ℕ) (e : Event) : Type 0 where
   pub stands : slice_get journal place ≡ Some e
   pub opened : has_event (take place journal) e.session opens ≡ true
@@ -55,8 +53,7 @@ pub record IsStrangersAsk (journal : List Event) (place : ℕ) (e : Event) : Typ
   pub other : is_challenge e.ask ≡ false
   pub kept : is_lost e.decision ≡ false
 
--- strangers learn nothing of accounts: after the same dialogue, the same ask other than a CHALLENGE is shown the same,
--- under any setup with as many requests a session
+-- strangers learn nothing: after the same dialogue, the same ask but a CHALLENGE is shown the same under any accounts
 pub record ShowsNoAccounts (setup : Settings) (journal : List Event) : Type 0 where
   -- the readings of a reply may differ; dialogues are the same where the kinds of requests and what was told of each
   -- are

@@ -117,8 +117,7 @@ abbrev pub is_login_denial : Decision → Bool
 is_login_denial (decisions.Deny rule detail) = nat_le HOLD_LOST rule && nat_le rule NO_MATCH
 is_login_denial _ = false
 
--- what a child is told of a decision: any denial by rules 13 to 16 as rule 16 with detail 0, any other decision as it
--- is
+-- what a child is told of a decision: a denial by rules 13 to 16 as rule 16 with detail 0, any other as it is
 abbrev pub shown_of : Decision → Decision
 shown_of decision = if is_login_denial decision then decisions.Deny NO_MATCH 0 else decision
 

@@ -48,8 +48,7 @@ unfoldable pub was_given_up : List Event → Name → Bool
 was_given_up journal user =
     list_any (is_own (session_taking (last_taking_of journal user)) gives_up) (after_last (reserves user) journal)
 
--- the session that holds a user: the last to take it, unless that session has since sent a REPLY, had an ABANDON
--- permitted, or is over
+-- the session that holds a user: the last to take it, unless it has since sent a REPLY, been let ABANDON, or is over
 unfoldable pub holder_of : List Event → Name → Option ℕ
 holder_of journal user =
     option_and_then (λ e. if was_given_up journal user || is_over journal e.session then None else Some e.session)

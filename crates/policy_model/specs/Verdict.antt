@@ -56,8 +56,7 @@ is_held setup journal session user now =
 abbrev pub decoy_challenge : Settings → Name → Decision
 decoy_challenge setup user = Permit (DECOYS_FROM + decoy_number setup user)
 
--- who can log in is challenged by the number of the next password, or denied by rule 12 while another session holds the
--- user; others get a decoy
+-- the number of the next password for who can log in; rule 12 while another session holds the user; a decoy for others
 abbrev pub account_verdict : Settings → List Event → ℕ → Name → ℕ → Option Account → Decision
 account_verdict setup journal session user now None = decoy_challenge setup user
 account_verdict setup journal session user now (Some account) =
@@ -82,15 +81,13 @@ abbrev pub is_next_password : List Event → Account → ℕ → Bool
 is_next_password journal account password =
     hash_of account.algo password == current_password journal account && not (was_accepted journal account password)
 
--- the first reading that is the next password is permitted; otherwise rule 15 if one was accepted before, rule 16 if
--- none
+-- the first reading that is the next password is permitted; else rule 15 if one was accepted before, 16 if none
 abbrev pub passwords_verdict : List Event → List ℕ → Account → Decision
 passwords_verdict journal passwords account =
     option_map_or Permit (find (is_next_password journal account) passwords)
     (if list_any (was_accepted journal account) passwords then Deny PASSWORD_USED 0 else Deny NO_MATCH 0)
 
--- a REPLY for a user: rule 13 if its session doesn't hold the user, 14 if there is no reading, otherwise by the
--- readings
+-- a REPLY for a user: rule 13 if its session doesn't hold the user, 14 without a reading, otherwise by the readings
 abbrev pub user_verdict : Settings → List Event → ℕ → List ℕ → Name → Decision
 user_verdict setup journal session passwords user =
     if not (option_map_or (λ holder. holder == session) (holder_of journal user) false)
@@ -115,8 +112,7 @@ reply_verdict setup journal session words hex =
 abbrev pub allows : ℕ → ℕ → Bool
 allows mode needed = bit_and needed mode == needed
 
--- a READ or WRITE: rule 17 if the handle isn't open, 18 if its mode isn't enough; handle 0, the client's connection, is
--- permitted
+-- a READ or WRITE: rule 17 if the handle isn't open, 18 if its mode isn't enough; handle 0, the client, is permitted
 unfoldable pub handle_verdict : List Event → ℕ → ℕ → ℕ → Decision
 handle_verdict journal session handle needed =
     if handle == 0 then Permit 0

@@ -6,6 +6,7 @@ use Rattle.monitor_book.specs.declared.opened.Held.{Held}
 use Rattle.monitor_book.specs.Lines.{AppendsLines, HoldsLines, IsUnwritten, LogMatches}
 use Rattle.monitor_run.specs.Headline.{JournalIsLegal, RunPromises}
 use Rattle.monitor_run.specs.Posts.{PostNow}
+use Rattle.monitor_run.proofs.Promises.{numbers_none}
 use Rattle.otp_ledger.specs.Accounts.{LedgerParts}
 use Rattle.otp_ledger.specs.Standing.{StandsFor}
 use Rattle.outside.specs.Files.{Contents, MayBeReplaced, Replaced, SameFiles}
@@ -33,12 +34,15 @@ use Rattle.session_core.proofs.ReplayLemmas.{consequences}
 use Rattle.serve_mode.specs.declared.error.ServeError.{ServeError}
 use Rattle.serve_mode.specs.declared.error.ServeError.TheVariants as errors
 use Rattle.serve_mode.proofs.StillLemmas.{IsServiceOf, plain_service, service_of, service_still}
+use Rattle.serve_mode.specs.Accounts.{AccountsMatch, AreAccountsWritten}
 use Rattle.serve_mode.specs.AroundRun.{AroundRun}
 use Rattle.serve_mode.specs.Errors.{IsUnread, error_status, status_of, unread_status}
-use Rattle.serve_mode.specs.Headline.{AccountsMatch, AreAccountsWritten, ListensAt, NoFault, ServeEnded, ServeHasCause, ServePromises, is_run_status, is_unserved_status, setup_place}
+use Rattle.serve_mode.specs.Headline.{NoFault, OfServed, ServeHasCause, ServePromises, is_run_status, is_unserved_status, served_places, setup_place}
 use Rattle.fresh_log.specs.Fresh.{IsFresh}
-use Rattle.serve_mode.specs.Services.{IsServable, IsServedBy, IsUnfresh}
-use Rattle.serve_mode.specs.Steps.{IsUnready, WritesBack, WritesNamed, run_end}
+use Rattle.serve_mode.specs.Services.{IsServable, IsServedBy, IsUnfresh, tell_throughout}
+use Rattle.serve_mode.specs.Steps.{IsUnready, RunEnded, WritesBack, WritesNamed, run_end}
+use Rattle.serve_mode.specs.Keeping.{ServeKeeps}
+use Rattle.serve_mode.specs.Users.{KeepsUsers}
 use Rattle.serve_mode.specs.Words.{Named, Plain, Source}
 
 -- ---- the end of a run
@@ -307,11 +311,11 @@ module _ (source : Source) (service : Service) (ledger : LedgerParts) (written :
   none_failed : NoFault posts before after → failed ≡ false
   none_failed none = go failed refl where
     go : (b : Bool) → failed ≡ b → b ≡ false
-    go true is = absurd (let some = ran.accept_failed is in omega (arith, some.counted, (none.each.each some.worker some.post some.stands).no_accept_fault))
+    go true is = absurd (let some = ran.accept_failed is in omega (arith, some.counted, (none.each some.worker some.post some.stands).no_accept_fault))
     go false is = refl
 
   served_promises : 1 ≤ service.setup.workers → StandsFor ledger (kept_events journal) → Goes SameFiles before.files.contents mid → Gains before.listens (setup_place service.setup ∷ []) after.listens
-      → ServePromises source service (status_of (run_end written (has_lost journal) failed)) journal posts before after
+      → ServePromises service (status_of (run_end written (has_lost journal) failed)) journal posts before after
   served_promises some stands kept listens = record {
     legal = ran.legal;
     sessions = ran.sessions;
@@ -319,38 +323,66 @@ module _ (source : Source) (service : Service) (ledger : LedgerParts) (written :
     listens = listened posts ran.one_each;
     conversations = ran.conversations;
     log = ran.log;
-    consequences = ran.consequences;
-    unseen = ran.unseen;
     quota = ran.quota;
-    fault_ends = ran.fault_ends;
-    counted = ran.counted;
-    success = λ e. let z = tells.zero e in record { kept = z.0; accepted = ran.accepted z.1; quota = ran.quota };
-    accounts = accounts_match source service.setup ledger (run_end written (has_lost journal) failed) written (has_lost journal) failed journal before.files after.files mid tells stands kept writes (written_end source service.setup ledger mid after.files.contents (Rose before.files.replace_faults after.files.replace_faults) written writes);
-    complete = record {
-      succeeds = λ none. tells.well (none_lost none) (none_failed none) (λ e. none.replace (replace_rose source service.setup ledger mid after.files.contents (Rose before.files.replace_faults after.files.replace_faults) written writes e));
-      answered = λ none e. ran.whole none.each (tells.zero e).0;
-    };
+    kept = λ e. (tells.zero e).0;
+    accepted = λ e. ran.accepted (tells.zero e).1;
+    succeeds = λ none. tells.well (none_lost none) (none_failed none) (λ e. none.replace (replace_rose source service.setup ledger mid after.files.contents (Rose before.files.replace_faults after.files.replace_faults) written writes e));
+    answered = λ none e. ran.unfaulted none.each (tells.zero e).0;
   } where
-    listened : (posts : List PostNow) → length posts ≡ service.setup.workers → ListensAt service.setup posts before.listens after.listens
+    listened : (posts : List PostNow) → length posts ≡ service.setup.workers → Gains before.listens (served_places service.setup posts) after.listens
     listened [] none = absurd (omega (arith, none, some))
     listened (post ∷ posts) one_each = listens
 
+  served_accounts : StandsFor ledger (kept_events journal) → Goes SameFiles before.files.contents mid
+      → AccountsMatch source service.setup (status_of (run_end written (has_lost journal) failed)) journal before.files after.files
+  served_accounts stands kept = accounts_match source service.setup ledger (run_end written (has_lost journal) failed) written (has_lost journal) failed journal before.files after.files mid tells stands kept writes (written_end source service.setup ledger mid after.files.contents (Rose before.files.replace_faults after.files.replace_faults) written writes)
+
+  served_users : KeepsUsers service (status_of (run_end written (has_lost journal) failed)) journal posts before after
+  served_users = record {
+    consequences = ran.consequences;
+    unseen = ran.unseen;
+    users = λ none e. ran.users none.each (tells.zero e).0;
+  }
+
+  -- what the service that was served by has, it has by whatever service the files give
+  of_served : (forms : List Key) (Promises : Service → Type 0)
+      → IsServedBy source forms before.files.contents after.files.contents service
+      → ((other : Service) → IsServiceOf source forms before.files.contents after.files.contents other → other ≡ service)
+      → Promises service → OfServed source forms posts before after Promises
+  of_served forms Promises by same own = record {
+    some = inr (service, by, own);
+    all = λ other told asked.
+        let is = service_of source forms before.files.contents after.files.contents other told asked in
+        subst Promises (sym (same other is)) own;
+  }
+
   -- all of it, under the name of the end that was handed out
   pub served_ended : (forms : List Key) (end : Result (Unit {0}) ServeError) → end ≡ run_end written (has_lost journal) failed → IsServedBy source forms before.files.contents after.files.contents service → ((other : Service) → IsServiceOf source forms before.files.contents after.files.contents other → other ≡ service) → 1 ≤ service.setup.workers → StandsFor ledger (kept_events journal) → Goes SameFiles before.files.contents mid → Gains before.listens (setup_place service.setup ∷ []) after.listens
-      → ServeEnded source forms end journal posts before after
+      → RunEnded source forms end journal posts before after
   served_ended forms end is by same some stands kept listens =
       let promises = served_promises some stands kept listens in
-      subst (λ e. ServeEnded source forms e journal posts before after) (sym is) (record {
-        causes = served_causes some;
-        unread = λ error e. absurd (served_begins source service.setup ledger mid after.files.contents (Rose before.files.replace_faults after.files.replace_faults) written (has_lost journal) failed writes (subst IsUnbegun (sym e) tt));
-        unfresh = λ e. absurd (served_begins source service.setup ledger mid after.files.contents (Rose before.files.replace_faults after.files.replace_faults) written (has_lost journal) failed writes (subst IsUnbegun (sym e) tt));
-        ready = λ e. absurd (served_begins source service.setup ledger mid after.files.contents (Rose before.files.replace_faults after.files.replace_faults) written (has_lost journal) failed writes (subst IsUnbegun (sym e) tt));
-        printed = λ e _. plain_printed source service.setup ledger mid after.files.contents (Rose before.files.replace_faults after.files.replace_faults) written (has_lost journal) failed writes e;
-        served = inr (service, by, promises);
-        promises = λ other told asked. subst (λ s. ServePromises source s (status_of (run_end written (has_lost journal) failed)) journal posts before after) (sym (same other (service_of source forms before.files.contents after.files.contents other told asked))) promises;
-        unlogged = λ none. absurd (unserved none);
-        unlistened = λ none. absurd (unserved none);
-        unchanged = λ none. absurd (unserved none);
+      let serve = λ (s : Service). ServePromises s (status_of (run_end written (has_lost journal) failed)) journal posts before after in
+      let keeps = λ (s : Service). ServeKeeps source s (status_of (run_end written (has_lost journal) failed)) journal posts before after in
+      subst (λ e. RunEnded source forms e journal posts before after) (sym is) (record {
+        kept = record {
+          keeps = of_served forms keeps by same (record {
+            serves = promises;
+            users = served_users;
+            accounts = served_accounts stands kept;
+            numbers = ran.numbers;
+          });
+          unchanged = λ none. absurd (unserved none);
+        };
+        serve = record {
+          causes = served_causes some;
+          unread = λ error e. absurd (served_begins source service.setup ledger mid after.files.contents (Rose before.files.replace_faults after.files.replace_faults) written (has_lost journal) failed writes (subst IsUnbegun (sym e) tt));
+          unfresh = λ e. absurd (served_begins source service.setup ledger mid after.files.contents (Rose before.files.replace_faults after.files.replace_faults) written (has_lost journal) failed writes (subst IsUnbegun (sym e) tt));
+          ready = λ e. absurd (served_begins source service.setup ledger mid after.files.contents (Rose before.files.replace_faults after.files.replace_faults) written (has_lost journal) failed writes (subst IsUnbegun (sym e) tt));
+          printed = λ e _. plain_printed source service.setup ledger mid after.files.contents (Rose before.files.replace_faults after.files.replace_faults) written (has_lost journal) failed writes e;
+          promises = of_served forms serve by same promises;
+          unlogged = λ none. absurd (unserved none);
+          unlistened = λ none. absurd (unserved none);
+        };
       }) where
         unserved : posts ≡ [] → ⊥
         unserved none = let f : length posts ≡ 0 = ap length none in omega (arith, f, ran.one_each, some)
@@ -377,27 +409,31 @@ log_unchanged setup held_old held_new same = record {
 
 module _ (source : Source) (service : Service) (status : ℕ) (journal : List Event) (posts : List PostNow) (events : journal ≡ []) (none : posts ≡ []) where
   legal : JournalIsLegal service.setup journal
-  legal = subst (JournalIsLegal service.setup) (sym events) (record { legal = IsLegal-none service.setup; proper = tt; workers = tt; few = omega arith; typed = tt })
+  legal = subst (JournalIsLegal service.setup) (sym events) (record { legal = IsLegal-none service.setup; proper = tt; workers = tt; few = omega arith })
 
   unserved_promises : (before after : AroundRun)
-      → is_run_status status ≡ false → Goes SameFiles before.files.contents after.files.contents → Gains before.listens [] after.listens → IsUnwritten before.held after.held → (NoFault posts before after → status ≡ 9)
-      → ServePromises source service status journal posts before after
-  unserved_promises before after not_run kept listens log nine = record {
+      → is_run_status status ≡ false → Gains before.listens [] after.listens → IsUnwritten before.held after.held → (NoFault posts before after → status ≡ 9)
+      → ServePromises service status journal posts before after
+  unserved_promises before after not_run listens log nine = record {
     legal = legal;
     sessions = record { in_order = λ worker. ([], record { places = ap (λ j. worker_places j worker) events; each = tt; alone = tt }) };
     one_each = λ some. absurd (some none);
-    listens = subst (λ ps. ListensAt service.setup ps before.listens after.listens) (sym none) listens;
+    listens = subst (λ ps. Gains before.listens (served_places service.setup ps) after.listens) (sym none) listens;
     conversations = record { held = λ worker post is. no_post posts worker post none is };
     log = subst (λ j. LogMatches service.setup j before.held after.held) (sym events) (log_unchanged service.setup before.held after.held log);
-    consequences = consequences service.setup journal legal.legal;
-    unseen = shows_no_accounts service.setup journal legal.legal;
     quota = record { quota = λ worker post is. no_post posts worker post none is };
-    fault_ends = record { link = λ worker post is. no_post posts worker post none is; keeper = λ worker post is. no_post posts worker post none is };
-    counted = record { each = λ worker post is. no_post posts worker post none is };
-    success = λ e. absurd (run e);
-    accounts = accounts source;
-    complete = record { succeeds = λ h. inr (nine h); answered = λ h e. absurd (run e) };
+    kept = λ e. absurd (run e);
+    accepted = λ e. absurd (run e);
+    succeeds = λ h. inr (nine h);
+    answered = λ h e. absurd (run e);
   } where
+    run : status ≡ 0 → ⊥
+    run e = let f : true ≡ false = sym (ap is_run_status e) ∙ not_run in absurd cc
+
+  unserved_accounts : (before after : AroundRun) → is_run_status status ≡ false
+      → Goes SameFiles before.files.contents after.files.contents
+      → AccountsMatch source service.setup status journal before.files after.files
+  unserved_accounts before after not_run kept = accounts source where
     run : status ≡ 0 → ⊥
     run e = let f : true ≡ false = sym (ap is_run_status e) ∙ not_run in absurd cc
 
@@ -418,6 +454,13 @@ module _ (source : Source) (service : Service) (status : ℕ) (journal : List Ev
       either : (status ≡ 7) ⊎ (status ≡ 10) → ⊥
       either (inl e) = not 7 refl e
       either (inr e) = not 10 refl e
+
+  unserved_users : (before after : AroundRun) → KeepsUsers service status journal posts before after
+  unserved_users before after = record {
+    consequences = consequences service.setup journal legal.legal;
+    unseen = shows_no_accounts service.setup journal legal.legal;
+    users = λ _ _ worker post is. no_post posts worker post none is;
+  }
 
   unserved_causes : (before after : AroundRun) → is_run_status status ≡ false → (status ≡ 3 → (Rose before.files.read_faults after.files.read_faults)) → (status ≡ 6 → (Rose before.listen_faults after.listen_faults)) → ServeHasCause status journal posts before after
   unserved_causes before after not_run read listen = record {
@@ -450,20 +493,34 @@ pub record TellsWhy (source : Source) (forms : List Key) (old new : Option Conte
 
 pub unserved_ended : (source : Source) (forms : List Key) (error : ServeError) (end : Result (Unit {0}) ServeError) (journal : List Event) (posts : List PostNow) (before after : AroundRun)
     → end ≡ Err error → TellsWhy source forms before.files.contents after.files.contents error (Rose before.files.read_faults after.files.read_faults) (Rose before.listen_faults after.listen_faults) → journal ≡ [] → posts ≡ [] → Goes SameFiles before.files.contents after.files.contents → Gains before.listens [] after.listens → IsUnwritten before.held after.held
-    → ServeEnded source forms end journal posts before after
+    → RunEnded source forms end journal posts before after
 unserved_ended source forms error end journal posts before after is why events none kept listens log =
-    subst (λ e. ServeEnded source forms e journal posts before after) (sym is) (record {
-      causes = unserved_causes source (plain_service forms) (error_status error) journal posts events none before after why.tells.not_run why.tells.three why.tells.six;
-      unread = λ other e. why.unread other (let f : ◌≡◌ {A = Result (Unit {0}) ServeError} (Err error) (Err (errors.Unread other)) = e in cc);
-      unfresh = λ e. why.unfresh (let f : ◌≡◌ {A = Result (Unit {0}) ServeError} (Err error) (Err errors.LogNotFresh) = e in cc);
-      ready = λ e. why.ready (let f : ◌≡◌ {A = Result (Unit {0}) ServeError} (Err error) (Err errors.ListenFailed) = e in cc);
-      printed = λ _ some. absurd (some none);
-      served = inl none;
-      promises = λ service told asked. unserved_promises source service (error_status error) journal posts events none before after why.tells.not_run kept listens log (λ fault. why.nine service (service_of source forms before.files.contents after.files.contents service told asked) fault.read fault.listen);
-      unlogged = λ _. log;
-      unlistened = λ _. listens;
-      unchanged = λ _. kept;
-    })
+    subst (λ e. RunEnded source forms e journal posts before after) (sym is) (record {
+      kept = record {
+        keeps = record {
+          some = inl none;
+          all = λ service told asked. record {
+            serves = serves service told asked;
+            users = unserved_users source service (error_status error) journal posts events none before after;
+            accounts = unserved_accounts source service (error_status error) journal posts events none before after why.tells.not_run kept;
+            numbers = numbers_none service.setup journal posts events none;
+          };
+        };
+        unchanged = λ _. kept;
+      };
+      serve = record {
+        causes = unserved_causes source (plain_service forms) (error_status error) journal posts events none before after why.tells.not_run why.tells.three why.tells.six;
+        unread = λ other e. why.unread other (let f : ◌≡◌ {A = Result (Unit {0}) ServeError} (Err error) (Err (errors.Unread other)) = e in cc);
+        unfresh = λ e. why.unfresh (let f : ◌≡◌ {A = Result (Unit {0}) ServeError} (Err error) (Err errors.LogNotFresh) = e in cc);
+        ready = λ e. why.ready (let f : ◌≡◌ {A = Result (Unit {0}) ServeError} (Err error) (Err errors.ListenFailed) = e in cc);
+        printed = λ _ some. absurd (some none);
+        promises = record { some = inl none; all = serves };
+        unlogged = λ _. log;
+        unlistened = λ _. listens;
+      };
+    }) where
+      serves : (service : Service) → tell_throughout source before.files.contents after.files.contents ≡ true → IsServedBy source forms before.files.contents after.files.contents service → ServePromises service (error_status error) journal posts before after
+      serves service told asked = unserved_promises source service (error_status error) journal posts events none before after why.tells.not_run listens log (λ fault. why.nine service (service_of source forms before.files.contents after.files.contents service told asked) fault.read fault.listen)
 
 -- ---- why nobody was served
 

@@ -56,7 +56,7 @@ service_of Plain forms old new service told (forms_are, words_are, entries_are) 
     let setup_is = setup_once service.setup plain_settings (entries_are ∙ sym plain_is) in
     λ i. record { setup = setup_is i; words = words_are i; forms = forms_are i }
 service_of (Named name log) forms None new service told is = absurd (false≢true told)
-service_of (Named name log) forms (Some files) new service told is = record { forms_are = is.forms_are; files = files; told = refl; still = told; found = is.read told; fresh = is.fresh told }
+service_of (Named name log) forms (Some files) new service told (forms_are, read) = record { forms_are = forms_are; files = files; told = refl; still = told; found = (read told).0; fresh = (read told).1 }
 
 -- what files say of a service they say of those that they are still the same as
 pub service_still : (forms : List Key) (files later : Contents) (name : List ℕ) → SameFiles files later → service_in forms later name ≡ service_in forms files name
@@ -89,7 +89,11 @@ still_fresh (Some log) files later kept fresh = subst IsFresh (kept.same log) fr
 -- what was read is what the run was served by, as the files stood before it
 pub read_by : (source : Source) (forms : List Key) (old mid new : Option Contents) (setup : Settings) (words : List (List ℕ)) → IsReadFrom source forms mid setup words → IfSome mid (HasFreshLog (log_of source)) → Goes SameFiles old mid → (is_some new ≡ true → is_some mid ≡ true) → IsServedBy source forms old new (service_by setup words forms)
 read_by Plain forms old mid new setup words (setup_is, words_are) fresh kept telling = (refl, words_are, ap entries_of setup_is ∙ plain_is)
-read_by (Named name log) forms old mid new setup words read fresh kept telling = record { forms_are = refl; read = λ still. reads old mid (telling still) read kept; fresh = λ still. freshens old mid (telling still) fresh kept } where
+read_by (Named name log) forms old mid new setup words read fresh kept telling = (refl, λ still. both old (reads old mid (telling still) read kept) (freshens old mid (telling still) fresh kept)) where
+  both : (old : Option Contents) → IsServiceIn forms old name setup words → IfSome old (HasFreshLog log) → IfSome old (λ files. (service_in forms files name ≡ Ok (record { entries = entries_of setup; words = words })) × HasFreshLog log files)
+  both None read fresh = tt
+  both (Some files) read fresh = (read, fresh)
+
   reads : (old mid : Option Contents) → is_some mid ≡ true → IsServiceIn forms mid name setup words → Goes SameFiles old mid → IsServiceIn forms old name setup words
   reads old None some read kept = absurd cc
   reads None (Some later) some read kept = absurd kept

@@ -4,5 +4,8 @@ pub mod Services
 pub mod Errors
 pub mod AroundRun
 pub mod Headline
+pub mod Users
+pub mod Accounts
+pub mod Keeping
 pub mod Steps
 pub mod Finished

@@ -1,17 +1,16 @@
 -- Believed: what a run serves by.
-use Rattle.std.specs.Prelude.{◌≡◌, ℕ, Bool, true, ◌&&◌, List, [], Option, Some, None, IfSome, is_some, is_ok, codes}
+use Rattle.std.specs.Prelude.{◌≡◌, ℕ, Bool, true, ◌&&◌, List, [], Option, Some, None, IfSome, is_some, is_ok, Ok, codes}
 use Rattle.info_hooks.specs.declared.key.Key.{Key}
 use Rattle.otp_words.specs.Dictionaries.{plain_words}
 use Rattle.outside.specs.Files.{Contents}
 use Rattle.request_catalogue.specs.declared.width.Width.TheVariants.{Narrow}
 use Rattle.account_file.specs.Entries.{SetupEntries, entries_of}
 use Rattle.service_model.specs.Service.{Service}
-use Rattle.service_reading.specs.Found.{IsServiceIn, service_in}
+use Rattle.service_reading.specs.Found.{service_in}
 use Rattle.fresh_log.specs.Fresh.{IsFresh}
 use Rattle.serve_mode.specs.Words.{Named, Plain, Source}
 
--- the plain setup, as a file would say it: one worker, one connection, 64 requests, 3 tries, a hold of 30 seconds, no
--- accounts
+-- the plain setup: one worker, one connection, 64 requests, 3 tries, a hold of 30 seconds, no accounts
 abbrev pub plain_entries : SetupEntries
 plain_entries = record {
   texts = record {
@@ -33,19 +32,14 @@ abbrev pub HasFreshLog : Option (List ℕ) → Contents → Type 0
 HasFreshLog None files = Unit {0}
 HasFreshLog (Some log) files = IsFresh (files log)
 
--- the files, as they stood before the run, give this service, and the named log was fresh, if the files report before
--- and after
-pub record IsReadService (name : List ℕ) (log : Option (List ℕ)) (forms : List Key) (old new : Option Contents)
-    (service : Service) : Type 0 where
-  pub forms_are : service.forms ≡ forms
-  pub read : is_some new ≡ true → IsServiceIn forms old name service.setup service.words
-  pub fresh : is_some new ≡ true → IfSome old (HasFreshLog log)
-
--- what a run served by: the plain setup and the plain word list, or a service that the named files give
+-- what a run served by: the plain setup and list, or what the files gave before, with a fresh log, if they report
 abbrev pub IsServedBy : Source → List Key → Option Contents → Option Contents → Service → Type 0
 IsServedBy Plain forms old new service =
     (service.forms ≡ forms) × (service.words ≡ plain_words) × (entries_of service.setup ≡ plain_entries)
-IsServedBy (Named name log) forms old new service = IsReadService name log forms old new service
+IsServedBy (Named name log) forms old new service =
+    (service.forms ≡ forms) × (is_some new ≡ true → IfSome old (λ files.
+    (service_in forms files name ≡ Ok (record { entries = entries_of service.setup; words = service.words }))
+    × HasFreshLog log files))
 
 -- the files report before and after the run, if the setup comes from a file
 abbrev pub tell_throughout : Source → Option Contents → Option Contents → Bool

@@ -2,6 +2,7 @@
 use Rattle.std.specs.Prelude.{◌≡◌, ◌⊎◌, ℕ, Bool, true, false, List, [], Option, Some, None, IfSome, Result, Ok, Err}
 use Rattle.info_hooks.specs.declared.key.Key.{Key}
 use Rattle.monitor_book.specs.declared.opened.Held.{Held}
+use Rattle.monitor_run.specs.Posts.{PostNow}
 use Rattle.monitor_run.specs.Prepared.{LogStays}
 use Rattle.otp_ledger.specs.Accounts.{LedgerParts}
 use Rattle.otp_words.specs.Dictionaries.{plain_words}
@@ -9,6 +10,7 @@ use Rattle.account_writer.specs.CurrentSetup.{IsSetupAfter}
 use Rattle.outside.specs.declared.place.Place.{Place as SitePlace}
 use Rattle.outside.specs.Files.{Contents, MayBeReplaced, Replaced, SameFiles}
 use Rattle.outside.specs.Told.{Gains, Goes}
+use Rattle.policy_model.specs.declared.event.Event.{Event}
 use Rattle.policy_model.specs.Settings.{Settings, plain_settings}
 use Rattle.service_model.specs.Service.{Service}
 use Rattle.service_reading.specs.declared.error.ServiceError.TheVariants as unread
@@ -16,8 +18,11 @@ use Rattle.service_reading.specs.Found.{IsServiceIn}
 use Rattle.fresh_log.specs.Fresh.{IsFresh}
 use Rattle.serve_mode.specs.declared.error.ServeError.{ServeError}
 use Rattle.serve_mode.specs.declared.error.ServeError.TheVariants as errors
-use Rattle.serve_mode.specs.Errors.{IsUnread}
+use Rattle.serve_mode.specs.AroundRun.{AroundRun}
+use Rattle.serve_mode.specs.Errors.{IsUnread, status_of}
+use Rattle.serve_mode.specs.Headline.{ServeEnded}
 use Rattle.serve_mode.specs.Services.{IsUnfresh}
+use Rattle.serve_mode.specs.Keeping.{IsKept}
 use Rattle.serve_mode.specs.Words.{Named, Plain, Source}
 
 -- the service of a setup, of words and of what can be said
@@ -78,3 +83,9 @@ run_end (Err errors.OutOfMemory) lost failed = Err errors.OutOfMemory
 run_end written true failed = Err errors.LogLost
 run_end written false true = Err errors.AcceptFailed
 run_end written false false = written
+
+-- all that is promised of a run: what it did, and what it keeps besides
+pub record RunEnded (source : Source) (forms : List Key) (end : Result (Unit {0}) ServeError)
+    (journal : List Event) (posts : List PostNow) (before after : AroundRun) : Type 0 where
+  pub serve : ServeEnded source forms end journal posts before after
+  pub kept : IsKept source forms (status_of end) journal posts before after

@@ -11,8 +11,7 @@ ghost use Rattle.setup_reading.specs.Touching.{OnlyReplaces, TouchesNamed};
 ghost use Rattle.serve_mode.specs.AroundRun.{around_run};
 ghost use Rattle.serve_mode.specs.Commands.{source_of};
 ghost use Rattle.serve_mode.specs.Finished.{IsFinished};
-ghost use Rattle.serve_mode.specs.Headline.{ServeEnded};
-ghost use Rattle.serve_mode.specs.Steps.{run_end};
+ghost use Rattle.serve_mode.specs.Steps.{RunEnded, run_end};
 ghost use Rattle.serve_mode.specs.Words.{Plain, files_of, setups_of};
 
 use crate::accounts::write_back;
@@ -125,7 +124,7 @@ pub fn run_serve<F: Files, S: Site, K: Sink, I: Information + Sync, R: Threads +
     information: &I,
 ) -> Served<S::Post, K>
     ensures ended { let now = files_now F.contents F.read_faults F.replace_faults F.touched in
-        ServeEnded (source_of command.now) (I.forms information.now) result.end result.journal.items
+        RunEnded (source_of command.now) (I.forms information.now) result.end result.journal.items
         (map (seen S.Post.scene S.Post.faults) result.posts.items)
         (around_run (now files.old) (S.listens site.old) (S.listen_faults site.old) (held_by K.held K.lengths log)
         (K.faults log))

@@ -1,14 +1,13 @@
 -- Where no link failed, each request of a child is answered.
-use Rattle.std.proofs.Common.{◌≡◌, ◌≢◌, ℕ, cond, List, [], ◌∷◌, ◌++◌, Option, Some, None, option_to_list, refl, sym, ap, subst, ◌∙◌, count_by, arith}
+use Rattle.std.proofs.Common.{◌≡◌, ◌≢◌, ℕ, cond, List, [], ◌∷◌, Option, Some, None, refl, sym, ap, subst, ◌∙◌, count_by, arith}
 use Rattle.std.specs.List.{AllByRecursion, flat_map}
-use Rattle.std.proofs.lemmas.List.Concat.{flat_map-append}
 use Rattle.policy_model.specs.declared.event.Ask.{Ask}
 use Rattle.policy_model.specs.declared.event.Ask.TheVariants as asks
 use Rattle.policy_model.specs.declared.event.Why.{Why}
 use Rattle.policy_model.specs.declared.event.Why.TheVariants as whys
 use Rattle.service_model.specs.Ends.{is_link_end}
 use Rattle.service_model.specs.Places.{Step, step_places}
-use Rattle.service_model.specs.Answers.{answer_to, answers}
+use Rattle.service_model.specs.Answers.{answers}
 use Rattle.service_model.specs.Parts.{EndsSession, HandsOver, IsPart, Part, PartEnd, exported_by, requests_of}
 use Rattle.service_model.specs.Cases.{by_link}
 use Rattle.service_model.specs.Service.{Service}
@@ -22,8 +21,7 @@ abbrev IsAnswered : Service → List ℕ → Part → Type 0
 IsAnswered service exported part = part.sent ≡ answers service exported (requests_of part)
 
 answered_part : (service : Service) (exported : List ℕ) (end : PartEnd) (part : Part) → end ≢ by_link → IsPart service exported end part → IsAnswered service exported part
-answered_part service exported end part ne is =
-    is.sent.1 ∙ ap (λ last. answers service exported part.served ++ last) (is.sent.2.all ne) ∙ sym (flat_map-append (answer_to service exported) part.served (option_to_list part.final))
+answered_part service exported end part ne is = is.whole ne
 
 handed : HandsOver ≢ by_link
 handed e = absurd cc

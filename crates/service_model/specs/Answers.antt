@@ -41,19 +41,14 @@ challenge_text setup user value =
     (account_of setup user) []
     else decoy_challenge_text setup user
 
--- what a form says of a user with so many passwords left
-abbrev pub said_of : Key → Account → ℕ → List ℕ
-said_of key account sequence =
-    said key.form (record { name = account.name; uid = account.uid; algo = account.algo; sequence = sequence })
-
 -- an information text: the form of this number, said of the user who is logged in
 abbrev pub info_text : List Key → ℕ → Option Account → ℕ → List ℕ
 info_text forms number user sequence =
-    option_map_or (λ key. option_map_or (λ account. said_of key account sequence) user [])
+    option_map_or (λ key. option_map_or (λ account. said key.form
+    (record { name = account.name; uid = account.uid; algo = account.algo; sequence = sequence })) user [])
     (find (λ key. key.number == number) forms) []
 
--- the body for a permitted ask: banner, challenge, import record, the bytes read, a handle, an information text,
--- otherwise nothing
+-- the body for a permitted ask: banner, challenge, import record, bytes read, a handle, an information text, or nothing
 abbrev pub done_body : Service → List ℕ → Place → List Act → Ask → ℕ → List ℕ
 done_body service exported p done asks.Banner value = service.setup.banner
 done_body service exported p done (asks.Challenge user now) value = challenge_text service.setup user value

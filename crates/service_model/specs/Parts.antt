@@ -21,8 +21,7 @@ use Rattle.service_model.specs.Requests.{CameBy}
 use Rattle.service_model.specs.Acts.{AreActsOf}
 use Rattle.service_model.specs.Answers.{answer_to, answers}
 
--- what one child had of a session: its requests' steps, the bytes taken, sent, left over and never received, and the
--- receivings that were asked of it
+-- what one child had of a session: the steps of its requests, bytes taken, sent, left over and not received, receivings
 pub record Part : Type 0 where
   pub role : Role
   pub served : List Step
@@ -87,8 +86,7 @@ pub record LastSent (end : PartEnd) (whole sent : List ℕ) : Type 0 where
   pub cut : (n : ℕ) × (sent ≡ take n whole)
   pub all : end ≢ EndsSession whys.LinkFault → sent ≡ whole
 
--- a receiving was asked of a child when the first of these requests were answered, and what it had taken besides was no
--- whole frame
+-- a receiving was asked of a child when these requests were answered and what else it had taken was no whole frame
 pub record IsInOrder (service : Service) (exported : List ℕ) (served : List Step) (taken : List ℕ)
     (receiving : Receiving) : Type 0 where
   pub answered : List Step
@@ -101,20 +99,16 @@ pub record IsInOrder (service : Service) (exported : List ℕ) (served : List St
   pub had_taken : receiving.taken ≡ length (step_bytes service.setup.frames answered ++ held)
   pub had_sent : receiving.sent ≡ length (answers service exported answered)
 
--- what one child had of a session: its requests, their whole answers, the bytes that passed, in which order it was
--- asked for them, and how it ended
+-- what one child had of a session: requests, whole answers, the bytes that passed, in which order, and how it ended
 pub record IsPart (service : Service) (exported : List ℕ) (end : PartEnd) (part : Part) : Type 0 where
   pub each : AllByRecursion (IsRequestStep service) (requests_of part)
   pub on : AllByRecursion (GoesOn service exported) part.served
   pub taken : part.taken ≡ step_bytes service.setup.frames (requests_of part) ++ part.rest
-  pub sent : (last : List ℕ) × (part.sent ≡ answers service exported part.served ++ last)
-      × LastSent end (answers service exported (option_to_list part.final)) last
+  pub sent : (n : ℕ) × (part.sent ≡ answers service exported part.served
+      ++ take n (answers service exported (option_to_list part.final)))
+  pub whole : end ≢ EndsSession whys.LinkFault → part.sent ≡ answers service exported (requests_of part)
   pub in_order : IfSome part.receivings (AllByRecursion (IsInOrder service exported part.served part.taken))
   pub ended : end ≢ EndsSession whys.LinkFault → EndsSo service.setup.frames end part.final part.rest part.unread
-
--- the operations done for the request that ended a part
-abbrev pub final_acts : Option Step → List Act
-final_acts final = option_map_or (λ step. step.acts) final []
 
 -- the body of the message that ended a part: the exported state, where that message was an EXPORT
 abbrev pub exported_by : Option Step → List ℕ

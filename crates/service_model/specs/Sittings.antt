@@ -18,7 +18,7 @@ use Rattle.service_model.specs.Acts.{AreActsOf, ending_operations, operation_of}
 use Rattle.service_model.specs.Service.{Service}
 use Rattle.service_model.specs.Places.{Step, step_places, worker_places}
 use Rattle.service_model.specs.Ends.{is_lost_end}
-use Rattle.service_model.specs.Parts.{EndsSession, HandsOver, IsPart, Part, exported_by, final_acts, requests_of}
+use Rattle.service_model.specs.Parts.{EndsSession, HandsOver, IsPart, Part, exported_by, requests_of}
 use Rattle.service_model.specs.Users.{user_role}
 
 -- a session as it was served: its opening, what each child had of it, and its end; a lost opening has no end
@@ -34,19 +34,18 @@ all_steps sitting = sitting.opening ∷ flat_map requests_of sitting.parts ++ op
 -- no second child was served: the first ended the session, or the user's child could not be started
 abbrev pub EndsFirst : Service → Why → Part → Type 0
 EndsFirst service whys.KeeperFault pre =
-    IsPart service [] HandsOver pre × (list_any is_failed_start (final_acts pre.final) ≡ true)
+    IsPart service [] HandsOver pre × (list_any is_failed_start (option_map_or (λ step. step.acts) pre.final []) ≡ true)
 EndsFirst service why pre = IsPart service [] (EndsSession why) pre
 
 -- the first child handed over to the child of the user who logged in, and that one ended the session
 pub record ChangesUser (service : Service) (why : Why) (pre user : Part) : Type 0 where
   pub first : IsPart service [] HandsOver pre
-  pub started : list_any is_failed_start (final_acts pre.final) ≡ false
+  pub started : list_any is_failed_start (option_map_or (λ step. step.acts) pre.final []) ≡ false
   pub verified : IsSomeAnd pre.final (λ step. user.role ≡ user_role service.setup step.place)
   pub second : IsPart service (exported_by pre.final) (EndsSession why) user
   pub served : why ≢ whys.KeeperFault
 
--- a session's children: none if the first didn't start, otherwise the one before the login, and the user's if that was
--- started
+-- a session's children: none if the first didn't start, else the one before the login, and the user's if it started
 abbrev pub AreParts : Service → Why → Step → List Part → Type 0
 AreParts service why opening [] = (list_any is_failed_start opening.acts ≡ true) × (why ≡ whys.KeeperFault)
 AreParts service why opening (pre ∷ []) =
@@ -97,16 +96,14 @@ abbrev pub NoneBehindLoss : List Sitting → Type 0
 NoneBehindLoss [] = Unit {0}
 NoneBehindLoss (sitting ∷ behind) = (ends_worker sitting ≡ true → behind ≡ []) × NoneBehindLoss behind
 
--- these sessions, one after the other, are all of a worker's events; one whose opening was lost, or that ended by a
--- loss, is the last
+-- these sessions are all of a worker's events, in order; one that lost its opening, or ended by a loss, is the last
 pub record AreSittingsOf (service : Service) (journal : List Event) (worker : ℕ)
     (sittings : List Sitting) : Type 0 where
   pub places : worker_places journal worker ≡ step_places (flat_map all_steps sittings)
   pub each : AllByRecursion (IsSitting service) sittings
   pub alone : NoneBehindLoss sittings
 
--- each child of a session was sent the whole answer to each of its requests, the user's child with the state exported
--- before
+-- each child was sent the whole answer to each of its requests, the user's with the state exported before
 abbrev pub AreAnswered : Service → List ℕ → List Part → Type 0
 AreAnswered service exported [] = Unit {0}
 AreAnswered service exported (part ∷ parts) =

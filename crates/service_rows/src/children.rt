@@ -19,11 +19,7 @@ fn has_failed(end: ChildEnd) -> bool
 }
 
 /// What a child sends that is sent these replies.
-fn said_by(
-    alloc: Global,
-    child: &mut Child,
-    replies: &[u8],
-) -> Result<Vec<u8>, AllocError>
+fn said_by(alloc: Global, child: &mut Child, replies: &[u8]) -> Result<Vec<u8>, AllocError>
     requires { IsNew child.old }
     ensures { IfOk result (λ said. IsSaidWhole (role_in child.old) child.old.session replies.now said.items) }
 {

@@ -1,6 +1,7 @@
 -- The children of a session, one after the other.
 use Rattle.std.proofs.Common.{◌≡◌, ◌≢◌, ℕ, ◌+◌, Bool, true, false, ◌&&◌, List, [], ◌∷◌, ◌++◌, Option, Some, None, Result, Ok, Err, refl, sym, ap, subst, ◌∙◌, append_assoc, append-nil, arith}
 use Rattle.std.specs.Prelude.{IfSome, IsSomeAnd}
+use Rattle.std.specs.Option.{option_map_or}
 use Rattle.std.specs.List.{AllByRecursion, flat_map, list_any}
 use Rattle.std.proofs.lemmas.List.Concat.{flat_map-append}
 use Rattle.imsg_frame.specs.Message.{Message}
@@ -30,9 +31,9 @@ use Rattle.request_catalogue.specs.declared.width.Width.{Width}
 use Rattle.child_keeper.specs.Starts.{ChangesChild}
 use Rattle.child_keeper.specs.Tickets as tickets
 use Rattle.service_model.specs.Acts.{Finishes, Starts, operations_by, operations_of}
-use Rattle.service_model.specs.Answers.{answer_value, answers, reply_to}
+use Rattle.service_model.specs.Answers.{answer_to, answer_value, answers, reply_to}
 use Rattle.service_model.specs.Cases.{reply_bytes, message_bytes, place_of}
-use Rattle.service_model.specs.Parts.{EndsSession, GoesOn, HandsOver, IsPart, IsRequestStep, Part, exported_by, final_acts, requests_of, step_bytes}
+use Rattle.service_model.specs.Parts.{EndsSession, GoesOn, HandsOver, IsPart, IsRequestStep, Part, exported_by, requests_of, step_bytes}
 use Rattle.service_model.specs.Places.{Step, step_acts, step_places, worker_places}
 use Rattle.service_model.specs.Requests.{CameBy}
 use Rattle.service_model.specs.Service.{Service}
@@ -133,7 +134,8 @@ first_handed w e state a b held user outcome v nothing have none changes unused 
         each = All-push (IsRequestStep service) have.served final have.each step_is;
         on = subst (λ x. AllByRecursion (GoesOn service x) have.served) nothing have.on;
         taken = taken;
-        sent = ([], sym (append-nil given), record { cut = (0, refl); all = λ ne. sym untold });
+        sent = (0, sym (append-nil given));
+        whole = λ ne. sym (append-nil given) ∙ ap (λ told. given ++ told) (sym untold) ∙ sym (flat_map-append (answer_to service []) have.served (final ∷ []));
         in_order = Asks-whole service [] have.served held have.received a.link b.link none unused (subst (λ x. Goes (AsksFrom service x have.served held have.received) a.link b.link) nothing have.asks);
         ended = λ ne. have.exported;
       };
@@ -170,7 +172,7 @@ user_of : (setup : Settings) (o : Option Step) (final : Step) (role : Role) → 
 user_of setup o final role is same = subst (λ x. IsSomeAnd x (λ step. role ≡ user_role setup step.place)) (sym is) same
 
 abbrev acts_failed : Option Step → Bool
-acts_failed o = list_any is_failed_start (final_acts o)
+acts_failed o = list_any is_failed_start (option_map_or (λ step. step.acts) o [])
 
 -- a session that its first child ended
 ends_first : (service : Service) (why : Why) (pre : Part) → why ≢ whys.KeeperFault → IsPart service [] (EndsSession why) pre → EndsFirst service why pre

@@ -1,6 +1,7 @@
 -- The end of a session, and a child that is given back at it.
 use Rattle.std.proofs.Common.{◌≡◌, ◌≢◌, ℕ, ◌<◌, List, [], ◌∷◌, ◌++◌, Option, Some, None, option_to_list, refl, sym, ap, subst, ◌∙◌, append_assoc, arith}
 use Rattle.std.specs.Prelude.{IfSome}
+use Rattle.std.proofs.lemmas.List.Concat.{flat_map-append}
 use Rattle.outside.specs.declared.act.Act.{Act}
 use Rattle.outside.specs.declared.act.Act.TheVariants.{Finish, HangUp}
 use Rattle.outside.specs.declared.act.Role.{Role}
@@ -27,7 +28,7 @@ use Rattle.policy_model.proofs.Runs.{idle_after, next_session}
 use Rattle.policy_model.proofs.Verdicts.{session_of-other}
 use Rattle.request_catalogue.specs.declared.width.Width.{Width}
 use Rattle.service_model.specs.Acts.{Finishes, HangsUp, ending_operations}
-use Rattle.service_model.specs.Answers.{answers}
+use Rattle.service_model.specs.Answers.{answer_to, answers}
 use Rattle.service_model.specs.Parts.{EndsSession, EndsSo, Part, step_bytes, why_of}
 use Rattle.service_model.specs.Cases.{by_link, place_of}
 use Rattle.service_model.specs.Places.{Step, step_acts, worker_places}
@@ -137,7 +138,7 @@ has_part w live why a b c v held concludes none ends opened closes unused planne
     record {
       part = part;
       role = refl;
-      is = record { each = concludes.each; on = concludes.on; taken = taken; sent = (concludes.last, refl, concludes.sent); in_order = Asks-whole w.service w.exported concludes.served held concludes.received a.link b.link none unused concludes.asks; ended = concludes.ended };
+      is = record { each = concludes.each; on = concludes.on; taken = taken; sent = (concludes.sent.cut.0, ap (λ l. answers w.service w.exported concludes.served ++ l) concludes.sent.cut.1); whole = λ ne. ap (λ l. answers w.service w.exported concludes.served ++ l) (concludes.sent.all ne) ∙ sym (flat_map-append (answer_to w.service w.exported) concludes.served (option_to_list concludes.final)); in_order = Asks-whole w.service w.exported concludes.served held concludes.received a.link b.link none unused concludes.asks; ended = concludes.ended };
       served = no;
       ending = end.ending;
       ends = subst (λ n. Rattle.service_model.specs.Sittings.IsEnding n live why end.ending) opened end.ends;

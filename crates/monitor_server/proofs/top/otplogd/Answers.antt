@@ -6,6 +6,9 @@ returns-clause-causes g c = c.run_command.ensures.whole.causes
 pub returns-clause-serve : goal.returns-clause-serve
 returns-clause-serve g c = c.run_command.ensures.whole.serve
 
+pub returns-clause-keeps : goal.returns-clause-keeps
+returns-clause-keeps g c = c.run_command.ensures.whole.keeps
+
 pub returns-clause-password : goal.returns-clause-password
 returns-clause-password g c = c.run_command.ensures.whole.password
 

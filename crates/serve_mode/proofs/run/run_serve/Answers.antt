@@ -10,10 +10,9 @@ use Rattle.service_model.specs.Service.{Service}
 use Rattle.serve_mode.proofs.StillLemmas.{IsServiceOf, read_by, read_is, ready_by}
 use Rattle.serve_mode.specs.AroundRun.{around_run}
 use Rattle.serve_mode.specs.Commands.{source_of}
-use Rattle.serve_mode.specs.Headline.{ServeEnded}
 use Rattle.setup_reading.proofs.Touching.{touches_reads, touches_then}
 use Rattle.serve_mode.specs.Words.{files_of, setups_of}
-use Rattle.serve_mode.specs.Steps.{service_by}
+use Rattle.serve_mode.specs.Steps.{RunEnded, service_by}
 use Rattle.serve_mode.proofs.Promises.{not_served_why, served_ended, told_before, unready_why, unserved_ended, writes_more}
 use Rattle.serve_mode.proofs.run.run_serve.Goals as goal
 
@@ -48,9 +47,9 @@ returns-in-Ok-serve-clause-ended g c =
     let by = read_by source forms old mid new house.setup house.dictionary c.in-Ok.ensures.read c.in-Ok.ensures.fresh c.make_ready.ensures.files.reads.kept telling in
     let ended = served_ended source service ran.core.ledger written ran.accept_failed journal (map see ran.posts.items) before (around_run files listens unheard (held ran.log) (g.K.Sink.faults ran.log)) mid promises writes
     forms done.end finished.ended by same c.in-Ok-serve.ensures.some c.in-Ok-serve.ensures.ledger c.make_ready.ensures.files.reads.kept c.in-Ok-serve.ensures.listens in
-    let by_journal = subst (λ j. ServeEnded source forms done.end j.items (map see ran.posts.items) before (around_run files listens unheard (held ran.log) (g.K.Sink.faults ran.log))) (sym c.finish.ensures.journal) ended in
-    let by_posts = subst (λ p. ServeEnded source forms done.end done.journal.items (map see p.items) before (around_run files listens unheard (held ran.log) (g.K.Sink.faults ran.log))) (sym c.finish.ensures.posts) by_journal in
-    subst (λ l. ServeEnded source forms done.end done.journal.items (map see done.posts.items) before (around_run files listens unheard (held l) (g.K.Sink.faults l))) (sym c.finish.ensures.log) by_posts
+    let by_journal = subst (λ j. RunEnded source forms done.end j.items (map see ran.posts.items) before (around_run files listens unheard (held ran.log) (g.K.Sink.faults ran.log))) (sym c.finish.ensures.journal) ended in
+    let by_posts = subst (λ p. RunEnded source forms done.end done.journal.items (map see p.items) before (around_run files listens unheard (held ran.log) (g.K.Sink.faults ran.log))) (sym c.finish.ensures.posts) by_journal in
+    subst (λ l. RunEnded source forms done.end done.journal.items (map see done.posts.items) before (around_run files listens unheard (held l) (g.K.Sink.faults l))) (sym c.finish.ensures.log) by_posts
 
 -- out of memory, or the site could not listen
 pub returns-in-Ok-clause-ended : goal.returns-in-Ok-clause-ended
