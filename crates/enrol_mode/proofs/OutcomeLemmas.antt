@@ -1,5 +1,5 @@
 -- A phrase was received, and then something of its account's text sent.
-use Rattle.std.proofs.Common.{◌≡◌, ℕ, List, [], Option, Some, None, Err, take, append-nil, inl, inr, subst, sym, ◌≤◌, arith}
+use Rattle.std.proofs.Common.{◌≡◌, ℕ, List, [], Option, Some, None, Err, take, append-nil, inl, subst, sym, ◌≤◌, arith}
 use Rattle.outside.specs.Link.{Exchanged, Link, SendsPart}
 use Rattle.outside.specs.Told.{Goes, Rose, next_count}
 use Rattle.outside.proofs.Exchanges.{Exchanged-then}
@@ -7,7 +7,6 @@ use Rattle.outside.proofs.Told.{Goes-then}
 use Rattle.otp_mode.specs.declared.fault.PhraseFault.{PhraseFault}
 use Rattle.otp_mode.specs.declared.fault.PhraseFault.TheVariants as phrase_faults
 use Rattle.otp_mode.specs.Inner.{Accepted, IsPhraseFault}
-use Rattle.enrol_mode.specs.declared.fault.EnrolFault.TheVariants as faults
 use Rattle.enrol_mode.specs.Accounts.{IsEnrolText}
 use Rattle.enrol_mode.specs.Faults.{fault_of_phrase}
 use Rattle.enrol_mode.specs.Outcome.{IsOutcome, OnlyTook, Printed, PrintedPart, TookPhrase}

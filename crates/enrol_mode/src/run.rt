@@ -1,7 +1,8 @@
 //! The mode.
 
 ghost use Rattle.std.specs.Prelude.{◌≡◌, ◌≤◌};
-ghost use Rattle.outside.specs.Told.{Rose};
+ghost use Rattle.outside.specs.Told.{Goes, Rose};
+ghost use Rattle.otp_mode.specs.Asking.{AsksForLine};
 ghost use Rattle.enrol_mode.specs.Command.{command_parts};
 ghost use Rattle.enrol_mode.specs.Exact.{IsExact};
 ghost use Rattle.enrol_mode.specs.Outcome.{IsOutcome};
@@ -29,6 +30,7 @@ pub fn run_enrol<E: Stream>(
         (Rose (E.faults ends.old) (E.faults ends.new)) result }
     ensures exact { IsExact (E.link ends.old) (E.link ends.new)
         (Rose (E.faults ends.old) (E.faults ends.new)) result }
+    ensures asked { Goes AsksForLine (E.link ends.old) (E.link ends.new) }
     ensures faults { E.faults ends.old ≤ E.faults ends.new }
 {
     let phrase = read_phrase(ends)?;

@@ -1,15 +1,13 @@
 -- All that the top call says, for each command and for words that are none.
-use Rattle.std.proofs.Common.{◌≡◌, ◌≢◌, ◌⊎◌, ℕ, false, List, [], Option, Some, None, Err, refl, sym, ap, subst, ◌∙◌, inl, inr, arith}
+use Rattle.std.proofs.Common.{◌≡◌, ◌≢◌, ◌⊎◌, ℕ, false, List, [], Option, Some, None, Err, refl, sym, ap, subst, ◌∙◌, inl, inr}
 use Rattle.std.specs.Prelude.{is_some}
 use Rattle.info_hooks.specs.declared.key.Key.{Key}
 use Rattle.outside.specs.Files.{Contents, SameFiles}
 use Rattle.monitor_book.specs.Lines.{IsUnwritten}
 use Rattle.monitor_book.proofs.LogLemmas.{unwritten}
 use Rattle.outside.specs.Told.{Gains, Goes, Rose}
-use Rattle.outside.proofs.Exchanges.{Exchanged-none}
 use Rattle.outside.proofs.Told.{Gains-none, Goes-same}
 use Rattle.otp_mode.specs.Faults as passwords
-use Rattle.otp_mode.specs.Outcome.{OnlyReceived}
 use Rattle.otp_mode.specs.Words.{OtpParts, otp_command}
 use Rattle.check_mode.specs.Outcome as checks
 use Rattle.check_mode.specs.Words.{check_command}
@@ -46,7 +44,7 @@ use Rattle.monitor_server.specs.declared.report.Detail.TheVariants.{Nothing}
 use Rattle.monitor_server.specs.Around.{Around, EndsNow, FilesGo, FilesNow, ReadRose, Said, answer_in, files_with, only_answer, run_around, sides_of}
 use Rattle.monitor_server.specs.Commands.{AsksAlone, IsCommand, IsReading, asks_audit, asks_check, asks_child, asks_drill, asks_enrol, asks_otp, asks_recover, asks_renew, asks_serve}
 use Rattle.monitor_server.specs.Headline.{IsStatus, StatusHasCause, UsesEndsAlone, UsesNothing}
-use Rattle.monitor_server.specs.Modes.{AuditRan, ChangesFiles, CheckRan, ChildRan, DrillRan, EnrolRan, LeavesRest, PasswordRan, RecoverRan, RenewRan, ServeRan, audit_detail, checked_detail, detail_of, recover_detail, renew_detail, serve_detail}
+use Rattle.monitor_server.specs.Modes.{AuditRan, ChangesFiles, CheckRan, ChildRan, DrillRan, EnrolRan, LeavesRest, PasswordRan, RecoverRan, RenewRan, audit_detail, checked_detail, detail_of, recover_detail, renew_detail, serve_detail}
 use Rattle.monitor_server.specs.Touching.{TouchesFilesNamed, TouchesGiven}
 use Rattle.monitor_server.specs.Whole.{HasServed, Whole}
 use Rattle.monitor_server.proofs.Apart.{AskOnly, Recover, Renew, none-some, only_audit, only_check, only_child, only_drill, only_enrol, only_otp, only_recover, only_renew, only_serve, spoken}
@@ -444,7 +442,7 @@ module _ {F S K E : Type 0} {words : List (List ℕ)} {forms : List Key} {conten
     check = record { ran = λ setup asked. ran why (inr (inr (inl (setup, asked)))) };
     child = record { ran = λ parts asked. ran why (inr (inr (inr (inl (parts, asked))))) };
     audit = record { ran = λ parts asked. ran why (inr (inr (inr (inr (inl (parts, asked)))))) };
-    renew = record { ran = λ parts asked. inl (nine why (inr (inr (inr (inr (inr (inl (parts, asked))))))), unsent) };
+    renew = record { ran = λ parts asked. inl (nine why (inr (inr (inr (inr (inr (inl (parts, asked))))))), told) };
     drill = record { ran = λ number asked. unremembered_drill number (nine why (inr (inr (inr (inr (inr (inr (inl (number, asked))))))))) };
     recover = record { ran = λ parts asked. ran why (inr (inr (inr (inr (inr (inr (inr (inl (parts, asked))))))))) };
     enrol = record { ran = λ parts asked. inl (nine why (inr (inr (inr (inr (inr (inr (inr (inr (parts, asked))))))))), told) };
@@ -471,9 +469,6 @@ module _ {F S K E : Type 0} {words : List (List ℕ)} {forms : List Key} {conten
 
     told : after.ends.link ≡ before.ends.link
     told = ap (λ (e : EndsNow E). e.link) ends
-
-    unsent : Goes OnlyReceived before.ends.link after.ends.link
-    unsent = subst (λ link. Goes OnlyReceived before.ends.link link) (sym told) (Goes-same OnlyReceived (λ l. record { received = []; few = omega arith; passed = Exchanged-none l }) before.ends.link)
 
     ran : {A : Type 0} → (said.status ≡ 9) ⊎ (IsCommand words → ⊥) → IsCommand words → (said.status ≡ 9) ⊎ A
     ran (inl nine) command = inl nine

@@ -14,9 +14,10 @@ use Rattle.serve_mode.specs.Keeping.{IsKept}
 use Rattle.serve_mode.specs.Words.{Plain, Source}
 use Rattle.otp_mode.specs.declared.fault.OtpFault.{OtpFault}
 use Rattle.otp_mode.specs.declared.fault.OtpFault.TheVariants as faults
+use Rattle.otp_mode.specs.Asking.{AsksForLine}
 use Rattle.otp_mode.specs.Exact.{IsExact}
 use Rattle.otp_mode.specs.Faults.{status_of}
-use Rattle.otp_mode.specs.Outcome.{IsOutcome, OnlyReceived}
+use Rattle.otp_mode.specs.Outcome.{IsOutcome}
 use Rattle.otp_mode.specs.Words.{OtpParts}
 use Rattle.check_mode.specs.declared.fault.CheckFault.{CheckFault}
 use Rattle.check_mode.specs.declared.finding.Finding.{Finding}
@@ -116,6 +117,7 @@ pub record PasswordRan {F E : Type 0} (parts : OtpParts) (contents : F → Optio
       (ReadRose before.files after.files) (EndsRose before.ends after.ends) outcome
   pub exact : IsExact parts (contents after.files.it) before.ends.link after.ends.link
       (ReadRose before.files after.files) (EndsRose before.ends after.ends) outcome
+  pub asked : Goes AsksForLine before.ends.link after.ends.link
 
 -- `otp` ran as it promises, or ended with 9 (out of memory), if the command line asks for it
 pub record PasswordMode {F S K E : Type 0} (words : List (List ℕ)) (contents : F → Option Contents)
@@ -207,15 +209,16 @@ pub record RenewRan {F E : Type 0} (parts : RenewParts) (contents : F → Option
       before.ends.link after.ends.link
       (ReadRose before.files after.files) (ReplaceRose before.files after.files) (EndsRose before.ends after.ends)
       outcome
+  pub asked : Goes AsksForLine before.ends.link after.ends.link
   pub spares : FilesGo (renews.Spares parts.setup) contents before.files after.files
   pub unwritten : answer.status ≢ 0 → answer.status ≢ 8 → answer.status ≢ 11
       → FilesGo SameFiles contents before.files after.files
 
--- `renew` ran as it promises, or ended with 9 (out of memory) and sent nothing, if the command line asks for it
+-- `renew` ran as it promises, or ended with 9 and neither sent nor received, if the command line asks for it
 pub record RenewMode {F S K E : Type 0} (words : List (List ℕ)) (contents : F → Option Contents)
     (before after : Around F S K E) (said : Said) : Type 0 where
   pub ran : (parts : RenewParts) → asks_renew words ≡ Some parts
-      → (said.status ≡ 9) × Goes OnlyReceived before.ends.link after.ends.link
+      → (said.status ≡ 9) × (after.ends.link ≡ before.ends.link)
       ⊎ RenewRan parts contents (sides_of before) (sides_of after) (answer_in said)
 
 -- the detail of an end of `recover`: what is missing or refused, or which record of the log is bad
@@ -252,6 +255,7 @@ pub record EnrolRan {E : Type 0} (parts : EnrolParts) (before after : EndsNow E)
   pub status_is : status ≡ enrol_faults.status_of outcome
   pub cause : enrols.IsOutcome parts before.link after.link (EndsRose before after) outcome
   pub exact : enrols_exact.IsExact before.link after.link (EndsRose before after) outcome
+  pub asked : Goes AsksForLine before.link after.link
 
 -- `enrol` ran as it promises, or ended with 9 and neither sent nor received, if the command line asks for it
 pub record EnrolMode {F S K E : Type 0} (words : List (List ℕ)) (before after : Around F S K E) (said : Said)

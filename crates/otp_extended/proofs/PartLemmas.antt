@@ -10,7 +10,7 @@ use Rattle.otp_extended.specs.declared.response.ResponseFault.{ResponseFault}
 use Rattle.otp_extended.specs.declared.response.ResponseFault.TheVariants as faults
 use Rattle.otp_extended.specs.Inner.{is_no_colon}
 use Rattle.otp_extended.specs.Parts.{parts_of, put_before}
-use Rattle.otp_extended.specs.Responses.{IsInit, IsPlain, IsReading, IsReadingBy, kind_of}
+use Rattle.otp_extended.specs.Responses.{IsPlain, IsReading, IsReadingBy, kind_of}
 
 -- a text in two, where the second begins with a colon or is empty
 abbrev parts_by : List ℕ → List ℕ → List (List ℕ)

@@ -3,6 +3,7 @@
 ghost use Rattle.std.specs.Prelude.{◌≡◌, ◌≤◌, IfOk, Ok, Result};
 ghost use Rattle.outside.specs.Told.{Goes, Rose};
 ghost use Rattle.otp_extended.specs.declared.run.RenewalFault.TheVariants.{OutOfMemory};
+ghost use Rattle.otp_mode.specs.Asking.{AsksForLine};
 ghost use Rattle.otp_mode.specs.Lines.{line_of};
 ghost use Rattle.otp_extended.specs.Outcome.{ComesOf, IsMade, IsOutcome};
 ghost use Rattle.otp_extended.specs.Parts.{parts_of};
@@ -82,6 +83,7 @@ pub fn receive_renewal<E: Stream>(
 ) -> Result<Renewal, RenewalFault>
     ensures outcome { IsOutcome setup.now dictionary.now user.now (E.link ends.old) (E.link ends.new)
         (Rose (E.faults ends.old) (E.faults ends.new)) result }
+    ensures asked { Goes AsksForLine (E.link ends.old) (E.link ends.new) }
     ensures faults { E.faults ends.old ≤ E.faults ends.new }
 {
     let mut buf = [0; LINE_MAX];

@@ -1,3 +1,4 @@
+pub mod Asking
 mod Exactness
 mod LineLemmas
 mod OutcomeLemmas

@@ -5,5 +5,6 @@ pub mod Lines
 pub mod Phrase
 pub mod Output
 pub mod Outcome
+pub mod Asking
 pub mod Exact
 pub mod Inner

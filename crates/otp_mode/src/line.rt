@@ -4,6 +4,7 @@ ghost use Rattle.std.specs.Prelude.{◌≡◌, ◌==◌, ◌≤◌, [], IfOk, Ma
 ghost use Rattle.std.specs.List.{position, prefix_len};
 ghost use Rattle.std.specs.Str.Lines.{strip_carriage_return};
 ghost use Rattle.outside.specs.Told.{Goes, Rose};
+ghost use Rattle.otp_mode.specs.Asking.{AsksForLine};
 ghost use Rattle.otp_mode.specs.Inner.{ReceivedLine};
 ghost use Rattle.otp_mode.specs.Lines.{first_line, line_of};
 ghost use Rattle.otp_mode.specs.Outcome.{OnlyReceived};
@@ -14,7 +15,8 @@ use outside::{Failed, Stream};
 pub const LINE_MAX: usize = 4_096;
 
 /// Receives bytes into the front of a buffer until they have a newline, the buffer is full or the
-/// input ends, and gives how many: these have the line that the whole input has.
+/// input ends, and gives how many: these have the line that the whole input has. After that no more is
+/// asked for.
 ///
 /// # Errors
 ///
@@ -24,6 +26,7 @@ pub fn receive_line<E: Stream>(ends: &mut E, buf: &mut [u8; LINE_MAX]) -> Result
     ensures received { IfOk result (λ n.
         Goes (ReceivedLine (take n buf.new)) (E.link ends.old) (E.link ends.new)) }
     ensures part { OnErr result (Goes OnlyReceived (E.link ends.old) (E.link ends.new)) }
+    ensures asked { Goes AsksForLine (E.link ends.old) (E.link ends.new) }
     ensures failed { OnErr result (Rose (E.faults ends.old) (E.faults ends.new)) }
     ensures faults { E.faults ends.old ≤ E.faults ends.new }
 {

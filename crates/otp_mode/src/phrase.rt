@@ -4,6 +4,7 @@ ghost use Rattle.std.specs.Prelude.{◌≡◌, ◌≤◌, IfOk, option_map};
 ghost use Rattle.outside.specs.Told.{Goes, Rose};
 ghost use Rattle.fixed_list.specs.FixedList.{list_of};
 ghost use Rattle.otp_mode.specs.declared.fault.PhraseFault.{PhraseFault};
+ghost use Rattle.otp_mode.specs.Asking.{AsksForLine};
 ghost use Rattle.otp_mode.specs.Phrase.{is_phrase, phrase_of};
 ghost use Rattle.otp_mode.specs.Inner.{Accepted, IsPhraseFault};
 
@@ -30,6 +31,7 @@ pub fn read_phrase<E: Stream>(ends: &mut E) -> Result<FixedList<63>, PhraseFault
         Goes (Accepted (list_of phrase)) (E.link ends.old) (E.link ends.new)) }
     ensures fault { (fault : PhraseFault) → result ≡ Err fault → IsPhraseFault (E.link ends.old)
         (E.link ends.new) (Rose (E.faults ends.old) (E.faults ends.new)) fault }
+    ensures asked { Goes AsksForLine (E.link ends.old) (E.link ends.new) }
     ensures faults { E.faults ends.old ≤ E.faults ends.new }
 {
     let mut buf = [0; LINE_MAX];

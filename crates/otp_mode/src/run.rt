@@ -1,9 +1,10 @@
 //! The mode.
 
-ghost use Rattle.std.specs.Prelude.{◌≡◌, ◌≤◌, None, true};
+ghost use Rattle.std.specs.Prelude.{◌≡◌, ◌≤◌, None};
 ghost use Rattle.std.specs.Option.{option_copied, option_to_list};
 ghost use Rattle.outside.specs.FilesNow.{OnlyReads, files_now};
-ghost use Rattle.outside.specs.Told.{Rose};
+ghost use Rattle.outside.specs.Told.{Goes, Rose};
+ghost use Rattle.otp_mode.specs.Asking.{AsksForLine, AsksOneLine};
 ghost use Rattle.otp_mode.specs.Command.{command_parts};
 ghost use Rattle.otp_mode.specs.Exact.{IsExact};
 ghost use Rattle.otp_mode.specs.Outcome.{IsOutcome, IsPrinting, ends_at_list};
@@ -38,7 +39,7 @@ pub fn run_otp<F: Files, E: Stream>(
         (Rose (F.read_faults files.old) (F.read_faults files.new))
         (Rose (E.faults ends.old) (E.faults ends.new)) result }
     ensures no_list { (command_parts command.now).list ≡ None → files.new ≡ files.old }
-    ensures at_list { ends_at_list result ≡ true → ends.new ≡ ends.old }
+    ensures asks { AsksOneLine (ends_at_list result) E.link ends.old ends.new }
     ensures files { let now = files_now F.contents F.read_faults F.replace_faults F.touched in
         OnlyReads (option_to_list (command_parts command.now).list) (now files.old) (now files.new) }
     ensures faults { E.faults ends.old ≤ E.faults ends.new }
@@ -58,6 +59,7 @@ fn print_password<E: Stream>(
 ) -> Result<(), OtpFault>
     ensures printing { IsPrinting (command_parts command.now) (option_copied list.entry)
         (E.link ends.old) (E.link ends.new) (Rose (E.faults ends.old) (E.faults ends.new)) result }
+    ensures asked { Goes AsksForLine (E.link ends.old) (E.link ends.new) }
     ensures faults { E.faults ends.old ≤ E.faults ends.new }
 {
     let phrase = read_phrase(ends)?;

@@ -1,9 +1,11 @@
 //! The mode.
 
-ghost use Rattle.std.specs.Prelude.{◌≡◌, ◌≤◌, ◌∷◌, [], false, true};
+ghost use Rattle.std.specs.Prelude.{◌≡◌, ◌≤◌, ◌∷◌, [], false};
 ghost use Rattle.outside.specs.Files.{SameFiles};
 ghost use Rattle.outside.specs.FilesNow.{files_now};
+ghost use Rattle.outside.specs.Link.{IsUnasked};
 ghost use Rattle.outside.specs.Told.{Goes, Rose};
+ghost use Rattle.otp_mode.specs.Asking.{AsksForLine, AsksOneLine};
 ghost use Rattle.setup_reading.specs.Touching.{OnlyReplaces, TouchesNamed};
 ghost use Rattle.otp_extended.specs.Commands.{command_parts};
 ghost use Rattle.renew_mode.specs.Errors.{ends_before_input, may_be_written, status_of};
@@ -49,7 +51,7 @@ pub fn run_renew<F: Files, E: Stream>(
         (E.link ends.old) (E.link ends.new) (Rose (F.read_faults files.old) (F.read_faults files.new))
         (Rose (F.replace_faults files.old) (F.replace_faults files.new))
         (Rose (E.faults ends.old) (E.faults ends.new)) result }
-    ensures at_files { ends_before_input result ≡ true → ends.new ≡ ends.old }
+    ensures asks { AsksOneLine (ends_before_input result) E.link ends.old ends.new }
     ensures spares { Goes (Spares command.now.setup.now) (F.contents files.old) (F.contents files.new) }
     ensures unwritten { may_be_written result ≡ false → Goes SameFiles (F.contents files.old) (F.contents files.new) }
     ensures files { let now = files_now F.contents F.read_faults F.replace_faults F.touched in
@@ -72,6 +74,7 @@ fn renew_account<F: Files, E: Stream>(
     ensures outcome { IsRenewing (command_parts command.now) basis.now (F.contents files.old) (F.contents files.new)
         (E.link ends.old) (E.link ends.new) (Rose (F.replace_faults files.old) (F.replace_faults files.new))
         (Rose (E.faults ends.old) (E.faults ends.new)) result }
+    ensures asked { Goes AsksForLine (E.link ends.old) (E.link ends.new) }
     ensures files { let now = files_now F.contents F.read_faults F.replace_faults F.touched in
         OnlyReplaces (command.now.setup.now ∷ []) (now files.old) (now files.new) }
     ensures faults { E.faults ends.old ≤ E.faults ends.new }
@@ -92,6 +95,7 @@ fn install<F: Files, E: Stream>(
     ensures outcome { IsInstalling (command_parts command.now) renewal.now (F.contents files.old) (F.contents files.new)
         (E.link ends.old) (E.link ends.new) (Rose (F.replace_faults files.old) (F.replace_faults files.new))
         (Rose (E.faults ends.old) (E.faults ends.new)) result }
+    ensures unasked { Goes IsUnasked (E.link ends.old) (E.link ends.new) }
     ensures files { let now = files_now F.contents F.read_faults F.replace_faults F.touched in
         OnlyReplaces (command.now.setup.now ∷ []) (now files.old) (now files.new) }
     ensures faults { E.faults ends.old ≤ E.faults ends.new }
@@ -106,6 +110,7 @@ fn put<F: Files, E: Stream>(texts: &Texts, files: &mut F, ends: &mut E) -> Resul
     ensures put { IsPut texts.now (F.contents files.old) (F.contents files.new) (E.link ends.old) (E.link ends.new)
         (Rose (F.replace_faults files.old) (F.replace_faults files.new))
         (Rose (E.faults ends.old) (E.faults ends.new)) result }
+    ensures unasked { Goes IsUnasked (E.link ends.old) (E.link ends.new) }
     ensures files { let now = files_now F.contents F.read_faults F.replace_faults F.touched in
         OnlyReplaces (texts.now.file ∷ []) (now files.old) (now files.new) }
     ensures faults { E.faults ends.old ≤ E.faults ends.new }

@@ -10,6 +10,7 @@ returns-clause-password g c = printed_from c.sides.view_is (record {
   detail_is = c.otp_detail.ensures;
   cause = c.run_otp-outcome.ensures.outcome;
   exact = c.run_otp-outcome.ensures.exact;
+  asked = c.run_otp-outcome.ensures.asks.line;
 })
 
 pub returns-clause-touches : goal.returns-clause-touches

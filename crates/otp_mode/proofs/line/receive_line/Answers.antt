@@ -1,8 +1,9 @@
-use Rattle.std.proofs.Common.{◌≡◌, ◌-◌, ◌≤◌, ◌++◌, [], Ok, ap, sym, ◌∙◌, arith, drop, length, length-append, length-drop, length-take, take}
+use Rattle.std.proofs.Common.{◌≡◌, ◌+◌, ◌-◌, ◌≤◌, ◌++◌, [], Ok, ap, sym, ◌∙◌, arith, drop, length, length-append, length-drop, length-take, take}
 use Rattle.std.specs.List.{list_any}
 use Rattle.std.specs.Prelude.{◌==◌}
 use Rattle.std.proofs.lemmas.Grind.{common_steps}
 use Rattle.outside.proofs.Exchanges.{Exchanges-then}
+use Rattle.otp_mode.proofs.Asking.{Asks-wider, asked-once}
 use Rattle.otp_mode.proofs.LineLemmas.{newline-within, received-all, received-full, received-newline, take-joined}
 use Rattle.otp_mode.proofs.line.receive_line.Goals as goal
 use Rattle.otp_mode.proofs.line.receive_line.Goals.{then-n-eq0-via-then-n-eq0, then-n-eq0-via-else-n-eq0+then-contains}
@@ -20,12 +21,30 @@ loop-filled-preserved g c =
     let room : length part ≡ 4096 - filled = omega (arith, c.recv.auto.buf, length-take (4096 - filled) (drop filled buf), length-drop filled buf, held.3) in
     let rest = drop (4096 - filled) (drop filled buf) in
     let short : n ≤ length part = omega (arith, got.bound, c.recv.auto.buf) in
-    let joined = take-joined filled n buf part rest (omega (arith, held.0, held.3)) short in (
+    let joined = take-joined filled n buf part rest (omega (arith, held.0, held.3)) short in
+    let more : 1 ≤ n = omega (arith, c.if-n-eq0.false) in (
       omega (arith, held.0, short, room),
       rw joined (Exchanges-then (take filled buf) [] (take n part) [] (link c.args.ends.now) (link c.loop-filled.ends) (link c.recv.new.self) held.1 got.link),
       omega (arith, held.2, got.kept),
       grind (arith, common_steps),
+      sym c.contains.ensures.value ∙ c.if-contains.false,
+      Asks-wider (filled + 1) (filled + n) (omega (arith, more)) (link c.args.ends.now) (link c.recv.new.self) (asked-once filled buf (link c.args.ends.now) (link c.loop-filled.ends) (link c.recv.new.self) (omega (arith, held.0, held.3)) held.4 held.1 held.5 got.asked),
     )
+
+-- one more receiving was asked, here or at the end
+pub returns-in_err-n-clause-asked : goal.returns-in_err-n-clause-asked
+returns-in_err-n-clause-asked g c =
+    let link = g.E.Stream.link in
+    let filled = c.loop-filled.filled in
+    let held = c.loop-filled.invariant in
+    Asks-wider (filled + 1) 4096 (omega (arith, c.loop-filled-test.true)) (link c.args.ends.now) (link c.recv.new.self) (asked-once filled c.loop-filled.buf (link c.args.ends.now) (link c.loop-filled.ends) (link c.recv.new.self) (omega (arith, held.0, held.3)) held.4 held.1 held.5 c.in_err-n.ensures.asked)
+
+pub returns-then-n-eq0-clause-asked : goal.returns-then-n-eq0-clause-asked
+returns-then-n-eq0-clause-asked g c =
+    let link = g.E.Stream.link in
+    let filled = c.loop-filled.filled in
+    let held = c.loop-filled.invariant in
+    Asks-wider (filled + 1) 4096 (omega (arith, c.loop-filled-test.true)) (link c.args.ends.now) (link c.recv.new.self) (asked-once filled c.loop-filled.buf (link c.args.ends.now) (link c.loop-filled.ends) (link c.recv.new.self) (omega (arith, held.0, held.3)) held.4 held.1 held.5 c.in_ok-n.ensures.asked)
 
 -- the buffer is full
 pub returns-after-loop-filled-clause-received : goal.returns-after-loop-filled-clause-received

@@ -3,6 +3,7 @@ use Rattle.std.proofs.lemmas.Result.{err_from_is_err_and}
 use Rattle.outside.specs.FilesNow.{files_now}
 use Rattle.setup_reading.proofs.Touching.{replaces_none}
 use Rattle.outside.proofs.Told.{Rose-within}
+use Rattle.otp_mode.proofs.Asking.{Asks-unasked}
 use Rattle.otp_extended.specs.Commands.{command_parts}
 use Rattle.renew_mode.proofs.RunLemmas.{IsRenewing-installed, IsRenewing-none}
 use Rattle.renew_mode.proofs.run.renew_account.Goals as goal
@@ -20,3 +21,8 @@ returns-clause-outcome g c =
 
 pub returns-in_err-renewal-clause-files : goal.returns-in_err-renewal-clause-files
 returns-in_err-renewal-clause-files g c = replaces_none (c.args.command.now.setup.now ∷ []) (files_now g.F.Files.contents g.F.Files.read_faults g.F.Files.replace_faults g.F.Files.touched c.args.files.now)
+
+pub returns-clause-asked : goal.returns-clause-asked
+returns-clause-asked g c =
+    let link = g.E.Stream.link in
+    Asks-unasked 4096 (link c.args.ends.now) (link c.receive_renewal.new.ends) (link c.install.new.ends) c.in_ok-renewal.ensures.asked c.install.ensures.unasked
