@@ -30,8 +30,8 @@ use Rattle.service_model.specs.Places.{Step, step_places}
 use Rattle.service_model.specs.Requests.{Asks, CameBy}
 use Rattle.service_model.specs.Service.{Service}
 use Rattle.login_laws.proofs.Walk.{At, Comes, Stands, State, after, goes_on, not_own, own_session, stays}
-use Rattle.phase_laws.specs.Dialogue.{Answers, HasDialogue, StandsAlike}
-use Rattle.phase_laws.proofs.Law.{no_violation}
+use Rattle.dialogue_laws.specs.Dialogue.{Answers, HasDialogue, StandsAlike}
+use Rattle.dialogue_laws.proofs.PhaseLaw.{no_violation}
 use Rattle.welcome_laws.proofs.Meeting.{had, meets}
 use Rattle.welcome_laws.proofs.Rounds.{Went}
 use Rattle.dialogue_laws.specs.Children.{AreDialogue, AreMild, IsExchanged, IsAskedNext}

@@ -28,7 +28,7 @@ use Rattle.service_model.specs.Parts.{GoesOn}
 use Rattle.service_model.specs.Places.{Step}
 use Rattle.service_model.specs.Requests.{Asks}
 use Rattle.service_model.specs.Service.{Service}
-use Rattle.phase_laws.specs.Dialogue.{IsTold}
+use Rattle.dialogue_laws.specs.Dialogue.{IsTold}
 use Rattle.welcome_laws.proofs.Meeting.{same_answer}
 
 -- ---- the kind of an ask

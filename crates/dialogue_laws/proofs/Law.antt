@@ -38,7 +38,7 @@ use Rattle.service_model.specs.Sittings.{IsSitting, Sitting, all_steps}
 use Rattle.service_model.specs.Users.{user_role}
 use Rattle.service_model.proofs.Steps.{places-append}
 use Rattle.login_laws.proofs.Walk.{At, Comes, Stands, after, begun, goes_on, own_session, places_behind, start}
-use Rattle.phase_laws.specs.Dialogue.{IsTold}
+use Rattle.dialogue_laws.specs.Dialogue.{IsTold}
 use Rattle.welcome_laws.specs.Shipped.{IsSaidWhole, IsShipped, role_session, shipped_role}
 use Rattle.welcome_laws.proofs.Meeting.{had}
 use Rattle.welcome_laws.proofs.Rounds.{Went, said_so}

@@ -1,3 +1,6 @@
+pub mod Steps
+pub mod Standing
+pub mod PhaseLaw
 pub mod Ranges
 pub mod UserRanges
 pub mod PreRanges

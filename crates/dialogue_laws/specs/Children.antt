@@ -14,7 +14,7 @@ use Rattle.service_model.specs.Parts.{Part, exported_by, requests_of}
 use Rattle.service_model.specs.Places.{Step}
 use Rattle.service_model.specs.Service.{Service}
 use Rattle.service_model.specs.Sittings.{Sitting}
-use Rattle.phase_laws.specs.Dialogue.{Answers, StandsAlike}
+use Rattle.dialogue_laws.specs.Dialogue.{Answers, StandsAlike}
 use Rattle.welcome_laws.specs.Shipped.{IsShipped, shipped_role}
 
 -- no request of these steps is denied by one of the rules 2 to 7: a denial that ends the session says that all its asks

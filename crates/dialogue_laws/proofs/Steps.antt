@@ -24,7 +24,7 @@ use Rattle.policy_model.specs.Asks.{accepts, challenge_name, ends_session, expor
 use Rattle.policy_model.specs.Asks.{is_login_denial, is_login_step, is_lost, is_permit, is_violation, kind_of, permits_kind, request_number}
 use Rattle.policy_model.specs.Asks.{shown_of, takes}
 use Rattle.session_laws.specs.Phased.{phase_after}
-use Rattle.phase_laws.specs.Dialogue.{Answers, IsTold}
+use Rattle.dialogue_laws.specs.Dialogue.{Answers, IsTold}
 
 -- ---- phases by tests
 

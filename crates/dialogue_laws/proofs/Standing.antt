@@ -25,8 +25,8 @@ use Rattle.session_laws.proofs.Opened.{opening}
 use Rattle.session_laws.proofs.PhaseLemmas.{phase_of-own, phase_of-pre}
 use Rattle.session_laws.proofs.SessionEvents.{has_event-own, is_over-opened, last_event-own}
 use Rattle.audit_check.proofs.Recent.{has_recent, phase_recent}
-use Rattle.phase_laws.specs.Dialogue.{AreExchanged}
-use Rattle.phase_laws.proofs.Steps.{stepped}
+use Rattle.dialogue_laws.specs.Dialogue.{AreExchanged}
+use Rattle.dialogue_laws.proofs.Steps.{stepped}
 
 -- ---- what the child went on after
 
