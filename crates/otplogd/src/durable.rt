@@ -12,7 +12,7 @@ use std::io::ErrorKind;
 use std::rt::Files;
 use system_calls::{LogStderr, open_alone};
 
-/// The log of a run that writes lines to standard error.
+/// The log of a run, which echoes a durable log's lines to standard error.
 pub(crate) type RunLog = RealLog<LogStderr, HostRuntime>;
 
 /// Why a run has no log.
@@ -86,6 +86,17 @@ fn log_on_disk(rt: HostRuntime, alloc: Global, name: &Word) -> Result<RunLog, Lo
     })
 }
 
+/// The log of a run that writes lines to standard error.
+fn plain_log(rt: HostRuntime) -> RunLog {
+    RealLog::Stream(RealSink::new(LogStderr::waiting(rt.stderr())))
+}
+
+/// Standard error as the log, and the durable log of this name, locked.
+fn beside_log(rt: HostRuntime, name: &Word) -> Result<(RunLog, Option<File>), LogError> {
+    let file = lock(&rt, name)?;
+    Ok((plain_log(rt), file))
+}
+
 /// The log of a run, and the durable one that the words recover from or renew beside, locked until it is
 /// dropped, so that no run writes to it meanwhile. The log is standard error, but where the words serve
 /// with a durable one.
@@ -98,11 +109,10 @@ pub(crate) fn logs_of(
     alloc: Global,
     words: &[Word],
 ) -> Result<(RunLog, Option<File>), LogError> {
-    let plain = RealLog::Stream(RealSink::new(LogStderr::waiting(rt.stderr())));
     match words {
         [mode, _, name] if mode.as_str() == "serve" => Ok((log_on_disk(rt, alloc, name)?, None)),
-        [mode, _, name] if mode.as_str() == "recover" => Ok((plain, lock(&rt, name)?)),
-        [mode, _, _, name] if mode.as_str() == "renew" => Ok((plain, lock(&rt, name)?)),
-        _ => Ok((plain, None)),
+        [mode, _, name] if mode.as_str() == "recover" => beside_log(rt, name),
+        [mode, _, _, name] if mode.as_str() == "renew" => beside_log(rt, name),
+        _ => Ok((plain_log(rt), None)),
     }
 }

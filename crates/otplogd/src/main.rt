@@ -233,7 +233,7 @@ fn conclude(
     match faults {
         _ if status == NO_COMMAND => return refuse(&rt, alloc, words),
         Some(faults) => {
-            let _ = say_end(rt, alloc, complaint, faults, run);
+            let _ = say_end(rt, complaint, faults, run);
         }
         None if status != 0 => say(&rt, alloc, complaint),
         None => {}
