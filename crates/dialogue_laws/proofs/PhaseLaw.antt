@@ -32,7 +32,7 @@ use Rattle.policy_model.specs.Verdict.{info_verdict, kind_verdict, own_verdict, 
 use Rattle.policy_model.proofs.Runs.{next_decision}
 use Rattle.session_laws.specs.Judged.{cell_decision, is_over_phase, request_decision}
 use Rattle.session_laws.proofs.Judging.{cell_is, request_is}
-use Rattle.drill_laws.proofs.Decided.{IsMild, mild_challenge, mild_close, mild_open, mild_read, mild_reply, mild_write}
+use Rattle.drill_plan.proofs.Decided.{IsMild, mild_challenge, mild_close, mild_open, mild_read, mild_reply, mild_write}
 use Rattle.dialogue_laws.specs.Dialogue.{AreExchanged, AsksNext, HasDialogue, HasEarlyDialogue, HasLateDialogue, StandsAlike}
 use Rattle.dialogue_laws.proofs.Standing.{GoesOn, allowed_next, by_own, stands_early, stands_late, went_on}
 

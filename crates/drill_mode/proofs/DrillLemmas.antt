@@ -23,8 +23,8 @@ use Rattle.service_model.specs.Sittings.{AreSittingsOf, Sitting}
 use Rattle.service_model.specs.Stories.{ArePlanned, IsStory, LastAccept, is_stop}
 use Rattle.drill_plan.specs.Passwords.{session_count}
 use Rattle.drill_plan.specs.Plan.{drill_plan}
-use Rattle.drill_laws.specs.Played.{IsPlayed}
-use Rattle.drill_laws.proofs.Whole.{is_drill}
+use Rattle.drill_plan.specs.Played.{IsPlayed}
+use Rattle.drill_plan.proofs.Whole.{is_drill}
 use Rattle.drill_mode.specs.Drilled.{IsDrilled}
 use Rattle.drill_mode.specs.Posts.{AreNewPosts, HasPlayed, IsNewPost, tells_whole}
 use Rattle.drill_mode.specs.Services.{IsDrillService}

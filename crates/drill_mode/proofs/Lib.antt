@@ -1,1 +1,2 @@
 mod DrillLemmas
+mod LineLemmas

@@ -4,7 +4,7 @@ use Rattle.std.specs.Global.{Global}
 use Rattle.outside.specs.Link.{Exchanged, Link, SendsPart}
 use Rattle.outside.specs.Told.{Goes}
 use Rattle.policy_model.specs.declared.event.Event.{Event}
-use Rattle.journal_counts.specs.CountsText.{counts_text}
+use Rattle.drill_mode.specs.CountsText.{counts_text}
 use Rattle.drill_mode.specs.declared.error.DrillError.{DrillError}
 use Rattle.drill_mode.specs.declared.error.DrillError.TheVariants as errors
 use Rattle.drill_mode.specs.Drilled.{IsDrilled}

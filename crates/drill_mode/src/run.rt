@@ -7,7 +7,7 @@ ghost use Rattle.drill_mode.specs.Outcome.{IsOutcome, ends_untold};
 
 use crate::drilling::drill;
 use crate::error::DrillError;
-use journal_counts::counts_text;
+use crate::text::counts_text;
 use outside::Stream;
 use policy_model::Event;
 use std::alloc::Global;

@@ -2,3 +2,13 @@ pub mod Users
 pub mod Texts
 pub mod Plans
 pub mod Setups
+pub mod Readings
+pub mod Said
+pub mod Walk
+pub mod Decided
+pub mod Holding
+pub mod Ends
+pub mod Heard
+pub mod Apart
+pub mod Sessions
+pub mod Whole

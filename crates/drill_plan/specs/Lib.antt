@@ -4,3 +4,4 @@ pub mod DrillSetup
 pub mod Requests
 pub mod Plan
 pub mod Drill
+pub mod Played

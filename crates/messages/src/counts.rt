@@ -1,6 +1,6 @@
 //! What a run came to.
 
-use journal_counts::Counted;
+use drill_mode::Counted;
 use policy_model::Event;
 use std::fmt;
 

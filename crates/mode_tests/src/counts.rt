@@ -1,4 +1,4 @@
-use journal_counts::*;
+use drill_mode::counts_text;
 use policy_model::{Ask, Decision, Event, Why};
 use std::alloc::{AllocError, Global};
 use std::test::*;

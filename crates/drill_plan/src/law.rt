@@ -1,7 +1,5 @@
 //! What a run over a drill's scripts comes to: the law by which its journal is a drill's, as the contract
-//! of a function that does nothing. What a drill is stands in `drill_plan/specs`; the mode `drill` stands
-//! above.
-#![tactic(auto)]
+//! of a function that does nothing.
 
 ghost use Rattle.std.specs.Prelude.{◌≡◌, ◌<◌, false, List, ℕ};
 ghost use Rattle.std.specs.List.{AllByRecursion, list_any};
@@ -13,7 +11,7 @@ ghost use Rattle.service_model.specs.Ends.{is_fault_end};
 ghost use Rattle.service_model.specs.Service.{Service};
 ghost use Rattle.drill_plan.specs.Drill.{IsDrill};
 ghost use Rattle.drill_plan.specs.DrillSetup.{IsDrillSetup};
-ghost use Rattle.drill_laws.specs.Played.{IsPlayed};
+ghost use Rattle.drill_plan.specs.Played.{IsPlayed};
 
 /// A law: a legal journal of the setup of the drill of `n` is a drill's, where no decision was lost, no
 /// session ended by a fault, and each of the four workers served as many sessions as the setup says over

@@ -3,12 +3,12 @@ use Rattle.std.specs.Prelude.{ℕ, ◌==◌, List, [], ◌∷◌, ◌++◌, code
 use Rattle.std.specs.Fmt.{decimal}
 use Rattle.std.specs.List.{range_with_len}
 use Rattle.policy_model.specs.declared.event.Event.{Event}
-use Rattle.journal_counts.specs.declared.counted.Counted.{Counted}
-use Rattle.journal_counts.specs.declared.counted.Counted.TheVariants.{Accepted, Denied, End, Events, Permitted, Rule}
-use Rattle.journal_counts.specs.declared.counted.Counted.TheVariants.{Sessions}
-use Rattle.journal_counts.specs.declared.counted.EndKind.{EndKind}
-use Rattle.journal_counts.specs.declared.counted.EndKind.TheVariants as kinds
-use Rattle.journal_counts.specs.Counted.{count_in}
+use Rattle.drill_mode.specs.declared.counted.Counted.{Counted}
+use Rattle.drill_mode.specs.declared.counted.Counted.TheVariants.{Accepted, Denied, End, Events, Permitted, Rule}
+use Rattle.drill_mode.specs.declared.counted.Counted.TheVariants.{Sessions}
+use Rattle.drill_mode.specs.declared.counted.EndKind.{EndKind}
+use Rattle.drill_mode.specs.declared.counted.EndKind.TheVariants as kinds
+use Rattle.drill_mode.specs.Counted.{count_in}
 
 -- the word of a kind of end
 abbrev pub kind_word : EndKind → List ℕ

@@ -1,10 +1,10 @@
 use Rattle.std.proofs.Common.{◌≡◌, ◌++◌, ap, arith, get_or, take, ◌∙◌}
 use Rattle.std.specs.List.{flat_map}
 use Rattle.std.specs.String.{string_bytes}
-use Rattle.journal_counts.specs.declared.counted.Counted.TheVariants.{Sessions}
-use Rattle.journal_counts.specs.CountsText.{line_in, totals, totals_text}
-use Rattle.journal_counts.proofs.LineLemmas.{taken_more}
-use Rattle.journal_counts.proofs.text.push_totals.Goals as goal
+use Rattle.drill_mode.specs.declared.counted.Counted.TheVariants.{Sessions}
+use Rattle.drill_mode.specs.CountsText.{line_in, totals, totals_text}
+use Rattle.drill_mode.proofs.LineLemmas.{taken_more}
+use Rattle.drill_mode.proofs.text.push_totals.Goals as goal
 
 pub loop-total-preserved : goal.loop-total-preserved
 loop-total-preserved c =

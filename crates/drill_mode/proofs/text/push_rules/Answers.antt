@@ -1,10 +1,10 @@
 use Rattle.std.proofs.Common.{◌≡◌, ℕ, ◌++◌, ◌-◌, List, arith, ap, ◌∙◌}
 use Rattle.std.specs.List.{flat_map, range_with_len}
 use Rattle.std.specs.String.{string_bytes}
-use Rattle.journal_counts.specs.declared.counted.Counted.TheVariants.{Rule}
-use Rattle.journal_counts.specs.CountsText.{line_where_some, rules_text}
-use Rattle.journal_counts.proofs.LineLemmas.{counted_more}
-use Rattle.journal_counts.proofs.text.push_rules.Goals as goal
+use Rattle.drill_mode.specs.declared.counted.Counted.TheVariants.{Rule}
+use Rattle.drill_mode.specs.CountsText.{line_where_some, rules_text}
+use Rattle.drill_mode.proofs.LineLemmas.{counted_more}
+use Rattle.drill_mode.proofs.text.push_rules.Goals as goal
 
 pub loop-rule-preserved : goal.loop-rule-preserved
 loop-rule-preserved c =

@@ -1,12 +1,12 @@
 use Rattle.std.proofs.Common.{◌≡◌, ℕ, ◌++◌, List, ap, arith, get_or, take, ◌∙◌}
 use Rattle.std.specs.List.{flat_map}
 use Rattle.std.specs.String.{string_bytes}
-use Rattle.journal_counts.specs.declared.counted.Counted.TheVariants.{End}
-use Rattle.journal_counts.specs.declared.counted.EndKind.{EndKind}
-use Rattle.journal_counts.specs.declared.counted.EndKind.TheVariants.{Finished}
-use Rattle.journal_counts.specs.CountsText.{end_kinds, ends_text, line_where_some}
-use Rattle.journal_counts.proofs.LineLemmas.{taken_more}
-use Rattle.journal_counts.proofs.text.push_ends.Goals as goal
+use Rattle.drill_mode.specs.declared.counted.Counted.TheVariants.{End}
+use Rattle.drill_mode.specs.declared.counted.EndKind.{EndKind}
+use Rattle.drill_mode.specs.declared.counted.EndKind.TheVariants.{Finished}
+use Rattle.drill_mode.specs.CountsText.{end_kinds, ends_text, line_where_some}
+use Rattle.drill_mode.proofs.LineLemmas.{taken_more}
+use Rattle.drill_mode.proofs.text.push_ends.Goals as goal
 
 pub loop-kind-preserved : goal.loop-kind-preserved
 loop-kind-preserved c =

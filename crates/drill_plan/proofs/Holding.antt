@@ -26,7 +26,7 @@ use Rattle.session_laws.proofs.Openings.{legal_numbered, open_session-kept, open
 use Rattle.session_laws.proofs.Settling.{reserves_live}
 use Rattle.session_laws.proofs.SessionEvents.{own_is}
 use Rattle.drill_plan.specs.Passwords.{own_name}
-use Rattle.drill_laws.proofs.Walk.{Comes}
+use Rattle.drill_plan.proofs.Walk.{Comes}
 
 -- an event reserves a worker's user only where it is the worker's
 pub record IsApart (e : Event) : Type 0 where

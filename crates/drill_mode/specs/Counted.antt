@@ -8,11 +8,11 @@ use Rattle.policy_model.specs.declared.event.Event.{Event}
 use Rattle.policy_model.specs.declared.event.Why.{Why}
 use Rattle.policy_model.specs.declared.event.Why.TheVariants as whys
 use Rattle.policy_model.specs.Asks.{accepts, is_permit, opens}
-use Rattle.journal_counts.specs.declared.counted.Counted.{Counted}
-use Rattle.journal_counts.specs.declared.counted.Counted.TheVariants.{Accepted, Denied, End, Events, Permitted, Rule}
-use Rattle.journal_counts.specs.declared.counted.Counted.TheVariants.{Sessions}
-use Rattle.journal_counts.specs.declared.counted.EndKind.{EndKind}
-use Rattle.journal_counts.specs.declared.counted.EndKind.TheVariants as kinds
+use Rattle.drill_mode.specs.declared.counted.Counted.{Counted}
+use Rattle.drill_mode.specs.declared.counted.Counted.TheVariants.{Accepted, Denied, End, Events, Permitted, Rule}
+use Rattle.drill_mode.specs.declared.counted.Counted.TheVariants.{Sessions}
+use Rattle.drill_mode.specs.declared.counted.EndKind.{EndKind}
+use Rattle.drill_mode.specs.declared.counted.EndKind.TheVariants as kinds
 
 -- a denial, by whatever rule
 abbrev pub is_denial : Decision → Bool

@@ -40,13 +40,13 @@ use Rattle.drill_plan.specs.Drill.{IsDrill, IsDrillOf, IsDrillSession, events_by
 use Rattle.drill_plan.specs.DrillSetup.{IsDrillSetup}
 use Rattle.drill_plan.specs.Passwords.{own_name, session_count}
 use Rattle.drill_plan.specs.Plan.{drill_plan}
-use Rattle.drill_laws.specs.Played.{IsPlayed}
-use Rattle.drill_laws.proofs.Apart.{OwnPlaces, all_apart, own_places, own_sittings}
-use Rattle.drill_laws.proofs.Ends.{IsFree}
-use Rattle.drill_laws.proofs.Heard.{events_in}
-use Rattle.drill_laws.proofs.Holding.{AreHeld, IsApart, all_parts, held_more}
-use Rattle.drill_laws.proofs.Sessions.{parts_follow}
-use Rattle.drill_laws.proofs.Walk.{At, Next, Stands, State, after, begun, goes_on, next_place, start, stays}
+use Rattle.drill_plan.specs.Played.{IsPlayed}
+use Rattle.drill_plan.proofs.Apart.{OwnPlaces, all_apart, own_places, own_sittings}
+use Rattle.drill_plan.proofs.Ends.{IsFree}
+use Rattle.drill_plan.proofs.Heard.{events_in}
+use Rattle.drill_plan.proofs.Holding.{AreHeld, IsApart, all_parts, held_more}
+use Rattle.drill_plan.proofs.Sessions.{parts_follow}
+use Rattle.drill_plan.proofs.Walk.{At, Next, Stands, State, after, begun, goes_on, next_place, start, stays}
 
 -- an event of a journal of which no event passes a test
 none_passes : (test : Event → Bool) (before rest : List Event) (e : Event) → list_any test (before ++ e ∷ rest) ≡ false → test e ≡ false

@@ -30,7 +30,7 @@ use Rattle.service_model.specs.Service.{Service}
 use Rattle.drill_plan.specs.Plan.{request_bytes, requests_bytes}
 use Rattle.drill_plan.specs.Requests.{IsAskFor}
 use Rattle.drill_plan.proofs.Texts.{is_password_text}
-use Rattle.drill_laws.proofs.Readings.{number_of, readings, same_text}
+use Rattle.drill_plan.proofs.Readings.{number_of, readings, same_text}
 
 -- a request that a drill may have: in its ranges, a reply with a password's digits, and no information and no note
 abbrev pub IsSent : RequestValue → Type 0

@@ -1,8 +1,8 @@
 //! What is counted of a journal.
 
 ghost use Rattle.std.specs.Prelude.{◌≡◌, count_by};
-ghost use Rattle.journal_counts.specs.Counted.{count_in, is_counted, is_denial, is_denial_by, is_end_of, is_of_kind};
-ghost use Rattle.journal_counts.specs.CountsText.{kind_word};
+ghost use Rattle.drill_mode.specs.Counted.{count_in, is_counted, is_denial, is_denial_by, is_end_of, is_of_kind};
+ghost use Rattle.drill_mode.specs.CountsText.{kind_word};
 
 use policy_model::{Ask, Decision, Event, Why};
 

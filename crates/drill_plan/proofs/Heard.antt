@@ -26,8 +26,8 @@ use Rattle.drill_plan.specs.declared.class.Class.TheVariants.{LogsIn, Repeats, E
 use Rattle.drill_plan.specs.Drill.{AreAsked}
 use Rattle.drill_plan.specs.Plan.{broken_header, request_bytes, requests_bytes}
 use Rattle.drill_plan.specs.Requests.{early_requests_by, least_record, user_requests_by}
-use Rattle.drill_laws.proofs.Ends.{Heard, IsLast}
-use Rattle.drill_laws.proofs.Said.{AsksFirst, IsSent, Said, is_message, said}
+use Rattle.drill_plan.proofs.Ends.{Heard, IsLast}
+use Rattle.drill_plan.proofs.Said.{AsksFirst, IsSent, Said, is_message, said}
 
 -- how a session ends that none of its asks ended: its child's bytes end, or end within a header
 abbrev pub alone_of : List ℕ → Why

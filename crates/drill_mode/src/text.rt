@@ -2,9 +2,9 @@
 
 ghost use Rattle.std.specs.Prelude.{◌≡◌, ◌++◌, IfOk, OnOk};
 ghost use Rattle.std.specs.String.{string_bytes};
-ghost use Rattle.journal_counts.specs.declared.counted.Counted.TheVariants as counted_;
-ghost use Rattle.journal_counts.specs.CountsText.{counted_words, counts_text, ends_text, line_in, line_where_some};
-ghost use Rattle.journal_counts.specs.CountsText.{rules_text, totals_text};
+ghost use Rattle.drill_mode.specs.declared.counted.Counted.TheVariants as counted_;
+ghost use Rattle.drill_mode.specs.CountsText.{counted_words, counts_text, ends_text, line_in, line_where_some};
+ghost use Rattle.drill_mode.specs.CountsText.{rules_text, totals_text};
 
 use crate::counted::{Counted, EndKind};
 use policy_model::Event;

@@ -43,11 +43,11 @@ use Rattle.drill_plan.specs.Passwords.{current_password, own_name, right_passwor
 use Rattle.drill_plan.specs.Plan.{broken_header, drill_plan, requests_bytes, session_bytes}
 use Rattle.drill_plan.specs.Requests.{early_requests_by, user_requests_by}
 use Rattle.drill_plan.proofs.Users.{is_own_name}
-use Rattle.drill_laws.proofs.Apart.{entry_bytes, plan_entry}
-use Rattle.drill_laws.proofs.Ends.{Heard, IsFree, breaks_off_end, export_refused, exports_end, file_is_used, logs_in_end, none_is_left, repeats_end}
-use Rattle.drill_laws.proofs.Heard.{alone_of, asked_heard, asked_longer, broken_alone, broken_short, events_in, heard_join, heard_part, said_part, sent_early, sent_user}
-use Rattle.drill_laws.proofs.Said.{AsksFirst}
-use Rattle.drill_laws.proofs.Walk.{At, Comes, Next, Stands, next_place, start}
+use Rattle.drill_plan.proofs.Apart.{entry_bytes, plan_entry}
+use Rattle.drill_plan.proofs.Ends.{Heard, IsFree, breaks_off_end, export_refused, exports_end, file_is_used, logs_in_end, none_is_left, repeats_end}
+use Rattle.drill_plan.proofs.Heard.{alone_of, asked_heard, asked_longer, broken_alone, broken_short, events_in, heard_join, heard_part, said_part, sent_early, sent_user}
+use Rattle.drill_plan.proofs.Said.{AsksFirst}
+use Rattle.drill_plan.proofs.Walk.{At, Comes, Next, Stands, next_place, start}
 
 -- what is said of a session of a class: its asks are the table's, and it ended as the drill says
 pub record Follows (table : List RequestValue) (class : Class) (why : Why) (steps : List Step) : Type 0 where

@@ -38,9 +38,9 @@ use Rattle.drill_plan.specs.Passwords.{current_password, own_name, right_passwor
 use Rattle.drill_plan.specs.Plan.{broken_header, drill_plan, requests_bytes, session_bytes}
 use Rattle.drill_plan.specs.Requests.{IsAskFor, early_requests_by, user_requests_by}
 use Rattle.drill_plan.proofs.Users.{is_own_name}
-use Rattle.drill_laws.proofs.Heard.{broken_short, said_part, sent_early, sent_user}
-use Rattle.drill_laws.proofs.Holding.{IsApart}
-use Rattle.drill_laws.proofs.Said.{AsksFirst}
+use Rattle.drill_plan.proofs.Heard.{broken_short, said_part, sent_early, sent_user}
+use Rattle.drill_plan.proofs.Holding.{IsApart}
+use Rattle.drill_plan.proofs.Said.{AsksFirst}
 
 -- ---- the names of the table
 

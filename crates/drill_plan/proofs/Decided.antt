@@ -25,7 +25,7 @@ use Rattle.policy_model.specs.Cases.{account_named, is_holder, grant_verdict, gr
 use Rattle.policy_model.proofs.Runs.{next_decision}
 use Rattle.session_laws.specs.Judged.{cell_decision, is_over_phase, request_decision}
 use Rattle.session_laws.proofs.Judging.{cell_is, request_is}
-use Rattle.drill_laws.proofs.Walk.{At, Comes, State}
+use Rattle.drill_plan.proofs.Walk.{At, Comes, State}
 
 -- a request of a session that goes on and has asks left is judged by its own verdict
 unspent : (session requests : ℕ) (phase : Phase) (asked : ℕ) (ask : Ask) (own : Decision) → session ≢ 0 → is_over_phase phase ≡ false → asked < requests → request_decision requests session phase asked ask own ≡ own

@@ -33,8 +33,8 @@ use Rattle.service_model.specs.Places.{Step, step_places}
 use Rattle.drill_plan.specs.declared.class.Class.TheVariants.{LogsIn}
 use Rattle.drill_plan.specs.Drill.{drill_end}
 use Rattle.drill_plan.specs.Requests.{IsAskFor}
-use Rattle.drill_laws.proofs.Decided.{IsMild, decided, exported, mild_challenge, mild_close, mild_open, mild_read, mild_reply, mild_write, taken}
-use Rattle.drill_laws.proofs.Walk.{At, Next, Stands, State, after, goes_on, next_place, start, stays}
+use Rattle.drill_plan.proofs.Decided.{IsMild, decided, exported, mild_challenge, mild_close, mild_open, mild_read, mild_reply, mild_write, taken}
+use Rattle.drill_plan.proofs.Walk.{At, Next, Stands, State, after, goes_on, next_place, start, stays}
 
 -- ---- what was heard of a session
 
