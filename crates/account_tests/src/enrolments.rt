@@ -4,6 +4,7 @@ use outside_memory::{CallKind, Fail, MemStream};
 use policy_model::{Account, Setup};
 use std::alloc::{AllocError, Global};
 use std::test::Fail as Fault;
+use trouble::{Trouble, status_of};
 
 /// The input of the standard's examples.
 const PHRASE: &str = "This is a test.\n";
@@ -80,10 +81,7 @@ fn status_and_sent(
     command: &EnrolCommand,
     ends: &mut MemStream,
 ) -> Result<String, AllocError> {
-    let status = match run_enrol(alloc, command, ends) {
-        Ok(()) => 0,
-        Err(fault) => fault.status(),
-    };
+    let status = status_of(&run_enrol(alloc, command, ends));
     let sent = std::str::from_utf8(ends.sent()).unwrap_or("?");
     format!(in alloc; "{status}{sent}")
 }
@@ -256,6 +254,6 @@ fn phrases_and_calls_that_fail(rt: HostRuntime) -> Result<(), Fault> {
             "{want} of {input}"
         );
     }
-    assert!(rt; EnrolFault::OutOfMemory.status() == 9);
+    assert!(rt; Trouble::OutOfMemory.status() == 9);
     Ok(())
 }

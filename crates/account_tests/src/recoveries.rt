@@ -5,6 +5,7 @@ use policy_model::{Account, Setup};
 use recover_mode::*;
 use std::alloc::{AllocError, Global};
 use std::test::Fail as Fault;
+use trouble::{Trouble, status_of};
 
 /// A setup with bob by SHA-1 and alice by MD5. Their stored passwords are those of `This is a test.` with
 /// the seed `test` and the number 1 (RFC 2289, appendix C); those that the logs accept have the number 0.
@@ -100,12 +101,12 @@ const ROWS: [Row; 5] = [
     },
     Row {
         log: MISCOUNTED,
-        told: "13 LogRefused { number: 2 }",
+        told: "13 LogRefused(Record { number: 2 })",
         accounts: BEFORE,
     },
     Row {
         log: WRONG,
-        told: "13 LogRefused { number: 3 }",
+        told: "13 LogRefused(Record { number: 3 })",
         accounts: BEFORE,
     },
 ];
@@ -177,14 +178,14 @@ fn has_accounts(alloc: Global, files: &MemFiles, want: &str) -> Result<bool, All
 /// The status, and the line that was sent or the error with what was sent.
 fn told_of(
     alloc: Global,
-    outcome: Result<Recovery, RecoveryError>,
+    outcome: Result<Recovery, Trouble>,
     sent: &[u8],
 ) -> Result<String, AllocError> {
-    let status = status(outcome);
+    let status = status_of(&outcome);
     let sent = std::str::from_utf8(sent).unwrap_or("?");
     match outcome {
         Ok(_) => format!(in alloc; "{status} {}", sent.trim()),
-        Err(error) => format!(in alloc; "{status} {error:?}{sent}"),
+        Err(trouble) => format!(in alloc; "{status} {trouble:?}{sent}"),
     }
 }
 
@@ -292,15 +293,19 @@ fn ends_so(alloc: Global, setup: &[u8], log: &[u8], want: &str) -> Result<bool, 
 
 /// A setup, a log, and the error.
 const MISSING: &[(&str, &str, &str)] = &[
-    (NONE, NONE, "4 SetupMissing"),
+    (NONE, NONE, "4 Missing(Setup)"),
     (
         "launcher = \"l\"\n",
         NONE,
         "5 SetupRefused(SetupFault { key: Socket, rule: Missing, account: 0 })",
     ),
-    (SETUP, "OTJ2\0", "13 LogRefused { number: 0 }"),
-    (SETUP, "OTJ1\x01\x02\0\n", "13 LogRefused { number: 0 }"),
-    (SETUP, "", "13 LogRefused { number: 0 }"),
+    (SETUP, "OTJ2\0", "13 LogRefused(Record { number: 0 })"),
+    (
+        SETUP,
+        "OTJ1\x01\x02\0\n",
+        "13 LogRefused(Record { number: 0 })",
+    ),
+    (SETUP, "", "13 LogRefused(Record { number: 0 })"),
 ];
 
 #[test]
@@ -317,7 +322,7 @@ fn files_that_are_missing_or_refused(rt: HostRuntime) -> Result<(), Fault> {
 /// Whether a setup that is named as its own log is refused, and left as it is.
 fn is_no_log(alloc: Global, files: &mut MemFiles) -> Result<bool, Fault> {
     Ok(
-        is_told(alloc, files, "setup", "13 LogRefused { number: 0 }")?
+        is_told(alloc, files, "setup", "13 LogRefused(Record { number: 0 })")?
             && holds(alloc, files, "setup", SETUP.as_bytes())?,
     )
 }
@@ -341,7 +346,7 @@ const FAILING: &[Failing] = &[
     (CallKind::Read, 4, "3 ReadFailed", BEFORE, false),
     (CallKind::Replace, 1, "8 ReplaceFailed", BEFORE, false),
     (CallKind::Replace, 2, "8 ReplaceFailed", BOB, false),
-    (CallKind::Send, 1, "11 SendFailedrecov", BOB, true),
+    (CallKind::Send, 1, "11 EndsFailedrecov", BOB, true),
 ];
 
 /// Whether a row's call has its outcome over the login's log with this image, and leaves what it says.
@@ -368,7 +373,7 @@ fn calls_that_fail(rt: HostRuntime) -> Result<(), Fault> {
     for row in FAILING {
         assert!(rt; fails_so(rt.alloc(), row)?, "{} at {}", row.2, row.1);
     }
-    assert!(rt; RecoveryError::OutOfMemory.status() == 9);
+    assert!(rt; Trouble::OutOfMemory.status() == 9);
     Ok(())
 }
 

@@ -3,9 +3,10 @@ use account_file::{SetupError, read_setup};
 use otp_extended::{RenewCommand, Renewed, read_renew_command};
 use outside_memory::{CallKind, Fail, MemFiles, MemStream};
 use policy_model::{Account, Setup, SetupParts};
-use renew_mode::*;
+use renew_mode::run_renew;
 use std::alloc::{AllocError, Global};
 use std::test::Fail as Fault;
+use trouble::{Trouble, status_of};
 
 /// A setup with alice by MD5 and bob by SHA-1. Their stored passwords are those of `This is a test.` with
 /// the seed `test` and the number 1 (RFC 2289, appendix C).
@@ -51,13 +52,13 @@ const INPUT: &str = "init-hex:9e87 6134 d904 99dd:md5 99 test2:50fe1962c4965880"
 const ROWS: &str = "\
 0 renewed alice 99|alice|init-hex:9e87 6134 d904 99dd:md5 99 test2:50fe1962c4965880
 0 renewed alice 99|alice|init-word:QEPE QBNI QCGJ QFJA QCEM QHHE:md5 99 test2:QCIH QHIG QCMF QEEJ QDCM QCAC
-15 NoRenewal(Refused(Loop))|alice|init-word:QEPE QBNI QCGJ QFJA QCEM QHHE:md5 99 test2:QDML QBHI QAKI QDGP QCIB QCHN
-15 NoRenewal(Refused(NotInit))|alice|hex:9e876134d90499dd
-15 NoRenewal(Refused(Replayed))|alice|init-hex:7965e05436f5029f:md5 99 test2:50fe1962c4965880
-12 NoRenewal(Unreadable(Params))|alice|init-hex:9e876134d90499dd:md5 0 test2:50fe1962c4965880
-15 NoRenewal(Refused(Unknown))|carol|init-hex:9e87 6134 d904 99dd:md5 99 test2:50fe1962c4965880
-15 NoRenewal(Refused(NoMatch))|bob|init-hex:9e87 6134 d904 99dd:md5 99 test2:50fe1962c4965880
-12 NoRenewal(Unreadable(Kind))|alice|
+15 NoRenewal(Loop)|alice|init-word:QEPE QBNI QCGJ QFJA QCEM QHHE:md5 99 test2:QDML QBHI QAKI QDGP QCIB QCHN
+15 NoRenewal(NotInit)|alice|hex:9e876134d90499dd
+15 NoRenewal(Replayed)|alice|init-hex:7965e05436f5029f:md5 99 test2:50fe1962c4965880
+12 ResponseRefused(Unreadable(Params))|alice|init-hex:9e876134d90499dd:md5 0 test2:50fe1962c4965880
+15 NoRenewal(Unknown)|carol|init-hex:9e87 6134 d904 99dd:md5 99 test2:50fe1962c4965880
+15 NoRenewal(NoMatch)|bob|init-hex:9e87 6134 d904 99dd:md5 99 test2:50fe1962c4965880
+12 ResponseRefused(Unreadable(Kind))|alice|
 ";
 
 /// The text of the plain word list.
@@ -128,17 +129,17 @@ fn is_unchanged(alloc: Global, files: &MemFiles) -> Result<bool, AllocError> {
     holds(alloc, files, "setup", SETUP.as_bytes())
 }
 
-/// What came of the mode: the status, and the bytes that are sent or the error.
+/// What came of the mode: the status, and the bytes that are sent or the trouble.
 fn text_of(
     alloc: Global,
-    outcome: Result<Renewed, RenewError>,
+    outcome: Result<Renewed, Trouble>,
     sent: &[u8],
 ) -> Result<String, AllocError> {
-    let status = status(outcome);
+    let status = status_of(&outcome);
     let sent = std::str::from_utf8(sent).unwrap_or("?");
     match outcome {
         Ok(_) => format!(in alloc; "{status} {}", sent.trim()),
-        Err(error) => format!(in alloc; "{status} {error:?}{sent}"),
+        Err(trouble) => format!(in alloc; "{status} {trouble:?}{sent}"),
     }
 }
 
@@ -226,8 +227,8 @@ const OTHER_SEED: &str = "init-hex:9e876134d90499dd:md5 99 test3:50fe1962c496588
 /// has the account's seed, and with another seed it doesn't match.
 const ONCE: [(&str, &str); 3] = [
     (INPUT, "0 renewed alice 99"),
-    (INPUT, "15 NoRenewal(Refused(SameSeed))"),
-    (OTHER_SEED, "15 NoRenewal(Refused(NoMatch))"),
+    (INPUT, "15 NoRenewal(SameSeed)"),
+    (OTHER_SEED, "15 NoRenewal(NoMatch)"),
 ];
 
 /// Whether all of that comes of it.
@@ -279,8 +280,8 @@ fn ends_by(alloc: Global, setup: &str, list: &str, want: &str) -> Result<bool, F
 
 /// A setup, a list, and the error.
 const MISSING: &[(&str, &str, &str)] = &[
-    (NONE, NONE, "4 SetupMissing"),
-    (SETUP, NONE, "4 WordsMissing"),
+    (NONE, NONE, "4 Missing(Setup)"),
+    (SETUP, NONE, "4 Missing(Words)"),
     (
         "launcher = \"l\"\n",
         NONE,
@@ -318,12 +319,12 @@ const FAILING: &[(CallKind, u32, &str, bool)] = &[
     (CallKind::Read, 4, "3 ReadFailed", false),
     (CallKind::Read, 5, "3 ReadFailed", false),
     (CallKind::Read, 6, "3 ReadFailed", false),
-    (CallKind::Recv, 1, "11 NoRenewal(EndsFailed)", false),
-    (CallKind::Recv, 2, "11 NoRenewal(EndsFailed)", false),
-    (CallKind::Recv, 9, "11 NoRenewal(EndsFailed)", false),
-    (CallKind::Recv, 10, "11 NoRenewal(EndsFailed)", false),
+    (CallKind::Recv, 1, "11 EndsFailed", false),
+    (CallKind::Recv, 2, "11 EndsFailed", false),
+    (CallKind::Recv, 9, "11 EndsFailed", false),
+    (CallKind::Recv, 10, "11 EndsFailed", false),
     (CallKind::Replace, 1, "8 ReplaceFailed", false),
-    (CallKind::Send, 1, "11 SendFailedrenew", true),
+    (CallKind::Send, 1, "11 EndsFailedrenew", true),
 ];
 
 #[test]
@@ -335,7 +336,7 @@ fn calls_that_fail(rt: HostRuntime) -> Result<(), Fault> {
             "{want} at {number}"
         );
     }
-    assert!(rt; RenewError::OutOfMemory.status() == 9);
+    assert!(rt; Trouble::OutOfMemory.status() == 9);
     Ok(())
 }
 
@@ -364,7 +365,7 @@ fn renews_after(alloc: Global, blanks: usize, want: &str) -> Result<bool, Fault>
 fn the_longest_line(rt: HostRuntime) -> Result<(), Fault> {
     let blanks = 4_095 - INPUT.len();
     assert!(rt; renews_after(rt.alloc(), blanks, "0 renewed alice 99")?);
-    assert!(rt; renews_after(rt.alloc(), blanks + 1, "12 NoRenewal(LineTooLong)")?);
+    assert!(rt; renews_after(rt.alloc(), blanks + 1, "12 ResponseRefused(TooLong)")?);
     Ok(())
 }
 
@@ -413,10 +414,10 @@ const SEVENTH: Fail = Fail {
 /// A log, a call that fails, and the outcome.
 const BESIDE: &[(&str, &[Fail], &str)] = &[
     ("OTJ1\0", &[], "0 renewed alice 99"),
-    (ONE_RECORD, &[], "13 LogNotFresh"),
-    (NONE, &[], "13 LogNotFresh"),
-    ("", &[], "13 LogNotFresh"),
-    ("OTJ1\0\0", &[], "13 LogNotFresh"),
+    (ONE_RECORD, &[], "13 LogRefused(NotFresh)"),
+    (NONE, &[], "13 LogRefused(NotFresh)"),
+    ("", &[], "13 LogRefused(NotFresh)"),
+    ("OTJ1\0\0", &[], "13 LogRefused(NotFresh)"),
     ("OTJ1\0", &[SEVENTH], "3 ReadFailed"),
 ];
 

@@ -10,9 +10,12 @@ use Rattle.setup_reading.specs.declared.reading.SetupFileError.TheVariants as se
 use Rattle.setup_reading.specs.Read.{IsSetupError, IsSetupIn}
 use Rattle.setup_reading.proofs.ReadLemmas.{IsSetupIn-later}
 use Rattle.audit_check.specs.declared.answer.Audit.{Audit}
-use Rattle.audit_mode.specs.declared.error.AuditError.{AuditError}
-use Rattle.audit_mode.specs.declared.error.AuditError.TheVariants as errors
-use Rattle.audit_mode.specs.Outcome.{IsAnswered, IsAnswerOf, IsAnswerOfBytes, IsFileError, IsLogError, IsOnlyAnswer, IsOutcome, error_of_setup}
+use Rattle.trouble.specs.declared.trouble.FileKind.TheVariants as kinds
+use Rattle.trouble.specs.declared.trouble.Trouble.{Trouble}
+use Rattle.trouble.specs.declared.trouble.Trouble.TheVariants as troubles
+use Rattle.trouble.specs.Reading.{trouble_of_setup}
+use Rattle.trouble.proofs.Unread.{setup_unread}
+use Rattle.audit_mode.specs.Outcome.{IsAnswered, IsAnswerOf, IsAnswerOfBytes, IsFileTrouble, IsLogTrouble, IsOnlyAnswer, IsOutcome}
 use Rattle.audit_mode.specs.Texts.{IsAuditedText}
 use Rattle.audit_mode.specs.Words.{AuditParts}
 use Rattle.audit_mode.proofs.TextLemmas.{one_text, text_of_image}
@@ -58,29 +61,43 @@ pub IsAnswered-setup : (before after : Option Contents) (parts : AuditParts) (se
 IsAnswered-setup before after parts setup answer goes spelled said =
     record { setup = setup; spelled = IsSetupIn-later before after parts.setup setup goes spelled; answer_of = said }
 
--- an error of the setup's file
-pub IsFileError-setup : (contents : Option Contents) (parts : AuditParts) (ReadFailed : Type 0) (error : SetupFileError) → IsSetupError contents parts.setup ReadFailed error → IsFileError contents parts ReadFailed (error_of_setup error)
-IsFileError-setup contents parts R setup_errors.Failed why = why
-IsFileError-setup contents parts R setup_errors.OutOfMemory why = tt
-IsFileError-setup contents parts R setup_errors.Missing why = why
-IsFileError-setup contents parts R (setup_errors.Refused fault) why = why
+-- trouble with the setup's file
+pub IsFileTrouble-setup : (contents : Option Contents) (parts : AuditParts) (ReadFailed : Type 0) (error : SetupFileError) → IsSetupError contents parts.setup ReadFailed error → IsFileTrouble contents parts ReadFailed (trouble_of_setup error)
+IsFileTrouble-setup contents parts R setup_errors.Failed why = why
+IsFileTrouble-setup contents parts R setup_errors.OutOfMemory why = tt
+IsFileTrouble-setup contents parts R setup_errors.Missing why = setup_unread contents parts.setup R setup_errors.Missing why
+IsFileTrouble-setup contents parts R (setup_errors.Refused fault) why = setup_unread contents parts.setup R (setup_errors.Refused fault) why
 
--- an error of the log's file, after the setup's
-pub IsFileError-log : (before after : Option Contents) (parts : AuditParts) (setup : Settings) (first between last : ℕ) (error : AuditError) → Goes SameFiles before after → IsSetupIn before parts.setup setup → first ≤ between → IsLogError after parts.log (Rose between last) error → IsFileError after parts (Rose first last) error
-IsFileError-log before after parts setup first between last errors.ReadFailed goes spelled le why =
+-- trouble with the log's file, after the setup's
+pub IsFileTrouble-log : (before after : Option Contents) (parts : AuditParts) (setup : Settings) (first between last : ℕ) (trouble : Trouble) → Goes SameFiles before after → IsSetupIn before parts.setup setup → first ≤ between → IsLogTrouble after parts.log (Rose between last) trouble → IsFileTrouble after parts (Rose first last) trouble
+IsFileTrouble-log before after parts setup first between last troubles.ReadFailed goes spelled le why =
     Rose-within first between last last le why (omega arith)
-IsFileError-log before after parts setup first between last errors.LogMissing goes spelled le why =
+IsFileTrouble-log before after parts setup first between last (troubles.Missing kinds.Log) goes spelled le why =
     record { setup = setup; spelled = IsSetupIn-later before after parts.setup setup goes spelled; missing = why }
-IsFileError-log before after parts setup first between last errors.OutOfMemory goes spelled le why = tt
-IsFileError-log before after parts setup first between last errors.SetupMissing goes spelled le why = absurd why
-IsFileError-log before after parts setup first between last (errors.SetupRefused fault) goes spelled le why = absurd why
-IsFileError-log before after parts setup first between last errors.EndsFailed goes spelled le why = absurd why
+IsFileTrouble-log before after parts setup first between last (troubles.Missing kinds.Setup) goes spelled le why = absurd why
+IsFileTrouble-log before after parts setup first between last (troubles.Missing kinds.Words) goes spelled le why = absurd why
+IsFileTrouble-log before after parts setup first between last troubles.OutOfMemory goes spelled le why = tt
+IsFileTrouble-log before after parts setup first between last (troubles.SetupRefused _) goes spelled le why = absurd why
+IsFileTrouble-log before after parts setup first between last (troubles.WordsRefused _) goes spelled le why = absurd why
+IsFileTrouble-log before after parts setup first between last (troubles.LogRefused _) goes spelled le why = absurd why
+IsFileTrouble-log before after parts setup first between last (troubles.Serving _) goes spelled le why = absurd why
+IsFileTrouble-log before after parts setup first between last (troubles.ResponseRefused _) goes spelled le why = absurd why
+IsFileTrouble-log before after parts setup first between last (troubles.NoRenewal _) goes spelled le why = absurd why
+IsFileTrouble-log before after parts setup first between last troubles.ReplaceFailed goes spelled le why = absurd why
+IsFileTrouble-log before after parts setup first between last troubles.EndsFailed goes spelled le why = absurd why
+IsFileTrouble-log before after parts setup first between last troubles.PhraseRefused goes spelled le why = absurd why
 
--- an error of a file is what came of the mode; the ends are as they were
-pub IsOutcome-file : (parts : AuditParts) (contents : Option Contents) (link : Option Link) (ReadFailed EndsFailed : Type 0) (error : AuditError) → IsFileError contents parts ReadFailed error → IsOutcome parts contents link link ReadFailed EndsFailed (Err error)
-IsOutcome-file parts contents link R E errors.ReadFailed why = (why, refl)
-IsOutcome-file parts contents link R E errors.SetupMissing why = (why, refl)
-IsOutcome-file parts contents link R E (errors.SetupRefused fault) why = (why, refl)
-IsOutcome-file parts contents link R E errors.LogMissing why = (why, refl)
-IsOutcome-file parts contents link R E errors.OutOfMemory why = (why, refl)
-IsOutcome-file parts contents link R E errors.EndsFailed why = absurd why
+-- trouble with a file is what came of the mode; the ends are as they were
+pub IsOutcome-file : (parts : AuditParts) (contents : Option Contents) (link : Option Link) (ReadFailed EndsFailed : Type 0) (trouble : Trouble) → IsFileTrouble contents parts ReadFailed trouble → IsOutcome parts contents link link ReadFailed EndsFailed (Err trouble)
+IsOutcome-file parts contents link R E troubles.EndsFailed why = absurd why
+IsOutcome-file parts contents link R E troubles.ReadFailed why = (why, refl)
+IsOutcome-file parts contents link R E (troubles.Missing _) why = (why, refl)
+IsOutcome-file parts contents link R E (troubles.SetupRefused _) why = (why, refl)
+IsOutcome-file parts contents link R E (troubles.WordsRefused _) why = (why, refl)
+IsOutcome-file parts contents link R E (troubles.LogRefused _) why = (why, refl)
+IsOutcome-file parts contents link R E (troubles.Serving _) why = (why, refl)
+IsOutcome-file parts contents link R E (troubles.ResponseRefused _) why = (why, refl)
+IsOutcome-file parts contents link R E (troubles.NoRenewal _) why = (why, refl)
+IsOutcome-file parts contents link R E troubles.ReplaceFailed why = (why, refl)
+IsOutcome-file parts contents link R E troubles.OutOfMemory why = (why, refl)
+IsOutcome-file parts contents link R E troubles.PhraseRefused why = (why, refl)

@@ -8,19 +8,18 @@ use Rattle.outside.specs.Told.{Goes}
 use Rattle.policy_model.specs.declared.event.Event.{Event}
 use Rattle.policy_model.specs.Journal.{kept_events}
 use Rattle.policy_model.specs.Settings.{Settings}
-use Rattle.file_front.specs.declared.front.FrontError.{FrontError}
-use Rattle.file_front.specs.declared.front.FrontError.TheVariants as front_errors
-use Rattle.setup_reading.specs.declared.reading.SetupFileError.{SetupFileError}
-use Rattle.setup_reading.specs.declared.reading.SetupFileError.TheVariants as setup_errors
-use Rattle.setup_reading.specs.Read.{IsSetupError, IsSetupIn}
+use Rattle.setup_reading.specs.Read.{IsSetupIn}
+use Rattle.trouble.specs.declared.trouble.FileKind.TheVariants as kinds
+use Rattle.trouble.specs.declared.trouble.Trouble.{Trouble}
+use Rattle.trouble.specs.declared.trouble.Trouble.TheVariants as troubles
+use Rattle.trouble.specs.Reading.{IsUnreadSetup}
+use Rattle.trouble.specs.Status.{trouble_status}
 use Rattle.decision_log.specs.Log.{log_text}
 use Rattle.durable_log.specs.Records.{HasRecords}
 use Rattle.audit_check.specs.declared.answer.Audit.{Audit}
 use Rattle.audit_check.specs.declared.answer.Audit.TheVariants.{Yes, No}
 use Rattle.audit_check.specs.Said.{IsAnswer}
 use Rattle.audit_check.specs.Written.{IsJournalOf}
-use Rattle.audit_mode.specs.declared.error.AuditError.{AuditError}
-use Rattle.audit_mode.specs.declared.error.AuditError.TheVariants as errors
 use Rattle.audit_mode.specs.Lines.{answer_line}
 use Rattle.audit_mode.specs.Texts.{IsAuditedText}
 use Rattle.audit_mode.specs.Words.{AuditParts}
@@ -62,48 +61,31 @@ pub record IsLogMissing (contents : Option Contents) (parts : AuditParts) : Type
   pub missing : IfSome contents (λ files. files parts.log ≡ None)
 
 -- why there is no answer: a read failed, memory ran out, the setup is missing or refused, or the log is missing
-abbrev pub IsFileError : Option Contents → AuditParts → Type 0 → AuditError → Type 0
-IsFileError contents parts ReadFailed errors.ReadFailed = ReadFailed
-IsFileError contents parts ReadFailed errors.SetupMissing =
-    IsSetupError contents parts.setup ReadFailed setup_errors.Missing
-IsFileError contents parts ReadFailed (errors.SetupRefused fault) =
-    IsSetupError contents parts.setup ReadFailed (setup_errors.Refused fault)
-IsFileError contents parts ReadFailed errors.LogMissing = IsLogMissing contents parts
-IsFileError contents parts ReadFailed errors.OutOfMemory = Unit {0}
-IsFileError contents parts ReadFailed errors.EndsFailed = ⊥
+abbrev pub IsFileTrouble : Option Contents → AuditParts → Type 0 → Trouble → Type 0
+IsFileTrouble contents parts ReadFailed (troubles.Missing kinds.Log) = IsLogMissing contents parts
+IsFileTrouble contents parts ReadFailed trouble = IsUnreadSetup contents parts.setup ReadFailed trouble
 
 -- the same where the setup was read
-abbrev pub IsLogError : Option Contents → List ℕ → Type 0 → AuditError → Type 0
-IsLogError contents name ReadFailed errors.ReadFailed = ReadFailed
-IsLogError contents name ReadFailed errors.LogMissing = IfSome contents (λ files. files name ≡ None)
-IsLogError contents name ReadFailed errors.OutOfMemory = Unit {0}
-IsLogError contents name ReadFailed _ = ⊥
-
--- the errors that are handed on
-abbrev pub error_of_front : FrontError → AuditError
-error_of_front front_errors.Failed = errors.ReadFailed
-error_of_front front_errors.OutOfMemory = errors.OutOfMemory
-
-abbrev pub error_of_setup : SetupFileError → AuditError
-error_of_setup setup_errors.Failed = errors.ReadFailed
-error_of_setup setup_errors.OutOfMemory = errors.OutOfMemory
-error_of_setup setup_errors.Missing = errors.SetupMissing
-error_of_setup (setup_errors.Refused fault) = errors.SetupRefused fault
+abbrev pub IsLogTrouble : Option Contents → List ℕ → Type 0 → Trouble → Type 0
+IsLogTrouble contents name ReadFailed troubles.ReadFailed = ReadFailed
+IsLogTrouble contents name ReadFailed (troubles.Missing kinds.Log) = IfSome contents (λ files. files name ≡ None)
+IsLogTrouble contents name ReadFailed troubles.OutOfMemory = Unit {0}
+IsLogTrouble contents name ReadFailed _ = ⊥
 
 -- what each end of `audit` means: the answer was sent, whole or in part, or there is none and nothing was sent
 abbrev pub IsOutcome : AuditParts → Option Contents → Option Link → Option Link → Type 0 → Type 0
-    → Result Audit AuditError → Type 0
+    → Result Audit Trouble → Type 0
 IsOutcome parts contents before after ReadFailed EndsFailed (Ok answer) =
     IsAnswered contents parts answer × Goes (Exchanged [] (answer_line answer)) before after
-IsOutcome parts contents before after ReadFailed EndsFailed (Err errors.EndsFailed) =
+IsOutcome parts contents before after ReadFailed EndsFailed (Err troubles.EndsFailed) =
     EndsFailed × ((answer : Audit) × IsAnswered contents parts answer × SendsPart (answer_line answer) before after)
-IsOutcome parts contents before after ReadFailed EndsFailed (Err error) =
-    IsFileError contents parts ReadFailed error × (after ≡ before)
+IsOutcome parts contents before after ReadFailed EndsFailed (Err trouble) =
+    IsFileTrouble contents parts ReadFailed trouble × (after ≡ before)
 
 -- whether the mode ended before its line
-abbrev pub ends_before_line : Result Audit AuditError → Bool
+abbrev pub ends_before_line : Result Audit Trouble → Bool
 ends_before_line (Ok answer) = false
-ends_before_line (Err errors.EndsFailed) = false
+ends_before_line (Err troubles.EndsFailed) = false
 ends_before_line (Err _) = true
 
 -- the exit status of each answer: 0 for yes, 14 for no
@@ -111,16 +93,7 @@ abbrev pub answer_status : Audit → ℕ
 answer_status (Yes events) = 0
 answer_status (No place why) = 14
 
--- the exit status of each error of the mode `audit`
-abbrev pub error_status : AuditError → ℕ
-error_status errors.ReadFailed = 3
-error_status errors.SetupMissing = 4
-error_status errors.LogMissing = 4
-error_status (errors.SetupRefused fault) = 5
-error_status errors.OutOfMemory = 9
-error_status errors.EndsFailed = 11
-
 -- the exit status of the mode `audit`
-abbrev pub status_of : Result Audit AuditError → ℕ
-status_of (Ok answer) = answer_status answer
-status_of (Err error) = error_status error
+abbrev pub audit_status : Result Audit Trouble → ℕ
+audit_status (Ok answer) = answer_status answer
+audit_status (Err trouble) = trouble_status trouble

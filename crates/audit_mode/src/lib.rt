@@ -4,11 +4,9 @@
 #![tactic(auto)]
 
 mod command;
-mod error;
 mod line;
 mod run;
 mod text;
 
 pub use command::{AuditCommand, read_audit_command};
-pub use error::AuditError;
 pub use run::{run_audit, status};

@@ -3,12 +3,10 @@
 #![tactic(auto)]
 
 mod command;
-mod fault;
 mod finding;
 mod line;
 mod run;
 
 pub use command::read_check_command;
-pub use fault::CheckFault;
 pub use finding::Finding;
 pub use run::run_check;

@@ -1,49 +1,45 @@
 //! The line that tells what was found.
 
-ghost use Rattle.std.specs.Prelude.{◌≡◌, ◌++◌, IfOk, codes};
-ghost use Rattle.std.specs.Fmt.{decimal};
+ghost use Rattle.std.specs.Prelude.{◌≡◌, IfOk, Err, Ok};
 ghost use Rattle.std.specs.String.{string_bytes};
-ghost use Rattle.check_mode.specs.declared.finding.Finding.TheVariants.{SetupRefused, WordsRefused};
+ghost use Rattle.trouble.specs.declared.trouble.Trouble.TheVariants.{SetupRefused, WordsRefused};
 ghost use Rattle.check_mode.specs.Lines.{line_of, list_rule_word};
 
 use crate::finding::Finding;
 use account_file::SetupFault;
 use otp_words::{DictFault, DictRule};
 use std::alloc::{AllocError, Global};
+use trouble::{FileKind, Trouble};
 
-/// The line of what was found, with the newline at its end.
-pub fn line_of(alloc: Global, finding: Finding) -> Result<String, AllocError>
-    ensures { IfOk result (λ line. string_bytes line ≡ line_of finding) }
+/// The line of what was found, with the newline at its end; empty where nothing is told.
+pub fn line_of(alloc: Global, found: Result<Finding, Trouble>) -> Result<String, AllocError>
+    ensures { IfOk result (λ line. string_bytes line ≡ line_of found) }
 {
-    match finding {
-        Finding::Right {
-            accounts,
-            workers,
-            ..
-        } => right_line(alloc, accounts, workers),
-        Finding::SetupMissing => String::from_str(alloc, "missing setup\n"),
-        Finding::SetupRefused(fault) => refused_setup_line(alloc, fault),
-        Finding::WordsMissing => String::from_str(alloc, "missing words\n"),
-        Finding::WordsRefused(fault) => refused_words_line(alloc, fault),
+    match found {
+        Ok(finding) => right_line(alloc, finding),
+        Err(Trouble::Missing(FileKind::Setup)) => String::from_str(alloc, "missing setup\n"),
+        Err(Trouble::SetupRefused(fault)) => refused_setup_line(alloc, fault),
+        Err(Trouble::Missing(FileKind::Words)) => String::from_str(alloc, "missing words\n"),
+        Err(Trouble::WordsRefused(fault)) => refused_words_line(alloc, fault),
+        Err(_) => Ok(String::new(alloc)),
     }
 }
 
 /// The line of a setup that is right.
-fn right_line(alloc: Global, accounts: usize, workers: u32) -> Result<String, AllocError>
-    ensures { IfOk result (λ line. string_bytes line ≡ codes "ok accounts " ++ decimal accounts
-        ++ codes " workers " ++ decimal workers ++ codes "\n") }
+fn right_line(alloc: Global, finding: Finding) -> Result<String, AllocError>
+    ensures { IfOk result (λ line. string_bytes line ≡ line_of (Ok finding)) }
 {
     let mut line = String::from_str(alloc, "ok accounts ")?;
-    line.push_str(accounts.to_string(alloc)?.as_str())?;
+    line.push_str(finding.accounts.to_string(alloc)?.as_str())?;
     line.push_str(" workers ")?;
-    line.push_str(workers.to_string(alloc)?.as_str())?;
+    line.push_str(finding.workers.to_string(alloc)?.as_str())?;
     line.push_str("\n")?;
     Ok(line)
 }
 
 /// The line of a setup that is refused.
 fn refused_setup_line(alloc: Global, fault: SetupFault) -> Result<String, AllocError>
-    ensures { IfOk result (λ line. string_bytes line ≡ line_of (SetupRefused fault)) }
+    ensures { IfOk result (λ line. string_bytes line ≡ line_of (Err (SetupRefused fault))) }
 {
     let key = fault.key.word();
     let rule = fault.rule.word();
@@ -53,7 +49,7 @@ fn refused_setup_line(alloc: Global, fault: SetupFault) -> Result<String, AllocE
 
 /// The line of a word list that is refused.
 fn refused_words_line(alloc: Global, fault: DictFault) -> Result<String, AllocError>
-    ensures { IfOk result (λ line. string_bytes line ≡ line_of (WordsRefused fault)) }
+    ensures { IfOk result (λ line. string_bytes line ≡ line_of (Err (WordsRefused fault))) }
 {
     let mut line = String::from_str(alloc, "refused words ")?;
     line.push_str(fault.line.to_string(alloc)?.as_str())?;

@@ -1,5 +1,4 @@
 pub mod Words
-pub mod Errors
 pub mod Services
 pub mod Posts
 pub mod Drilled

@@ -7,7 +7,6 @@
 mod command;
 mod counted;
 mod drilling;
-mod error;
 mod house;
 mod posts;
 mod run;
@@ -15,6 +14,5 @@ mod text;
 
 pub use command::read_drill_command;
 pub use counted::{Counted, EndKind};
-pub use error::DrillError;
-pub use run::{run_drill, status};
+pub use run::run_drill;
 pub use text::counts_text;

@@ -5,8 +5,8 @@ use Rattle.outside.specs.Told.{Goes}
 use Rattle.otp_mode.specs.Exact.{HasPhrase}
 use Rattle.otp_mode.specs.Outcome.{RefusedPhrase}
 use Rattle.otp_mode.specs.Phrase.{phrase_of}
-use Rattle.enrol_mode.specs.declared.fault.EnrolFault.{EnrolFault}
-use Rattle.enrol_mode.specs.declared.fault.EnrolFault.TheVariants as faults
+use Rattle.trouble.specs.declared.trouble.Trouble.{Trouble}
+use Rattle.trouble.specs.declared.trouble.Trouble.TheVariants as troubles
 use Rattle.enrol_mode.specs.Exact.{IsExact}
 use Rattle.enrol_mode.specs.Outcome.{IsOutcome, OnlyTook, Printed}
 use Rattle.enrol_mode.specs.Words.{EnrolParts}
@@ -50,24 +50,42 @@ refused-phrase (Some before) (Some after) phrase h goes =
     cc
 
 must_refuse : (parts : EnrolParts) (before after : Option Link) (EndsFailed : Type 0)
-    (result : Result (Unit {0}) EnrolFault) → IsOutcome parts before after EndsFailed result
-    → HasPhrase before after None → (result ≡ Err faults.PhraseRefused) ⊎ (result ≡ Err faults.EndsFailed)
+    (result : Result (Unit {0}) Trouble) → IsOutcome parts before after EndsFailed result
+    → HasPhrase before after None → (result ≡ Err troubles.PhraseRefused) ⊎ (result ≡ Err troubles.EndsFailed)
 must_refuse parts before after E (Ok _) o h = absurd (printed-phrase parts before after h o)
-must_refuse parts before after E (Err faults.OutOfMemory) o h = absurd (took-phrase before after h o)
-must_refuse parts before after E (Err faults.EndsFailed) o h = inr refl
-must_refuse parts before after E (Err faults.PhraseRefused) o h = inl refl
+must_refuse parts before after E (Err troubles.OutOfMemory) o h = absurd (took-phrase before after h o)
+must_refuse parts before after E (Err troubles.EndsFailed) o h = inr refl
+must_refuse parts before after E (Err troubles.PhraseRefused) o h = inl refl
+must_refuse parts before after E (Err (troubles.Missing _)) o h = absurd o
+must_refuse parts before after E (Err (troubles.SetupRefused _)) o h = absurd o
+must_refuse parts before after E (Err (troubles.WordsRefused _)) o h = absurd o
+must_refuse parts before after E (Err (troubles.LogRefused _)) o h = absurd o
+must_refuse parts before after E (Err (troubles.Serving _)) o h = absurd o
+must_refuse parts before after E (Err (troubles.ResponseRefused _)) o h = absurd o
+must_refuse parts before after E (Err (troubles.NoRenewal _)) o h = absurd o
+must_refuse parts before after E (Err troubles.ReplaceFailed) o h = absurd o
+must_refuse parts before after E (Err troubles.ReadFailed) o h = absurd o
 
 must_print : (parts : EnrolParts) (before after : Option Link) (EndsFailed : Type 0)
-    (result : Result (Unit {0}) EnrolFault) (phrase : List ℕ) → IsOutcome parts before after EndsFailed result
-    → HasPhrase before after (Some phrase) → (EndsFailed → ⊥) → (result ≡ Ok tt) ⊎ (result ≡ Err faults.OutOfMemory)
+    (result : Result (Unit {0}) Trouble) (phrase : List ℕ) → IsOutcome parts before after EndsFailed result
+    → HasPhrase before after (Some phrase) → (EndsFailed → ⊥) → (result ≡ Ok tt) ⊎ (result ≡ Err troubles.OutOfMemory)
 must_print parts before after E (Ok _) phrase o h ends = inl refl
-must_print parts before after E (Err faults.OutOfMemory) phrase o h ends = inr refl
-must_print parts before after E (Err faults.EndsFailed) phrase o h ends = absurd (ends o.0)
-must_print parts before after E (Err faults.PhraseRefused) phrase o h ends =
+must_print parts before after E (Err troubles.OutOfMemory) phrase o h ends = inr refl
+must_print parts before after E (Err troubles.EndsFailed) phrase o h ends = absurd (ends o.0)
+must_print parts before after E (Err troubles.PhraseRefused) phrase o h ends =
     absurd (refused-phrase before after phrase h o)
+must_print parts before after E (Err (troubles.Missing _)) phrase o h ends = absurd o
+must_print parts before after E (Err (troubles.SetupRefused _)) phrase o h ends = absurd o
+must_print parts before after E (Err (troubles.WordsRefused _)) phrase o h ends = absurd o
+must_print parts before after E (Err (troubles.LogRefused _)) phrase o h ends = absurd o
+must_print parts before after E (Err (troubles.Serving _)) phrase o h ends = absurd o
+must_print parts before after E (Err (troubles.ResponseRefused _)) phrase o h ends = absurd o
+must_print parts before after E (Err (troubles.NoRenewal _)) phrase o h ends = absurd o
+must_print parts before after E (Err troubles.ReplaceFailed) phrase o h ends = absurd o
+must_print parts before after E (Err troubles.ReadFailed) phrase o h ends = absurd o
 
 pub exactly : (parts : EnrolParts) (before after : Option Link) (EndsFailed : Type 0)
-    (result : Result (Unit {0}) EnrolFault) → IsOutcome parts before after EndsFailed result
+    (result : Result (Unit {0}) Trouble) → IsOutcome parts before after EndsFailed result
     → IsExact before after EndsFailed result
 exactly parts before after E result o = record {
   phrase_refused = λ h. must_refuse parts before after E result o h;

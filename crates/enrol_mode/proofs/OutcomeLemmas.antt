@@ -4,11 +4,10 @@ use Rattle.outside.specs.Link.{Exchanged, Link, SendsPart}
 use Rattle.outside.specs.Told.{Goes, Rose, next_count}
 use Rattle.outside.proofs.Exchanges.{Exchanged-then}
 use Rattle.outside.proofs.Told.{Goes-then}
-use Rattle.otp_mode.specs.declared.fault.PhraseFault.{PhraseFault}
-use Rattle.otp_mode.specs.declared.fault.PhraseFault.TheVariants as phrase_faults
-use Rattle.otp_mode.specs.Inner.{Accepted, IsPhraseFault}
+use Rattle.trouble.specs.declared.trouble.Trouble.{Trouble}
+use Rattle.trouble.specs.declared.trouble.Trouble.TheVariants as troubles
+use Rattle.otp_mode.specs.Inner.{Accepted, IsPhraseTrouble}
 use Rattle.enrol_mode.specs.Accounts.{IsEnrolText}
-use Rattle.enrol_mode.specs.Faults.{fault_of_phrase}
 use Rattle.enrol_mode.specs.Outcome.{IsOutcome, OnlyTook, Printed, PrintedPart, TookPhrase}
 use Rattle.enrol_mode.specs.Words.{EnrolParts}
 
@@ -78,8 +77,17 @@ outcome-took phrase (Some before) (Some after) got =
     }
 
 -- no phrase
-pub outcome-phrase : (parts : EnrolParts) (before after : Option Link) (EndsFailed : Type 0) (fault : PhraseFault)
-    → IsPhraseFault before after EndsFailed fault
-    → IsOutcome parts before after EndsFailed (Err (fault_of_phrase fault))
-outcome-phrase parts before after EndsFailed phrase_faults.EndsFailed h = (h.0, inl h.1)
-outcome-phrase parts before after EndsFailed phrase_faults.Refused h = h
+pub outcome-phrase : (parts : EnrolParts) (before after : Option Link) (EndsFailed : Type 0) (trouble : Trouble)
+    → IsPhraseTrouble before after EndsFailed trouble → IsOutcome parts before after EndsFailed (Err trouble)
+outcome-phrase parts before after E troubles.EndsFailed h = (h.0, inl h.1)
+outcome-phrase parts before after E troubles.PhraseRefused h = h
+outcome-phrase parts before after E troubles.OutOfMemory h = absurd h
+outcome-phrase parts before after E troubles.ReadFailed h = absurd h
+outcome-phrase parts before after E (troubles.Missing _) h = absurd h
+outcome-phrase parts before after E (troubles.SetupRefused _) h = absurd h
+outcome-phrase parts before after E (troubles.WordsRefused _) h = absurd h
+outcome-phrase parts before after E (troubles.LogRefused _) h = absurd h
+outcome-phrase parts before after E (troubles.Serving _) h = absurd h
+outcome-phrase parts before after E (troubles.ResponseRefused _) h = absurd h
+outcome-phrase parts before after E (troubles.NoRenewal _) h = absurd h
+outcome-phrase parts before after E troubles.ReplaceFailed h = absurd h

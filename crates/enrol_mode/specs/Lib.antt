@@ -1,6 +1,5 @@
 pub mod Words
 pub mod Command
-pub mod Faults
 pub mod Accounts
 pub mod Outcome
 pub mod Exact

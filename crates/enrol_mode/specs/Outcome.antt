@@ -2,10 +2,10 @@
 use Rattle.std.specs.Prelude.{◌≡◌, ◌⊎◌, ℕ, ◌≤◌, List, [], length, take, Option, Some, Result, Ok, Err}
 use Rattle.outside.specs.Link.{Exchanged, Link}
 use Rattle.outside.specs.Told.{Goes}
+use Rattle.trouble.specs.declared.trouble.Trouble.{Trouble}
+use Rattle.trouble.specs.declared.trouble.Trouble.TheVariants as troubles
 use Rattle.otp_mode.specs.Outcome.{OnlyReceived, RefusedPhrase}
 use Rattle.otp_mode.specs.Phrase.{phrase_of}
-use Rattle.enrol_mode.specs.declared.fault.EnrolFault.{EnrolFault}
-use Rattle.enrol_mode.specs.declared.fault.EnrolFault.TheVariants as faults
 use Rattle.enrol_mode.specs.Accounts.{IsEnrolText}
 use Rattle.enrol_mode.specs.Words.{EnrolParts}
 
@@ -37,9 +37,10 @@ pub record OnlyTook (before after : Link) : Type 0 where
   pub took : TookPhrase phrase [] before after
 
 -- what each end of `enrol` means: the account was printed, whole or in part, or nothing was sent
-abbrev pub IsOutcome : EnrolParts → Option Link → Option Link → Type 0 → Result (Unit {0}) EnrolFault → Type 0
+abbrev pub IsOutcome : EnrolParts → Option Link → Option Link → Type 0 → Result (Unit {0}) Trouble → Type 0
 IsOutcome parts before after EndsFailed (Ok _) = Goes (Printed parts) before after
-IsOutcome parts before after EndsFailed (Err faults.OutOfMemory) = Goes OnlyTook before after
-IsOutcome parts before after EndsFailed (Err faults.EndsFailed) =
+IsOutcome parts before after EndsFailed (Err troubles.OutOfMemory) = Goes OnlyTook before after
+IsOutcome parts before after EndsFailed (Err troubles.EndsFailed) =
     EndsFailed × (Goes OnlyReceived before after ⊎ Goes (PrintedPart parts) before after)
-IsOutcome parts before after EndsFailed (Err faults.PhraseRefused) = Goes RefusedPhrase before after
+IsOutcome parts before after EndsFailed (Err troubles.PhraseRefused) = Goes RefusedPhrase before after
+IsOutcome parts before after EndsFailed (Err _) = ⊥

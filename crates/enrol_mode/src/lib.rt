@@ -5,11 +5,9 @@
 
 mod account;
 mod command;
-mod fault;
 mod run;
 mod words;
 
 pub use command::EnrolCommand;
-pub use fault::EnrolFault;
 pub use run::run_enrol;
 pub use words::read_enrol_command;

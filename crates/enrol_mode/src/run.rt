@@ -9,10 +9,10 @@ ghost use Rattle.enrol_mode.specs.Outcome.{IsOutcome};
 
 use crate::account::account_text;
 use crate::command::EnrolCommand;
-use crate::fault::EnrolFault;
 use otp_mode::read_phrase;
 use outside::Stream;
 use std::alloc::Global;
+use trouble::Trouble;
 
 /// Runs the mode: takes the pass phrase from the first line of the input, and prints the table of an
 /// account with its password, which is enabled and has no grants. The phrase is 10 to 63 bytes of
@@ -20,12 +20,12 @@ use std::alloc::Global;
 ///
 /// # Errors
 ///
-/// The first fault, in this order: of the phrase, of memory, of the printing.
+/// The first trouble, in this order: of the phrase, of memory, of the printing.
 pub fn run_enrol<E: Stream>(
     alloc: Global,
     command: &EnrolCommand,
     ends: &mut E,
-) -> Result<(), EnrolFault>
+) -> Result<(), Trouble>
     ensures outcome { IsOutcome (command_parts command.now) (E.link ends.old) (E.link ends.new)
         (Rose (E.faults ends.old) (E.faults ends.new)) result }
     ensures exact { IsExact (E.link ends.old) (E.link ends.new)

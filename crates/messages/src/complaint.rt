@@ -2,10 +2,10 @@
 
 use account_file::SetupFault;
 use audit_check::AuditWhy;
-use monitor_server::{Answer, Detail, FileKind};
-use otp_extended::RenewFault;
+use monitor_server::{Answer, Detail};
 use otp_words::{DictFault, DictRule};
 use std::{fmt, io};
+use trouble::{FileKind, RenewFault};
 
 /// What is said of a durable log from which no run begins.
 const NOT_FRESH: &str = "the durable log is not a fresh one: call otplogd recover SETUP LOG first";

@@ -7,6 +7,7 @@ use outside::Sink;
 use outside_memory::{CallKind, Fail, MemFiles, MemStream};
 use std::alloc::{AllocError, Global};
 use std::test::Fail as Fault;
+use trouble::{FileKind, Trouble};
 
 /// The setup of one worker, with bob by SHA-1. His stored password is that of `This is a test.` with the
 /// seed `test` and the number 1 (RFC 2289, appendix C), and the one that LOGIN accepts that of the number 0.
@@ -112,18 +113,18 @@ const CUT: &str = "1 w0 s1 open permit\n2 w0 s1 write 0 0 2 permit\n3 w0 ";
 /// The durable log without a record.
 const FRESH: [u8; 5] = *b"OTJ1\x00";
 
-/// What the mode has to come to: a status, or an error.
+/// What the mode has to come to: a status, or a trouble.
 #[derive(Clone, Copy)]
 enum Outcome {
     Status(u8),
-    Error(AuditError),
+    Ended(Trouble),
 }
 
 /// Whether it came to that.
-fn is_outcome(outcome: Result<Audit, AuditError>, want: Outcome) -> bool {
+fn is_outcome(outcome: Result<Audit, Trouble>, want: Outcome) -> bool {
     match want {
         Outcome::Status(want) => status(outcome) == want,
-        Outcome::Error(error) => outcome == Err(error),
+        Outcome::Ended(trouble) => outcome == Err(trouble),
     }
 }
 
@@ -354,10 +355,10 @@ fn the_log_of_a_takeover(rt: HostRuntime) -> Result<(), Fault> {
     Ok(())
 }
 
-/// Whether the mode ends by an error, of which it tells nothing.
-fn ends_by(alloc: Global, setup: &str, log: &str, error: AuditError) -> Result<bool, AllocError> {
+/// Whether the mode ends by a trouble, of which it tells nothing.
+fn ends_by(alloc: Global, setup: &str, log: &str, trouble: Trouble) -> Result<bool, AllocError> {
     let told = Told {
-        outcome: Outcome::Error(error),
+        outcome: Outcome::Ended(trouble),
         sent: "",
     };
     comes_to(alloc, setup.as_bytes(), log.as_bytes(), &[], &told)
@@ -367,35 +368,35 @@ fn ends_by(alloc: Global, setup: &str, log: &str, error: AuditError) -> Result<b
 const HALF: &str = "socket = \"s\"\nlauncher = \"l\"\nvault = \"v\"\nwords = \"w\"\n";
 
 /// The fault that it has.
-const REFUSED: AuditError = AuditError::SetupRefused(SetupFault {
+const REFUSED: Trouble = Trouble::SetupRefused(SetupFault {
     key: SetupKey::Workers,
     rule: SetupRule::Missing,
     account: 0,
 });
 
-/// A setup, a log, the error, and its status.
-const MISSING: &[(&str, &str, AuditError, u8)] = &[
-    (NONE, NONE, AuditError::SetupMissing, 4),
+/// A setup, a log, the trouble, and its status.
+const MISSING: &[(&str, &str, Trouble, u8)] = &[
+    (NONE, NONE, Trouble::Missing(FileKind::Setup), 4),
     (HALF, NONE, REFUSED, 5),
-    (PLAIN, NONE, AuditError::LogMissing, 4),
+    (PLAIN, NONE, Trouble::Missing(FileKind::Log), 4),
 ];
 
 #[test]
 fn files_that_are_missing_or_refused(rt: HostRuntime) -> Result<(), Fault> {
-    for (setup, log, error, status) in MISSING {
-        assert!(rt; ends_by(rt.alloc(), setup, log, *error)?);
-        assert!(rt; error.status() == *status);
+    for (setup, log, trouble, status) in MISSING {
+        assert!(rt; ends_by(rt.alloc(), setup, log, *trouble)?);
+        assert!(rt; trouble.status() == *status);
     }
     Ok(())
 }
 
-/// A call that fails, a sending after five bytes, the error, and what was sent by then.
-const FAILING: &[(CallKind, u32, AuditError, &str)] = &[
-    (CallKind::Read, 1, AuditError::ReadFailed, ""),
-    (CallKind::Read, 2, AuditError::ReadFailed, ""),
-    (CallKind::Read, 3, AuditError::ReadFailed, ""),
-    (CallKind::Read, 4, AuditError::ReadFailed, ""),
-    (CallKind::Send, 1, AuditError::EndsFailed, "no 3 "),
+/// A call that fails, a sending after five bytes, the trouble, and what was sent by then.
+const FAILING: &[(CallKind, u32, Trouble, &str)] = &[
+    (CallKind::Read, 1, Trouble::ReadFailed, ""),
+    (CallKind::Read, 2, Trouble::ReadFailed, ""),
+    (CallKind::Read, 3, Trouble::ReadFailed, ""),
+    (CallKind::Read, 4, Trouble::ReadFailed, ""),
+    (CallKind::Send, 1, Trouble::EndsFailed, "no 3 "),
 ];
 
 /// Whether a call that fails over a log that is cut short comes to that.
@@ -415,13 +416,10 @@ fn fails_so(
 
 #[test]
 fn calls_that_fail(rt: HostRuntime) -> Result<(), Fault> {
-    for (call, number, error, sent) in FAILING {
-        let outcome = Outcome::Error(*error);
+    for (call, number, trouble, sent) in FAILING {
+        let outcome = Outcome::Ended(*trouble);
         assert!(rt; fails_so(rt.alloc(), *call, *number, &Told { outcome, sent })?);
     }
-    assert!(rt; AuditError::ReadFailed.status() == 3);
-    assert!(rt; AuditError::OutOfMemory.status() == 9);
-    assert!(rt; AuditError::EndsFailed.status() == 11);
     Ok(())
 }
 

@@ -7,6 +7,7 @@ use info_hooks::{Card, Form, Hook, Hooks, InfoText};
 use outside_memory::{CallKind, Fail, MemFiles, MemStream};
 use std::alloc::{AllocError, Global};
 use std::test::Fail as Fault;
+use trouble::status_of;
 
 /// A setup, line by line.
 const LINES: [&str; 17] = [
@@ -86,10 +87,10 @@ fn one_hook(alloc: Global) -> Result<Hooks, Fault> {
     Ok(Hooks::new(list).ok().ok_or("hooks")?)
 }
 
-/// What has to be found of a setup, as a status or a fault, and what has to be sent then.
+/// The status that has to be found of a setup, and what has to be sent then.
 #[derive(Clone, Copy)]
 struct Told<'a> {
-    found: Result<u8, CheckFault>,
+    status: u8,
     sent: &'a str,
 }
 
@@ -102,7 +103,7 @@ fn is_found(
     told: &Told<'_>,
 ) -> bool {
     let found = run_check(alloc, "setup", hooks, files, ends);
-    ends.sent() == told.sent.as_bytes() && found.map(Finding::status) == told.found
+    ends.sent() == told.sent.as_bytes() && status_of(&found) == told.status
 }
 
 /// The same with the one hook.
@@ -199,14 +200,13 @@ fn holds(alloc: Global, row: &Row) -> Result<bool, Fault> {
     let (place, text, first, lines, status, sent) = *row;
     let setup = setup_with(alloc, place, text, 0)?;
     let list = list_with(alloc, first, lines)?;
-    let found = Ok(status);
-    finds_of(alloc, &setup, &list, &[], &Told { found, sent })
+    finds_of(alloc, &setup, &list, &[], &Told { status, sent })
 }
 
 /// Whether a setup is missing where there is no file.
 fn finds_none(alloc: Global) -> Result<bool, Fault> {
     let missing = Told {
-        found: Ok(4),
+        status: 4,
         sent: "missing setup\n",
     };
     let mut files = MemFiles::new(alloc, &[], &[])?;
@@ -226,8 +226,7 @@ fn lines_and_statuses(rt: HostRuntime) -> Result<(), Fault> {
 fn finds_long(alloc: Global, len: usize, status: u8, sent: &str) -> Result<bool, Fault> {
     let setup = setup_with(alloc, 20, "", len)?;
     let list = list_with(alloc, "", 2_048)?;
-    let found = Ok(status);
-    finds_of(alloc, &setup, &list, &[], &Told { found, sent })
+    finds_of(alloc, &setup, &list, &[], &Told { status, sent })
 }
 
 #[test]
@@ -246,12 +245,12 @@ fn fails_with(alloc: Global, fail: Fail, told: &Told<'_>) -> Result<bool, Fault>
     finds_of(alloc, &setup, &list, &[fail], told)
 }
 
-/// A call that fails, the fault, and what was sent by then.
-const FAILING: &[(CallKind, u32, CheckFault, &str)] = &[
-    (CallKind::Read, 1, CheckFault::ReadFailed, ""),
-    (CallKind::Read, 2, CheckFault::ReadFailed, ""),
-    (CallKind::Read, 3, CheckFault::ReadFailed, ""),
-    (CallKind::Send, 1, CheckFault::EndsFailed, "ok ac"),
+/// A call that fails, the status, and what was sent by then.
+const FAILING: &[(CallKind, u32, u8, &str)] = &[
+    (CallKind::Read, 1, 3, ""),
+    (CallKind::Read, 2, 3, ""),
+    (CallKind::Read, 3, 3, ""),
+    (CallKind::Send, 1, 11, "ok ac"),
 ];
 
 /// Whether a call that fails comes to that.
@@ -266,9 +265,9 @@ fn fails_so(alloc: Global, call: CallKind, number: u32, told: &Told<'_>) -> Resu
 
 #[test]
 fn calls_that_fail(rt: HostRuntime) -> Result<(), Fault> {
-    for (call, number, fault, sent) in FAILING {
+    for (call, number, status, sent) in FAILING {
         let told = Told {
-            found: Err(*fault),
+            status: *status,
             sent,
         };
         assert!(rt;
@@ -277,13 +276,6 @@ fn calls_that_fail(rt: HostRuntime) -> Result<(), Fault> {
         );
     }
     Ok(())
-}
-
-#[test]
-fn statuses_of_faults(rt: HostRuntime) {
-    assert!(rt; CheckFault::ReadFailed.status() == 3);
-    assert!(rt; CheckFault::OutOfMemory.status() == 9);
-    assert!(rt; CheckFault::EndsFailed.status() == 11);
 }
 
 /// A mode, the words after it, and the file that they name.

@@ -7,6 +7,7 @@ use outside::{Bytes, Word};
 use outside_memory::{CallKind, Fail, MemFiles, MemStream};
 use std::alloc::{AllocError, Global};
 use std::test::Fail as Fault;
+use trouble::{FileKind, LineFault, LogFault, RenewFault, ServeFault, Trouble};
 
 /// The input of the standard's examples.
 const PHRASE: &[u8] = b"This is a test.\n";
@@ -42,7 +43,7 @@ fn run(
     line: &str,
     files: &mut MemFiles,
     ends: &mut MemStream,
-) -> Result<Option<Result<(), OtpFault>>, AllocError> {
+) -> Result<Option<Result<(), Trouble>>, AllocError> {
     let words = words_of(alloc, line)?;
     match command_of(words.as_slice()) {
         None => Ok(None),
@@ -117,7 +118,7 @@ fn files_of(alloc: Global, fails: &[Fail]) -> Result<MemFiles, AllocError> {
 #[derive(Clone, Copy)]
 struct Told<'a> {
     line: &'a str,
-    outcome: Result<(), OtpFault>,
+    outcome: Result<(), Trouble>,
     sent: &'a [u8],
 }
 
@@ -215,7 +216,7 @@ const TAKEN: Told<'static> = Told {
 /// One that is refused.
 const REFUSED: Told<'static> = Told {
     line: "otp md5 0 TeSt",
-    outcome: Err(OtpFault::PhraseRefused),
+    outcome: Err(Trouble::PhraseRefused),
     sent: b"",
 };
 
@@ -302,7 +303,7 @@ struct Row {
     list: &'static str,
     input: &'static [u8],
     fail: (CallKind, u32, usize),
-    want: OtpFault,
+    want: Trouble,
     sent: &'static [u8],
 }
 
@@ -331,7 +332,7 @@ const SILENT: Row = Row {
     list: "plain.txt",
     input: PHRASE,
     fail: (CallKind::Recv, 1, 0),
-    want: OtpFault::EndsFailed,
+    want: Trouble::EndsFailed,
     sent: b"",
 };
 
@@ -339,19 +340,19 @@ const LIST_FAULTS: &[Row] = &[
     Row {
         list: "none",
         fail: (CallKind::Replace, 1, 0),
-        want: OtpFault::ListMissing,
+        want: Trouble::Missing(FileKind::Words),
         ..SILENT
     },
     Row {
         list: "none",
         input: b"short\n",
-        want: OtpFault::ListMissing,
+        want: Trouble::Missing(FileKind::Words),
         ..SILENT
     },
     Row {
         list: "short",
         fail: (CallKind::Send, 1, 0),
-        want: OtpFault::ListRefused(DictFault {
+        want: Trouble::WordsRefused(DictFault {
             line: 2_047,
             rule: DictRule::Count,
         }),
@@ -360,7 +361,7 @@ const LIST_FAULTS: &[Row] = &[
     Row {
         list: "long",
         input: b"",
-        want: OtpFault::ListRefused(DictFault {
+        want: Trouble::WordsRefused(DictFault {
             line: 2_049,
             rule: DictRule::Twice,
         }),
@@ -368,13 +369,13 @@ const LIST_FAULTS: &[Row] = &[
     },
     Row {
         fail: (CallKind::Read, 1, 0),
-        want: OtpFault::ReadFailed,
+        want: Trouble::ReadFailed,
         ..SILENT
     },
     Row {
         input: b"short\n",
         fail: (CallKind::Read, 3, 0),
-        want: OtpFault::ReadFailed,
+        want: Trouble::ReadFailed,
         ..SILENT
     },
 ];
@@ -400,7 +401,7 @@ const END_FAULTS: &[Row] = &[
     Row {
         input: b"short\n",
         fail: (CallKind::Send, 1, 0),
-        want: OtpFault::PhraseRefused,
+        want: Trouble::PhraseRefused,
         ..SILENT
     },
     Row {
@@ -418,25 +419,35 @@ fn faults_of_the_ends_come_then(rt: HostRuntime) -> Result<(), Fault> {
     Ok(())
 }
 
-const STATUSES: &[(OtpFault, u8)] = &[
-    (OtpFault::ReadFailed, 3),
-    (OtpFault::ListMissing, 4),
+const STATUSES: &[(Trouble, u8)] = &[
+    (Trouble::ReadFailed, 3),
+    (Trouble::Missing(FileKind::Setup), 4),
+    (Trouble::Missing(FileKind::Words), 4),
+    (Trouble::Missing(FileKind::Log), 4),
     (
-        OtpFault::ListRefused(DictFault {
+        Trouble::WordsRefused(DictFault {
             line: 1,
             rule: DictRule::Length,
         }),
         5,
     ),
-    (OtpFault::OutOfMemory, 9),
-    (OtpFault::EndsFailed, 11),
-    (OtpFault::PhraseRefused, 12),
+    (Trouble::ReplaceFailed, 8),
+    (Trouble::OutOfMemory, 9),
+    (Trouble::EndsFailed, 11),
+    (Trouble::PhraseRefused, 12),
+    (Trouble::ResponseRefused(LineFault::TooLong), 12),
+    (Trouble::LogRefused(LogFault::NotFresh), 13),
+    (Trouble::LogRefused(LogFault::Record { number: 7 }), 13),
+    (Trouble::NoRenewal(RenewFault::Loop), 15),
+    (Trouble::Serving(ServeFault::ListenFailed), 6),
+    (Trouble::Serving(ServeFault::LogLost), 7),
+    (Trouble::Serving(ServeFault::AcceptFailed), 10),
 ];
 
 #[test]
 fn statuses(rt: HostRuntime) -> Result<(), Fault> {
-    for (fault, status) in STATUSES {
-        assert!(rt; fault.status() == *status);
+    for (trouble, status) in STATUSES {
+        assert!(rt; trouble.status() == *status);
     }
     Ok(())
 }

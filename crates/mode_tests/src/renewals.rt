@@ -8,6 +8,7 @@ use policy_model::{Account, Accounts, Grants, Setup, SetupParts};
 use request_catalogue::Name;
 use std::alloc::{AllocError, Global};
 use std::test::*;
+use trouble::{RenewFault, ResponseFault, Trouble};
 
 /// Passwords of `This is a test.` with the seed `test` (RFC 2289, appendix C): by MD5 those of the
 /// numbers 0, 1 and 99, and by SHA-1 that of the number 1.
@@ -350,21 +351,21 @@ fn accounts_text(alloc: Global, accounts: &[Account]) -> Result<String, AllocErr
     Ok(text)
 }
 
-/// The fault of a renewal, after its status.
-fn fault_text(alloc: Global, fault: RenewalFault) -> Result<String, AllocError> {
-    let status = fault.status();
-    format!(in alloc; "{status} {fault:?}")
+/// The trouble of a renewal, after its status.
+fn trouble_text(alloc: Global, trouble: Trouble) -> Result<String, AllocError> {
+    let status = trouble.status();
+    format!(in alloc; "{status} {trouble:?}")
 }
 
-/// Whether this came of a renewal: the accounts that it leaves, or its fault and its status.
+/// Whether this came of a renewal: the accounts that it leaves, or its trouble and its status.
 fn is_outcome(
     alloc: Global,
-    outcome: &Result<Renewal, RenewalFault>,
+    outcome: &Result<Renewal, Trouble>,
     want: &str,
 ) -> Result<bool, AllocError> {
     let text = match outcome {
         Ok(renewal) => accounts_text(alloc, renewal.setup.parts().accounts.as_slice())?,
-        Err(fault) => fault_text(alloc, *fault)?,
+        Err(trouble) => trouble_text(alloc, *trouble)?,
     };
     Ok(text.as_str() == want)
 }
@@ -440,9 +441,9 @@ const INPUTS: &str = "\
 after|
 after|$
 after|%$hex:x$
-12 Unreadable(New)|%
-12 Unreadable(New)|%%$
-12 Unreadable(Parts)|:$
+12 ResponseRefused(Unreadable(New))|%
+12 ResponseRefused(Unreadable(New))|%%$
+12 ResponseRefused(Unreadable(Parts))|:$
 ";
 
 /// Whether what comes of a line of the table is what it says.
@@ -475,8 +476,8 @@ fn blanks_come(alloc: Global, setup: &Setup, len: usize, want: &str) -> Result<b
 fn are_bounded(alloc: Global, setup: &Setup) -> Result<bool, Fail> {
     Ok(
         blanks_come(alloc, setup, 4_037, AFTER)?
-            && blanks_come(alloc, setup, 4_038, "12 LineTooLong")?
-            && blanks_come(alloc, setup, 5_000, "12 LineTooLong")?,
+            && blanks_come(alloc, setup, 4_038, "12 ResponseRefused(TooLong)")?
+            && blanks_come(alloc, setup, 5_000, "12 ResponseRefused(TooLong)")?,
     )
 }
 
@@ -504,7 +505,7 @@ fn renew_nothing(alloc: Global, setup: &Setup) -> Result<bool, Fail> {
     let refused = b"hex:9e876134d90499dd\n";
     Ok(
         fails_so(alloc, setup, INPUT, 20, "11 EndsFailed")?
-            && fails_so(alloc, setup, refused, 30, "15 Refused(NotInit)")?,
+            && fails_so(alloc, setup, refused, 30, "15 NoRenewal(NotInit)")?,
     )
 }
 

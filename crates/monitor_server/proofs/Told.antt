@@ -1,52 +1,47 @@
 -- What the statuses and the details of the modes tell.
 use Rattle.std.proofs.Common.{◌≡◌, ◌≢◌, ◌≤◌, ◌⊎◌, ℕ, Bool, true, false, ◌&&◌, ◌||◌, List, [], ◌∷◌, Some, None, Result, Ok, Err, refl, sym, ap, subst, ◌∙◌, inl, inr, arith}
-use Rattle.std.specs.Prelude.{not, ◌==◌, Vec}
+use Rattle.std.specs.Prelude.{not, ◌==◌, Option, Vec}
 use Rattle.std.specs.Global.{Global}
 use Rattle.std.specs.List.{list_any}
+use Rattle.info_hooks.specs.declared.key.Key.{Key}
+use Rattle.outside.specs.Files.{Contents}
+use Rattle.outside.specs.Link.{Link}
 use Rattle.command_line.specs.Words.{words_without_hyphen}
-use Rattle.otp_mode.specs.declared.fault.OtpFault.{OtpFault}
-use Rattle.otp_mode.specs.declared.fault.OtpFault.TheVariants as otp_faults
-use Rattle.otp_mode.specs.Faults as passwords
-use Rattle.check_mode.specs.declared.fault.CheckFault.{CheckFault}
-use Rattle.check_mode.specs.declared.fault.CheckFault.TheVariants as check_faults
-use Rattle.check_mode.specs.declared.finding.Finding.{Finding}
-use Rattle.check_mode.specs.declared.finding.Finding.TheVariants as findings
+use Rattle.trouble.specs.declared.trouble.ServeFault.{ServeFault}
+use Rattle.trouble.specs.declared.trouble.ServeFault.TheVariants as serving
+use Rattle.trouble.specs.declared.trouble.Trouble.{Trouble}
+use Rattle.trouble.specs.declared.trouble.Trouble.TheVariants as troubles
+use Rattle.trouble.specs.Status.{status_of, trouble_status}
+use Rattle.otp_mode.specs.Outcome as otps
+use Rattle.otp_mode.specs.Words.{OtpParts}
 use Rattle.check_mode.specs.Outcome as checks
+use Rattle.recover_mode.specs.declared.line.Recovery.{Recovery}
+use Rattle.recover_mode.specs.Ends.{may_be_written}
+use Rattle.recover_mode.specs.Outcome as recoveries
+use Rattle.recover_mode.specs.Words.{RecoverParts}
+use Rattle.policy_model.specs.declared.event.Event.{Event}
+use Rattle.drill_mode.specs.Outcome as drills
+use Rattle.enrol_mode.specs.Outcome as enrols
+use Rattle.enrol_mode.specs.Words.{EnrolParts}
+use Rattle.check_mode.specs.declared.finding.Finding.{Finding}
 use Rattle.child_mode.specs.declared.run.ChildRun.{ChildRun}
 use Rattle.child_mode.specs.declared.run.ChildRun.TheVariants as runs
 use Rattle.child_mode.specs.Outcome as children
 use Rattle.child_protocol.specs.declared.run.ChildEnd.TheVariants as ends
 use Rattle.audit_check.specs.declared.answer.Audit.{Audit}
 use Rattle.audit_check.specs.declared.answer.Audit.TheVariants as answers
-use Rattle.audit_mode.specs.declared.error.AuditError.{AuditError}
-use Rattle.audit_mode.specs.declared.error.AuditError.TheVariants as audit_errors
 use Rattle.audit_mode.specs.Outcome as audits
-use Rattle.policy_model.specs.declared.event.Event.{Event}
-use Rattle.drill_mode.specs.declared.error.DrillError.{DrillError}
-use Rattle.drill_mode.specs.declared.error.DrillError.TheVariants as drill_errors
-use Rattle.drill_mode.specs.Errors as drills
-use Rattle.enrol_mode.specs.declared.fault.EnrolFault.{EnrolFault}
-use Rattle.enrol_mode.specs.declared.fault.EnrolFault.TheVariants as enrol_faults
-use Rattle.enrol_mode.specs.Faults as enrolments
+use Rattle.audit_mode.specs.Words.{AuditParts}
 use Rattle.otp_extended.specs.declared.renewal.Renewed.{Renewed}
-use Rattle.otp_extended.specs.declared.run.RenewalFault.TheVariants as renewal_faults
-use Rattle.renew_mode.specs.declared.error.RenewError.{RenewError}
-use Rattle.renew_mode.specs.declared.error.RenewError.TheVariants as renew_errors
-use Rattle.renew_mode.specs.Errors as renews
-use Rattle.recover_mode.specs.declared.line.Recovery.{Recovery}
-use Rattle.recover_mode.specs.declared.error.RecoveryError.{RecoveryError}
-use Rattle.recover_mode.specs.declared.error.RecoveryError.TheVariants as recovery_errors
-use Rattle.recover_mode.specs.Errors as recoveries
-use Rattle.service_reading.specs.declared.error.ServiceError.TheVariants as service_errors
-use Rattle.serve_mode.specs.declared.error.ServeError.{ServeError}
-use Rattle.serve_mode.specs.declared.error.ServeError.TheVariants as serve_errors
-use Rattle.serve_mode.specs.Errors as serves
+use Rattle.otp_extended.specs.Commands.{RenewParts}
+use Rattle.renew_mode.specs.Ends as renew_ends
+use Rattle.renew_mode.specs.Outcome as renewals
 use Rattle.serve_mode.specs.Words.{Source}
 use Rattle.monitor_server.specs.declared.report.Detail.{Detail}
 use Rattle.monitor_server.specs.declared.report.Detail.TheVariants.{Nothing}
 use Rattle.monitor_server.specs.Commands.{IsCommand, asks_serve}
 use Rattle.monitor_server.specs.Headline.{IsStatus, StatusHasCause, is_serve_status, statuses}
-use Rattle.monitor_server.specs.Modes.{audit_detail, checked_detail, detail_of, recover_detail, renew_detail, serve_detail}
+use Rattle.monitor_server.specs.Modes.{audit_detail, checked_detail, detail_of, trouble_detail}
 
 -- a status of a mode that serves nobody
 abbrev pub is_mode_status : ℕ → Bool
@@ -63,73 +58,107 @@ pub record IsPlainStatus (status : ℕ) : Type 0 where
   pub fourteen : status ≢ 14
   pub fifteen : status ≢ 15
 
-pub audit_status : (outcome : Result Audit AuditError) → IsModeStatus (audits.status_of outcome)
-audit_status (Ok (answers.Yes events)) = refl
-audit_status (Ok (answers.No place why)) = refl
-audit_status (Err audit_errors.ReadFailed) = refl
-audit_status (Err audit_errors.SetupMissing) = refl
-audit_status (Err (audit_errors.SetupRefused fault)) = refl
-audit_status (Err audit_errors.LogMissing) = refl
-audit_status (Err audit_errors.OutOfMemory) = refl
-audit_status (Err audit_errors.EndsFailed) = refl
+-- a mode that doesn't come to the troubles of serving has the status of another mode
+mode_status : {A : Type 0} (Came : Result A Trouble → Type 0) → ((fault : ServeFault) → Came (Err (troubles.Serving fault)) → ⊥) → (outcome : Result A Trouble) → Came outcome → IsModeStatus (status_of outcome)
+mode_status Came never (Ok done) came = refl
+mode_status Came never (Err troubles.OutOfMemory) came = refl
+mode_status Came never (Err troubles.ReadFailed) came = refl
+mode_status Came never (Err (troubles.Missing file)) came = refl
+mode_status Came never (Err (troubles.SetupRefused fault)) came = refl
+mode_status Came never (Err (troubles.WordsRefused fault)) came = refl
+mode_status Came never (Err (troubles.LogRefused fault)) came = refl
+mode_status Came never (Err troubles.ReplaceFailed) came = refl
+mode_status Came never (Err troubles.EndsFailed) came = refl
+mode_status Came never (Err troubles.PhraseRefused) came = refl
+mode_status Came never (Err (troubles.Serving fault)) came = absurd (never fault came)
+mode_status Came never (Err (troubles.ResponseRefused fault)) came = refl
+mode_status Came never (Err (troubles.NoRenewal fault)) came = refl
 
-pub renew_status : (outcome : Result Renewed RenewError) → IsModeStatus (renews.status_of outcome)
-renew_status (Ok renewed) = refl
-renew_status (Err renew_errors.ReadFailed) = refl
-renew_status (Err renew_errors.SetupMissing) = refl
-renew_status (Err (renew_errors.SetupRefused fault)) = refl
-renew_status (Err renew_errors.WordsMissing) = refl
-renew_status (Err (renew_errors.WordsRefused fault)) = refl
-renew_status (Err renew_errors.LogNotFresh) = refl
-renew_status (Err (renew_errors.NoRenewal renewal_faults.OutOfMemory)) = refl
-renew_status (Err (renew_errors.NoRenewal renewal_faults.EndsFailed)) = refl
-renew_status (Err (renew_errors.NoRenewal renewal_faults.LineTooLong)) = refl
-renew_status (Err (renew_errors.NoRenewal (renewal_faults.Unreadable fault))) = refl
-renew_status (Err (renew_errors.NoRenewal (renewal_faults.Refused fault))) = refl
-renew_status (Err renew_errors.OutOfMemory) = refl
-renew_status (Err renew_errors.ReplaceFailed) = refl
-renew_status (Err renew_errors.SendFailed) = refl
+pub password_status : (contents : Option Contents) (before after : Option Link) (R E : Type 0) (parts : OtpParts) (outcome : Result (Unit {0}) Trouble) → otps.IsOutcome parts contents before after R E outcome → IsModeStatus (status_of outcome)
+password_status contents before after R E parts outcome cause = mode_status (otps.IsOutcome parts contents before after R E) (λ fault came. never parts.list fault came.0) outcome cause where
+  never : (list : Option (List ℕ)) (fault : ServeFault) → otps.IsUnlisted contents list R (troubles.Serving fault) → ⊥
+  never None fault why = why
+  never (Some name) fault why = why
 
-pub recover_status : (outcome : Result Recovery RecoveryError) → IsModeStatus (recoveries.status_of outcome)
-recover_status (Ok recovery) = refl
-recover_status (Err recovery_errors.ReadFailed) = refl
-recover_status (Err recovery_errors.SetupMissing) = refl
-recover_status (Err (recovery_errors.SetupRefused fault)) = refl
-recover_status (Err (recovery_errors.LogRefused number)) = refl
-recover_status (Err recovery_errors.OutOfMemory) = refl
-recover_status (Err recovery_errors.ReplaceFailed) = refl
-recover_status (Err recovery_errors.SendFailed) = refl
+pub enrol_status : (before after : Option Link) (E : Type 0) (parts : EnrolParts) (outcome : Result (Unit {0}) Trouble) → enrols.IsOutcome parts before after E outcome → IsModeStatus (status_of outcome)
+enrol_status before after E parts outcome cause = mode_status (enrols.IsOutcome parts before after E) (λ fault came. came) outcome cause
 
-pub drill_status : (outcome : Result (Vec Event Global) DrillError) → IsModeStatus (drills.status_of outcome)
-drill_status (Ok journal) = refl
-drill_status (Err drill_errors.OutOfMemory) = refl
-drill_status (Err drill_errors.CeasedToTell) = refl
-drill_status (Err drill_errors.EndsFailed) = refl
+pub check_status : (forms : List Key) (name : List ℕ) (contents : Option Contents) (before after : Option Link) (R E : Type 0) (outcome : Result Finding Trouble) → checks.IsOutcome forms name contents before after R E outcome → IsModeStatus (status_of outcome)
+check_status forms name contents before after R E outcome cause = mode_status (checks.IsOutcome forms name contents before after R E) (λ fault came. let untold : false ≡ true = came.0.0 in cc) outcome cause
 
-pub enrol_status : (outcome : Result (Unit {0}) EnrolFault) → IsModeStatus (enrolments.status_of outcome)
-enrol_status (Ok done) = refl
-enrol_status (Err enrol_faults.OutOfMemory) = refl
-enrol_status (Err enrol_faults.EndsFailed) = refl
-enrol_status (Err enrol_faults.PhraseRefused) = refl
+pub recover_status : (old new : Option Contents) (before after : Option Link) (R P E : Type 0) (parts : RecoverParts) (outcome : Result Recovery Trouble) → recoveries.IsOutcome parts old new before after R P E outcome → IsModeStatus (status_of outcome)
+recover_status old new before after R P E parts outcome cause = mode_status (recoveries.IsOutcome parts old new before after R P E) (λ fault came. came.0.why) outcome cause
+
+-- with another status than 0, 8 and 11 it wrote nothing
+pub recover_unwritten : (outcome : Result Recovery Trouble) → status_of outcome ≢ 0 → status_of outcome ≢ 8 → status_of outcome ≢ 11 → may_be_written outcome ≡ false
+recover_unwritten (Ok recovery) zero eight eleven = absurd (zero refl)
+recover_unwritten (Err troubles.ReplaceFailed) zero eight eleven = absurd (eight refl)
+recover_unwritten (Err troubles.EndsFailed) zero eight eleven = absurd (eleven refl)
+recover_unwritten (Err troubles.OutOfMemory) zero eight eleven = refl
+recover_unwritten (Err troubles.ReadFailed) zero eight eleven = refl
+recover_unwritten (Err (troubles.Missing file)) zero eight eleven = refl
+recover_unwritten (Err (troubles.SetupRefused fault)) zero eight eleven = refl
+recover_unwritten (Err (troubles.WordsRefused fault)) zero eight eleven = refl
+recover_unwritten (Err (troubles.LogRefused fault)) zero eight eleven = refl
+recover_unwritten (Err (troubles.Serving fault)) zero eight eleven = refl
+recover_unwritten (Err (troubles.ResponseRefused fault)) zero eight eleven = refl
+recover_unwritten (Err (troubles.NoRenewal fault)) zero eight eleven = refl
+recover_unwritten (Err troubles.PhraseRefused) zero eight eleven = refl
+
+pub drill_status : (before after : Option Link) (E : Type 0) (number : ℕ) (outcome : Result (Vec Event Global) Trouble) → drills.IsOutcome number before after E outcome → IsModeStatus (status_of outcome)
+drill_status before after E number outcome cause = mode_status (drills.IsOutcome number before after E) (λ fault came. came) outcome cause
+
+pub audit_status : (contents : Option Contents) (before after : Option Link) (R E : Type 0) (parts : AuditParts) (outcome : Result Audit Trouble) → audits.IsOutcome parts contents before after R E outcome → IsModeStatus (audits.audit_status outcome)
+audit_status contents before after R E parts (Ok (answers.Yes events)) cause = refl
+audit_status contents before after R E parts (Ok (answers.No place why)) cause = refl
+audit_status contents before after R E parts (Err trouble) cause = mode_status (audits.IsOutcome parts contents before after R E) (λ fault came. came.0) (Err trouble) cause
+
+pub renew_status : (old new : Option Contents) (before after : Option Link) (R P E : Type 0) (parts : RenewParts) (outcome : Result Renewed Trouble) → renewals.IsOutcome parts old new before after R P E outcome → IsModeStatus (status_of outcome)
+renew_status old new before after R P E parts outcome cause = mode_status (renewals.IsOutcome parts old new before after R P E) (λ fault came. came.why) outcome cause
+
+-- with another status than 0, 8 and 11 it wrote nothing
+pub renew_unwritten : (outcome : Result Renewed Trouble) → status_of outcome ≢ 0 → status_of outcome ≢ 8 → status_of outcome ≢ 11 → renew_ends.may_be_written outcome ≡ false
+renew_unwritten (Ok renewed) zero eight eleven = absurd (zero refl)
+renew_unwritten (Err troubles.ReplaceFailed) zero eight eleven = absurd (eight refl)
+renew_unwritten (Err troubles.EndsFailed) zero eight eleven = absurd (eleven refl)
+renew_unwritten (Err troubles.OutOfMemory) zero eight eleven = refl
+renew_unwritten (Err troubles.ReadFailed) zero eight eleven = refl
+renew_unwritten (Err (troubles.Missing file)) zero eight eleven = refl
+renew_unwritten (Err (troubles.SetupRefused fault)) zero eight eleven = refl
+renew_unwritten (Err (troubles.WordsRefused fault)) zero eight eleven = refl
+renew_unwritten (Err (troubles.LogRefused fault)) zero eight eleven = refl
+renew_unwritten (Err (troubles.Serving fault)) zero eight eleven = refl
+renew_unwritten (Err troubles.PhraseRefused) zero eight eleven = refl
+renew_unwritten (Err (troubles.ResponseRefused fault)) zero eight eleven = refl
+renew_unwritten (Err (troubles.NoRenewal fault)) zero eight eleven = refl
 
 -- the mode `enrol` reads no file
-pub enrol_files : (outcome : Result (Unit {0}) EnrolFault) (status : ℕ) → status ≡ enrolments.status_of outcome → (status ≡ 3) ⊎ (status ≡ 4) ⊎ (status ≡ 5) ⊎ (status ≡ 13) → ⊥
-enrol_files outcome status is how = go outcome is (within how) where
+pub enrol_files : (before after : Option Link) (E : Type 0) (parts : EnrolParts) (outcome : Result (Unit {0}) Trouble) (status : ℕ) → enrols.IsOutcome parts before after E outcome → status ≡ status_of outcome → (status ≡ 3) ⊎ (status ≡ 4) ⊎ (status ≡ 5) ⊎ (status ≡ 13) → ⊥
+enrol_files before after E parts outcome status cause is how = go outcome cause is (within how) where
   within : (status ≡ 3) ⊎ (status ≡ 4) ⊎ (status ≡ 5) ⊎ (status ≡ 13) → ((3 ≤ status) × (status ≤ 5)) ⊎ (status ≡ 13)
   within (inl e) = inl (omega (arith, e), omega (arith, e))
   within (inr (inl e)) = inl (omega (arith, e), omega (arith, e))
   within (inr (inr (inl e))) = inl (omega (arith, e), omega (arith, e))
   within (inr (inr (inr e))) = inr e
 
-  go : (outcome : Result (Unit {0}) EnrolFault) → status ≡ enrolments.status_of outcome → ((3 ≤ status) × (status ≤ 5)) ⊎ (status ≡ 13) → ⊥
-  go (Ok done) is (inl few) = omega (arith, is, few.0, few.1)
-  go (Ok done) is (inr e) = omega (arith, is, e)
-  go (Err enrol_faults.OutOfMemory) is (inl few) = omega (arith, is, few.0, few.1)
-  go (Err enrol_faults.OutOfMemory) is (inr e) = omega (arith, is, e)
-  go (Err enrol_faults.EndsFailed) is (inl few) = omega (arith, is, few.0, few.1)
-  go (Err enrol_faults.EndsFailed) is (inr e) = omega (arith, is, e)
-  go (Err enrol_faults.PhraseRefused) is (inl few) = omega (arith, is, few.0, few.1)
-  go (Err enrol_faults.PhraseRefused) is (inr e) = omega (arith, is, e)
+  go : (outcome : Result (Unit {0}) Trouble) → enrols.IsOutcome parts before after E outcome → status ≡ status_of outcome → ((3 ≤ status) × (status ≤ 5)) ⊎ (status ≡ 13) → ⊥
+  go (Ok done) cause is (inl few) = omega (arith, is, few.0, few.1)
+  go (Ok done) cause is (inr e) = omega (arith, is, e)
+  go (Err troubles.OutOfMemory) cause is (inl few) = omega (arith, is, few.0, few.1)
+  go (Err troubles.OutOfMemory) cause is (inr e) = omega (arith, is, e)
+  go (Err troubles.EndsFailed) cause is (inl few) = omega (arith, is, few.0, few.1)
+  go (Err troubles.EndsFailed) cause is (inr e) = omega (arith, is, e)
+  go (Err troubles.PhraseRefused) cause is (inl few) = omega (arith, is, few.0, few.1)
+  go (Err troubles.PhraseRefused) cause is (inr e) = omega (arith, is, e)
+  go (Err troubles.ReadFailed) cause is how = cause
+  go (Err (troubles.Missing _)) cause is how = cause
+  go (Err (troubles.SetupRefused _)) cause is how = cause
+  go (Err (troubles.WordsRefused _)) cause is how = cause
+  go (Err (troubles.LogRefused _)) cause is how = cause
+  go (Err (troubles.Serving _)) cause is how = cause
+  go (Err (troubles.ResponseRefused _)) cause is how = cause
+  go (Err (troubles.NoRenewal _)) cause is how = cause
+  go (Err troubles.ReplaceFailed) cause is how = cause
 
 pub child_status : (outcome : ChildRun) → IsModeStatus (children.run_status outcome)
 child_status (runs.Ended ends.Done) = refl
@@ -139,129 +168,55 @@ child_status (runs.Ended ends.Unreadable) = refl
 child_status (runs.Ended ends.Spent) = refl
 child_status runs.OutOfMemory = refl
 
-pub password_status : (outcome : Result (Unit {0}) OtpFault) → IsModeStatus (passwords.status_of outcome)
-password_status (Ok done) = refl
-password_status (Err otp_faults.ReadFailed) = refl
-password_status (Err otp_faults.ListMissing) = refl
-password_status (Err (otp_faults.ListRefused fault)) = refl
-password_status (Err otp_faults.OutOfMemory) = refl
-password_status (Err otp_faults.EndsFailed) = refl
-password_status (Err otp_faults.PhraseRefused) = refl
+trouble_plain : (trouble : Trouble) → IsPlainStatus (trouble_status trouble) → trouble_detail trouble ≡ Nothing
+trouble_plain troubles.OutOfMemory plain = refl
+trouble_plain troubles.ReadFailed plain = refl
+trouble_plain (troubles.Missing file) plain = absurd (plain.four refl)
+trouble_plain (troubles.SetupRefused fault) plain = absurd (plain.five refl)
+trouble_plain (troubles.WordsRefused fault) plain = absurd (plain.five refl)
+trouble_plain (troubles.LogRefused fault) plain = absurd (plain.thirteen refl)
+trouble_plain (troubles.Serving fault) plain = refl
+trouble_plain (troubles.ResponseRefused fault) plain = refl
+trouble_plain (troubles.NoRenewal fault) plain = absurd (plain.fifteen refl)
+trouble_plain troubles.ReplaceFailed plain = refl
+trouble_plain troubles.EndsFailed plain = refl
+trouble_plain troubles.PhraseRefused plain = refl
 
-pub check_status : (outcome : Result Finding CheckFault) → IsModeStatus (checks.status_of outcome)
-check_status (Ok (findings.Right accounts workers requests)) = refl
-check_status (Ok findings.SetupMissing) = refl
-check_status (Ok (findings.SetupRefused fault)) = refl
-check_status (Ok findings.WordsMissing) = refl
-check_status (Ok (findings.WordsRefused fault)) = refl
-check_status (Err check_faults.ReadFailed) = refl
-check_status (Err check_faults.OutOfMemory) = refl
-check_status (Err check_faults.EndsFailed) = refl
+pub ended_plain : {A : Type 0} (outcome : Result A Trouble) → IsPlainStatus (status_of outcome) → detail_of outcome ≡ Nothing
+ended_plain (Ok done) plain = refl
+ended_plain (Err trouble) plain = trouble_plain trouble plain
 
-pub password_detail : (outcome : Result (Unit {0}) OtpFault) → IsPlainStatus (passwords.status_of outcome) → detail_of outcome ≡ Nothing
-password_detail (Ok done) plain = refl
-password_detail (Err otp_faults.ReadFailed) plain = refl
-password_detail (Err otp_faults.ListMissing) plain = absurd (plain.four refl)
-password_detail (Err (otp_faults.ListRefused fault)) plain = absurd (plain.five refl)
-password_detail (Err otp_faults.OutOfMemory) plain = refl
-password_detail (Err otp_faults.EndsFailed) plain = refl
-password_detail (Err otp_faults.PhraseRefused) plain = refl
+pub check_plain : (outcome : Result Finding Trouble) → status_of outcome ≢ 0 → IsPlainStatus (status_of outcome) → checked_detail outcome ≡ Nothing
+check_plain (Ok finding) some plain = absurd (some refl)
+check_plain (Err trouble) some plain = trouble_plain trouble plain
 
-pub check_detail : (outcome : Result Finding CheckFault) → checks.status_of outcome ≢ 0 → IsPlainStatus (checks.status_of outcome) → checked_detail outcome ≡ Nothing
-check_detail (Ok (findings.Right accounts workers requests)) some plain = absurd (some refl)
-check_detail (Ok findings.SetupMissing) some plain = absurd (plain.four refl)
-check_detail (Ok (findings.SetupRefused fault)) some plain = absurd (plain.five refl)
-check_detail (Ok findings.WordsMissing) some plain = absurd (plain.four refl)
-check_detail (Ok (findings.WordsRefused fault)) some plain = absurd (plain.five refl)
-check_detail (Err fault) some plain = refl
-
-pub audit_plain : (outcome : Result Audit AuditError) → IsPlainStatus (audits.status_of outcome) → audit_detail outcome ≡ Nothing
+pub audit_plain : (outcome : Result Audit Trouble) → IsPlainStatus (audits.audit_status outcome) → audit_detail outcome ≡ Nothing
 audit_plain (Ok (answers.Yes events)) plain = refl
 audit_plain (Ok (answers.No place why)) plain = absurd (plain.fourteen refl)
-audit_plain (Err audit_errors.ReadFailed) plain = refl
-audit_plain (Err audit_errors.SetupMissing) plain = absurd (plain.four refl)
-audit_plain (Err (audit_errors.SetupRefused fault)) plain = absurd (plain.five refl)
-audit_plain (Err audit_errors.LogMissing) plain = absurd (plain.four refl)
-audit_plain (Err audit_errors.OutOfMemory) plain = refl
-audit_plain (Err audit_errors.EndsFailed) plain = refl
-
-pub renew_plain : (outcome : Result Renewed RenewError) → IsPlainStatus (renews.status_of outcome) → renew_detail outcome ≡ Nothing
-renew_plain (Ok renewed) plain = refl
-renew_plain (Err renew_errors.ReadFailed) plain = refl
-renew_plain (Err renew_errors.SetupMissing) plain = absurd (plain.four refl)
-renew_plain (Err (renew_errors.SetupRefused fault)) plain = absurd (plain.five refl)
-renew_plain (Err renew_errors.WordsMissing) plain = absurd (plain.four refl)
-renew_plain (Err (renew_errors.WordsRefused fault)) plain = absurd (plain.five refl)
-renew_plain (Err renew_errors.LogNotFresh) plain = absurd (plain.thirteen refl)
-renew_plain (Err (renew_errors.NoRenewal renewal_faults.OutOfMemory)) plain = refl
-renew_plain (Err (renew_errors.NoRenewal renewal_faults.EndsFailed)) plain = refl
-renew_plain (Err (renew_errors.NoRenewal renewal_faults.LineTooLong)) plain = refl
-renew_plain (Err (renew_errors.NoRenewal (renewal_faults.Unreadable fault))) plain = refl
-renew_plain (Err (renew_errors.NoRenewal (renewal_faults.Refused fault))) plain = absurd (plain.fifteen refl)
-renew_plain (Err renew_errors.OutOfMemory) plain = refl
-renew_plain (Err renew_errors.ReplaceFailed) plain = refl
-renew_plain (Err renew_errors.SendFailed) plain = refl
-
-pub recover_plain : (outcome : Result Recovery RecoveryError) → IsPlainStatus (recoveries.status_of outcome) → recover_detail outcome ≡ Nothing
-recover_plain (Ok recovery) plain = refl
-recover_plain (Err recovery_errors.ReadFailed) plain = refl
-recover_plain (Err recovery_errors.SetupMissing) plain = absurd (plain.four refl)
-recover_plain (Err (recovery_errors.SetupRefused fault)) plain = absurd (plain.five refl)
-recover_plain (Err (recovery_errors.LogRefused number)) plain = absurd (plain.thirteen refl)
-recover_plain (Err recovery_errors.OutOfMemory) plain = refl
-recover_plain (Err recovery_errors.ReplaceFailed) plain = refl
-recover_plain (Err recovery_errors.SendFailed) plain = refl
+audit_plain (Err trouble) plain = trouble_plain trouble plain
 
 -- a detail that the outcome of a mode tells
 pub detail-by : {A : Type 0} (status_of : A → ℕ) (detail_by : A → Detail) (outcome : A) (status : ℕ) (detail : Detail) → status ≡ status_of outcome → detail ≡ detail_by outcome → (IsPlainStatus (status_of outcome) → detail_by outcome ≡ Nothing) → status ≢ 4 → status ≢ 5 → status ≢ 13 → status ≢ 14 → status ≢ 15 → detail ≡ Nothing
 detail-by status_of detail_by outcome status detail is told plain four five thirteen fourteen fifteen =
     told ∙ plain (record { four = λ e. four (is ∙ e); five = λ e. five (is ∙ e); thirteen = λ e. thirteen (is ∙ e); fourteen = λ e. fourteen (is ∙ e); fifteen = λ e. fifteen (is ∙ e) })
 
-pub serve_status : (outcome : Result (Unit {0}) ServeError) → IsStatus (serves.status_of outcome)
-serve_status (Ok done) = refl
-serve_status (Err (serve_errors.Unread service_errors.Failed)) = refl
-serve_status (Err (serve_errors.Unread service_errors.SetupMissing)) = refl
-serve_status (Err (serve_errors.Unread (service_errors.SetupRefused fault))) = refl
-serve_status (Err (serve_errors.Unread service_errors.WordsMissing)) = refl
-serve_status (Err (serve_errors.Unread (service_errors.WordsRefused fault))) = refl
-serve_status (Err (serve_errors.Unread service_errors.OutOfMemory)) = refl
-serve_status (Err serve_errors.OutOfMemory) = refl
-serve_status (Err serve_errors.ListenFailed) = refl
-serve_status (Err serve_errors.LogLost) = refl
-serve_status (Err serve_errors.AcceptFailed) = refl
-serve_status (Err serve_errors.ReplaceFailed) = refl
-serve_status (Err serve_errors.LogNotFresh) = refl
-
--- `serve` never says that its words are no command
-pub serve_command_status : (outcome : Result (Unit {0}) ServeError) → serves.status_of outcome ≢ 2
-serve_command_status (Ok done) e = omega (arith, e)
-serve_command_status (Err (serve_errors.Unread service_errors.Failed)) e = omega (arith, e)
-serve_command_status (Err (serve_errors.Unread service_errors.SetupMissing)) e = omega (arith, e)
-serve_command_status (Err (serve_errors.Unread (service_errors.SetupRefused fault))) e = omega (arith, e)
-serve_command_status (Err (serve_errors.Unread service_errors.WordsMissing)) e = omega (arith, e)
-serve_command_status (Err (serve_errors.Unread (service_errors.WordsRefused fault))) e = omega (arith, e)
-serve_command_status (Err (serve_errors.Unread service_errors.OutOfMemory)) e = omega (arith, e)
-serve_command_status (Err serve_errors.OutOfMemory) e = omega (arith, e)
-serve_command_status (Err serve_errors.ListenFailed) e = omega (arith, e)
-serve_command_status (Err serve_errors.LogLost) e = omega (arith, e)
-serve_command_status (Err serve_errors.AcceptFailed) e = omega (arith, e)
-serve_command_status (Err serve_errors.ReplaceFailed) e = omega (arith, e)
-serve_command_status (Err serve_errors.LogNotFresh) e = omega (arith, e)
-
-pub serve_plain : (outcome : Result (Unit {0}) ServeError) → IsPlainStatus (serves.status_of outcome) → serve_detail outcome ≡ Nothing
-serve_plain (Ok done) plain = refl
-serve_plain (Err (serve_errors.Unread service_errors.Failed)) plain = refl
-serve_plain (Err (serve_errors.Unread service_errors.SetupMissing)) plain = absurd (plain.four refl)
-serve_plain (Err (serve_errors.Unread (service_errors.SetupRefused fault))) plain = absurd (plain.five refl)
-serve_plain (Err (serve_errors.Unread service_errors.WordsMissing)) plain = absurd (plain.four refl)
-serve_plain (Err (serve_errors.Unread (service_errors.WordsRefused fault))) plain = absurd (plain.five refl)
-serve_plain (Err (serve_errors.Unread service_errors.OutOfMemory)) plain = refl
-serve_plain (Err serve_errors.OutOfMemory) plain = refl
-serve_plain (Err serve_errors.ListenFailed) plain = refl
-serve_plain (Err serve_errors.LogLost) plain = refl
-serve_plain (Err serve_errors.AcceptFailed) plain = refl
-serve_plain (Err serve_errors.ReplaceFailed) plain = refl
-serve_plain (Err serve_errors.LogNotFresh) plain = absurd (plain.thirteen refl)
+-- a mode that ends has a status of the list, and never says that its words are no command
+pub ended_status : {A : Type 0} (outcome : Result A Trouble) → IsStatus (status_of outcome) × (status_of outcome ≢ 2)
+ended_status (Ok done) = (refl, λ e. omega (arith, e))
+ended_status (Err troubles.OutOfMemory) = (refl, λ e. omega (arith, e))
+ended_status (Err troubles.ReadFailed) = (refl, λ e. omega (arith, e))
+ended_status (Err (troubles.Missing file)) = (refl, λ e. omega (arith, e))
+ended_status (Err (troubles.SetupRefused fault)) = (refl, λ e. omega (arith, e))
+ended_status (Err (troubles.WordsRefused fault)) = (refl, λ e. omega (arith, e))
+ended_status (Err (troubles.LogRefused fault)) = (refl, λ e. omega (arith, e))
+ended_status (Err (troubles.Serving serving.ListenFailed)) = (refl, λ e. omega (arith, e))
+ended_status (Err (troubles.Serving serving.LogLost)) = (refl, λ e. omega (arith, e))
+ended_status (Err (troubles.Serving serving.AcceptFailed)) = (refl, λ e. omega (arith, e))
+ended_status (Err troubles.ReplaceFailed) = (refl, λ e. omega (arith, e))
+ended_status (Err troubles.EndsFailed) = (refl, λ e. omega (arith, e))
+ended_status (Err troubles.PhraseRefused) = (refl, λ e. omega (arith, e))
+ended_status (Err (troubles.ResponseRefused fault)) = (refl, λ e. omega (arith, e))
+ended_status (Err (troubles.NoRenewal fault)) = (refl, λ e. omega (arith, e))
 
 -- ---- why a status came
 

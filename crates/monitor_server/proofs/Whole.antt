@@ -7,9 +7,9 @@ use Rattle.monitor_book.specs.Lines.{IsUnwritten}
 use Rattle.monitor_book.proofs.LogLemmas.{unwritten}
 use Rattle.outside.specs.Told.{Gains, Goes, Rose}
 use Rattle.outside.proofs.Told.{Gains-none, Goes-same}
-use Rattle.otp_mode.specs.Faults as passwords
+use Rattle.trouble.specs.declared.trouble.Trouble.TheVariants as troubles
+use Rattle.trouble.specs.Status.{status_of}
 use Rattle.otp_mode.specs.Words.{OtpParts, otp_command}
-use Rattle.check_mode.specs.Outcome as checks
 use Rattle.check_mode.specs.Words.{check_command}
 use Rattle.child_mode.specs.Words.{ChildParts, child_command}
 use Rattle.audit_mode.specs.Outcome as audits
@@ -18,14 +18,9 @@ use Rattle.drill_mode.specs.Words.{drill_command}
 use Rattle.enrol_mode.specs.Command as enrolments_command
 use Rattle.enrol_mode.specs.Words.{EnrolParts, enrol_command}
 use Rattle.otp_extended.specs.Commands.{RenewParts, renew_command}
-use Rattle.renew_mode.specs.Errors as renews
 use Rattle.renew_mode.specs.Outcome.{Spares}
-use Rattle.recover_mode.specs.Errors as recoveries
 use Rattle.recover_mode.specs.Outcome as recovered
 use Rattle.recover_mode.specs.Words.{RecoverParts, recover_command}
-use Rattle.drill_mode.specs.declared.error.DrillError.TheVariants as drill_errors
-use Rattle.serve_mode.specs.declared.error.ServeError.TheVariants as serve_errors
-use Rattle.serve_mode.specs.Errors as serves
 use Rattle.serve_mode.specs.Keeping.{IsKept}
 use Rattle.serve_mode.specs.Words.{Plain, Source, files_of, serve_command, setups_of}
 use Rattle.setup_reading.specs.Touching.{TouchesNamed}
@@ -44,12 +39,12 @@ use Rattle.monitor_server.specs.declared.report.Detail.TheVariants.{Nothing}
 use Rattle.monitor_server.specs.Around.{Around, EndsNow, FilesGo, FilesNow, ReadRose, Said, answer_in, files_with, only_answer, run_around, sides_of}
 use Rattle.monitor_server.specs.Commands.{AsksAlone, IsCommand, IsReading, asks_audit, asks_check, asks_child, asks_drill, asks_enrol, asks_otp, asks_recover, asks_renew, asks_serve}
 use Rattle.monitor_server.specs.Headline.{IsStatus, StatusHasCause, UsesEndsAlone, UsesNothing}
-use Rattle.monitor_server.specs.Modes.{AuditRan, ChangesFiles, CheckRan, ChildRan, DrillRan, EnrolRan, LeavesRest, PasswordRan, RecoverRan, RenewRan, audit_detail, checked_detail, detail_of, recover_detail, renew_detail, serve_detail}
+use Rattle.monitor_server.specs.Modes.{AuditRan, ChangesFiles, CheckRan, ChildRan, DrillRan, EnrolRan, LeavesRest, PasswordRan, RecoverRan, RenewRan, audit_detail, checked_detail, detail_of}
 use Rattle.monitor_server.specs.Touching.{TouchesFilesNamed, TouchesGiven}
 use Rattle.monitor_server.specs.Whole.{HasServed, Whole}
 use Rattle.monitor_server.proofs.Apart.{AskOnly, Recover, Renew, none-some, only_audit, only_check, only_child, only_drill, only_enrol, only_otp, only_recover, only_renew, only_serve, spoken}
 use Rattle.monitor_server.proofs.Touching.{touches_alone, touches_same, touches_served}
-use Rattle.monitor_server.proofs.Told.{IsModeStatus, audit_plain, audit_status, check_detail, check_status, child_status, detail-by, drill_status, enrol_files, enrol_status, moded, password_detail, password_status, recover_plain, recover_status, renew_plain, renew_status, serve_command_status, serve_plain, serve_status, served, uncommanded, unremembered}
+use Rattle.monitor_server.proofs.Told.{IsModeStatus, audit_plain, audit_status, check_plain, check_status, child_status, detail-by, drill_status, ended_plain, ended_status, enrol_files, enrol_status, moded, password_status, recover_status, renew_status, served, uncommanded, unremembered}
 
 -- ---- the files that are changed
 
@@ -128,7 +123,7 @@ module _ {F S K E : Type 0} {words : List (List ℕ)} {forms : List Key} {conten
   pub whole-served : (source : Source) → asks_serve words ≡ Some source → HasServed source forms contents before after said → (source ≡ Plain → after.files ≡ before.files) → after.ends ≡ before.ends → TouchesNamed (files_of source) (setups_of source) (setups_of source) (files_with contents before.files) (files_with contents after.files)
       → Whole words forms contents before after said
   whole-served source asked done plain ends touches = let only = only_serve words source asked in let ran = done.ran in record {
-    causes = served words source said.status asked (spoken serve_command words source asked) (subst IsStatus (sym ran.status_is) (serve_status ran.end)) (λ two. serve_command_status ran.end (sym ran.status_is ∙ two));
+    causes = served words source said.status asked (spoken serve_command words source asked) (subst IsStatus (sym ran.status_is) (ended_status ran.end).0) (λ two. (ended_status ran.end).1 (sym ran.status_is ∙ two));
     serve = record { ran = λ other is. (served_for other is).ran };
     keeps = record { kept = λ other is. is_kept forms contents before after said other (served_for other is) };
     password = record { ran = λ other is. none-some (asks_otp words) other (only.otp refl) is };
@@ -149,7 +144,7 @@ module _ {F S K E : Type 0} {words : List (List ℕ)} {forms : List Key} {conten
       unread = λ parts is _. none-some (asks_otp words) parts (only.otp refl) is;
       silent = λ _. ends;
       unprinted = λ _ _. ends;
-      plain = λ _. detail-by serves.status_of serve_detail ran.end said.status said.detail ran.status_is ran.detail_is (serve_plain ran.end);
+      plain = λ _. detail-by status_of detail_of ran.end said.status said.detail ran.status_is ran.detail_is (ended_plain ran.end);
     };
     changes = record {
       same = λ none _ _. none-some (asks_serve words) source none asked;
@@ -169,7 +164,7 @@ module _ {F S K E : Type 0} {words : List (List ℕ)} {forms : List Key} {conten
       → Whole words forms contents before after said
   whole-password parts asked ran unused unread silent at_list goes touches =
       let status_is = sym ran.status_is in
-      let of : IsModeStatus said.status = subst IsModeStatus status_is (password_status ran.outcome) in
+      let of : IsModeStatus said.status = subst IsModeStatus status_is (password_status _ _ _ _ _ parts ran.outcome ran.cause) in
       let only = only_otp words parts asked in
       record {
         causes = moded words said.status (inr (inl (parts, asked))) (spoken otp_command words parts asked) of;
@@ -187,7 +182,7 @@ module _ {F S K E : Type 0} {words : List (List ℕ)} {forms : List Key} {conten
         drill = record { ran = λ other is. none-some (asks_drill words) other (only.drill refl) is };
         recover = record { ran = λ other is. none-some (asks_recover words) other (only.recover refl) is };
         enrol = record { ran = λ other is. none-some (asks_enrol words) other (only.enrol refl) is };
-        leaves = moded-leaves (only.serve refl) (λ none _ _ _ _. none-some (asks_otp words) parts none asked) (λ none _ _ _ _ _ _ _. none-some (asks_otp words) parts none asked) unused (λ other is none. unread (ap (λ (p : OtpParts). p.list) (let e : Some parts ≡ Some other = sym asked ∙ is in let same : parts ≡ other = cc in same) ∙ none)) (λ how. silent (three_or_nine how)) (λ _. at_list) (λ _. detail-by passwords.status_of detail_of ran.outcome said.status said.detail ran.status_is ran.detail_is (password_detail ran.outcome));
+        leaves = moded-leaves (only.serve refl) (λ none _ _ _ _. none-some (asks_otp words) parts none asked) (λ none _ _ _ _ _ _ _. none-some (asks_otp words) parts none asked) unused (λ other is none. unread (ap (λ (p : OtpParts). p.list) (let e : Some parts ≡ Some other = sym asked ∙ is in let same : parts ≡ other = cc in same) ∙ none)) (λ how. silent (three_or_nine how)) (λ _. at_list) (λ _. detail-by status_of detail_of ran.outcome said.status said.detail ran.status_is ran.detail_is (ended_plain ran.outcome));
         changes = changes-none goes;
         touches = touches;
       }
@@ -196,7 +191,7 @@ module _ {F S K E : Type 0} {words : List (List ℕ)} {forms : List Key} {conten
       → Whole words forms contents before after said
   whole-checked setup asked ran unused silent goes touches =
       let status_is = sym ran.status_is in
-      let of : IsModeStatus said.status = subst IsModeStatus status_is (check_status ran.outcome) in
+      let of : IsModeStatus said.status = subst IsModeStatus status_is (check_status _ _ _ _ _ _ _ ran.outcome ran.cause) in
       let only = only_check words setup asked in
       record {
         causes = moded words said.status (inr (inr (inl (setup, asked)))) (spoken check_command words setup asked) of;
@@ -214,7 +209,7 @@ module _ {F S K E : Type 0} {words : List (List ℕ)} {forms : List Key} {conten
         drill = record { ran = λ other is. none-some (asks_drill words) other (only.drill refl) is };
         recover = record { ran = λ other is. none-some (asks_recover words) other (only.recover refl) is };
         enrol = record { ran = λ other is. none-some (asks_enrol words) other (only.enrol refl) is };
-        leaves = moded-leaves (only.serve refl) (λ _ none _ _ _. none-some (asks_check words) setup none asked) (λ _ none _ _ _ _ _ _. none-some (asks_check words) setup none asked) unused (λ parts is _. none-some (asks_otp words) parts (only.otp refl) is) (λ how. silent (three_or_nine how)) (λ none _. none-some (asks_check words) setup none asked) (λ zero. detail-by checks.status_of checked_detail ran.outcome said.status said.detail ran.status_is ran.detail_is (check_detail ran.outcome (λ e. none-some (asks_check words) setup (zero (ran.status_is ∙ e)) asked)));
+        leaves = moded-leaves (only.serve refl) (λ _ none _ _ _. none-some (asks_check words) setup none asked) (λ _ none _ _ _ _ _ _. none-some (asks_check words) setup none asked) unused (λ parts is _. none-some (asks_otp words) parts (only.otp refl) is) (λ how. silent (three_or_nine how)) (λ none _. none-some (asks_check words) setup none asked) (λ zero. detail-by status_of checked_detail ran.outcome said.status said.detail ran.status_is ran.detail_is (check_plain ran.outcome (λ e. none-some (asks_check words) setup (zero (ran.status_is ∙ e)) asked)));
         changes = changes-none goes;
         touches = touches;
       }
@@ -250,7 +245,7 @@ module _ {F S K E : Type 0} {words : List (List ℕ)} {forms : List Key} {conten
       → Whole words forms contents before after said
   whole-audited parts asked ran unused silent at_file goes touches =
       let status_is = sym ran.status_is in
-      let of : IsModeStatus said.status = subst IsModeStatus status_is (audit_status ran.outcome) in
+      let of : IsModeStatus said.status = subst IsModeStatus status_is (audit_status _ _ _ _ _ parts ran.outcome ran.cause) in
       let only = only_audit words parts asked in
       record {
         causes = moded words said.status (inr (inr (inr (inr (inl (parts, asked)))))) (spoken audit_command words parts asked) of;
@@ -268,7 +263,7 @@ module _ {F S K E : Type 0} {words : List (List ℕ)} {forms : List Key} {conten
         drill = record { ran = λ other is. none-some (asks_drill words) other (only.drill refl) is };
         recover = record { ran = λ other is. none-some (asks_recover words) other (only.recover refl) is };
         enrol = record { ran = λ other is. none-some (asks_enrol words) other (only.enrol refl) is };
-        leaves = moded-leaves (only.serve refl) (λ _ _ none _ _. none-some (asks_audit words) parts none asked) (λ _ _ _ none _ _ _ _. none-some (asks_audit words) parts none asked) unused (λ other is _. none-some (asks_otp words) other (only.otp refl) is) (λ how. silent (three_or_nine how)) (λ _. at_file) (λ _. detail-by audits.status_of audit_detail ran.outcome said.status said.detail ran.status_is ran.detail_is (audit_plain ran.outcome));
+        leaves = moded-leaves (only.serve refl) (λ _ _ none _ _. none-some (asks_audit words) parts none asked) (λ _ _ _ none _ _ _ _. none-some (asks_audit words) parts none asked) unused (λ other is _. none-some (asks_otp words) other (only.otp refl) is) (λ how. silent (three_or_nine how)) (λ _. at_file) (λ _. detail-by audits.audit_status audit_detail ran.outcome said.status said.detail ran.status_is ran.detail_is (audit_plain ran.outcome));
         changes = changes-none goes;
         touches = touches;
       }
@@ -277,7 +272,7 @@ module _ {F S K E : Type 0} {words : List (List ℕ)} {forms : List Key} {conten
       → Whole words forms contents before after said
   whole-renewed parts asked ran unused at_files touches =
       let status_is = sym ran.status_is in
-      let of : IsModeStatus said.status = subst IsModeStatus status_is (renew_status ran.outcome) in
+      let of : IsModeStatus said.status = subst IsModeStatus status_is (renew_status _ _ _ _ _ _ _ parts ran.outcome ran.cause) in
       let only = only_renew words parts asked in
       record {
         causes = moded words said.status (inr (inr (inr (inr (inr (inl (parts, asked))))))) (spoken renew_command words parts asked) of;
@@ -295,7 +290,7 @@ module _ {F S K E : Type 0} {words : List (List ℕ)} {forms : List Key} {conten
         drill = record { ran = λ other is. none-some (asks_drill words) other (only.drill refl) is };
         recover = record { ran = λ other is. none-some (asks_recover words) other (only.recover refl) is };
         enrol = record { ran = λ other is. none-some (asks_enrol words) other (only.enrol refl) is };
-        leaves = moded-leaves (only.serve refl) (λ _ _ _ none _. none-some (asks_renew words) parts none asked) (λ _ _ _ _ none _ _ _. none-some (asks_renew words) parts none asked) unused (λ other is _. none-some (asks_otp words) other (only.otp refl) is) silent (λ _ how. at_files (inr how)) (λ _. detail-by renews.status_of renew_detail ran.outcome said.status said.detail ran.status_is ran.detail_is (renew_plain ran.outcome));
+        leaves = moded-leaves (only.serve refl) (λ _ _ _ none _. none-some (asks_renew words) parts none asked) (λ _ _ _ _ none _ _ _. none-some (asks_renew words) parts none asked) unused (λ other is _. none-some (asks_otp words) other (only.otp refl) is) silent (λ _ how. at_files (inr how)) (λ _. detail-by status_of detail_of ran.outcome said.status said.detail ran.status_is ran.detail_is (ended_plain ran.outcome));
         changes = changes-renewed words parts contents before after said asked ran only;
         touches = touches;
       } where
@@ -306,7 +301,7 @@ module _ {F S K E : Type 0} {words : List (List ℕ)} {forms : List Key} {conten
   pub whole-drilled : (number : ℕ) → asks_drill words ≡ Some number → DrillRan number before.ends after.ends said → UsesEndsAlone before after said → ((said.status ≡ 3) ⊎ (said.status ≡ 9) → after.ends ≡ before.ends) → ((said.status ≡ 4) ⊎ (said.status ≡ 5) ⊎ (said.status ≡ 13) → after.ends ≡ before.ends)
       → Whole words forms contents before after said
   whole-drilled number asked ran alone silent no_file =
-      let of : IsModeStatus said.status = subst IsModeStatus (sym ran.status_is) (drill_status ran.outcome) in
+      let of : IsModeStatus said.status = subst IsModeStatus (sym ran.status_is) (drill_status _ _ _ number ran.outcome ran.cause) in
       let only = only_drill words number asked in
       record {
         causes = moded words said.status (inr (inr (inr (inr (inr (inr (inl (number, asked)))))))) (spoken drill_command words number asked) of;
@@ -344,7 +339,7 @@ module _ {F S K E : Type 0} {words : List (List ℕ)} {forms : List Key} {conten
       → Whole words forms contents before after said
   whole-recovered parts asked ran unused silent at_files touches =
       let status_is = sym ran.status_is in
-      let of : IsModeStatus said.status = subst IsModeStatus status_is (recover_status ran.outcome) in
+      let of : IsModeStatus said.status = subst IsModeStatus status_is (recover_status _ _ _ _ _ _ _ parts ran.outcome ran.cause) in
       let only = only_recover words parts asked in
       record {
         causes = moded words said.status (inr (inr (inr (inr (inr (inr (inr (inl (parts, asked))))))))) (spoken recover_command words parts asked) of;
@@ -362,7 +357,7 @@ module _ {F S K E : Type 0} {words : List (List ℕ)} {forms : List Key} {conten
               inr (subst (λ p. RecoverRan p contents (sides_of before) (sides_of after) (answer_in said)) same ran);
         };
         enrol = record { ran = λ other is. none-some (asks_enrol words) other (only.enrol refl) is };
-        leaves = moded-leaves (only.serve refl) (λ _ _ _ _ none. none-some (asks_recover words) parts none asked) (λ _ _ _ _ _ _ none _. none-some (asks_recover words) parts none asked) unused (λ other is _. none-some (asks_otp words) other (only.otp refl) is) (λ how. silent (three_or_nine how)) (λ _. at_files) (λ _. detail-by recoveries.status_of recover_detail ran.outcome said.status said.detail ran.status_is ran.detail_is (recover_plain ran.outcome));
+        leaves = moded-leaves (only.serve refl) (λ _ _ _ _ none. none-some (asks_recover words) parts none asked) (λ _ _ _ _ _ _ none _. none-some (asks_recover words) parts none asked) unused (λ other is _. none-some (asks_otp words) other (only.otp refl) is) (λ how. silent (three_or_nine how)) (λ _. at_files) (λ _. detail-by status_of detail_of ran.outcome said.status said.detail ran.status_is ran.detail_is (ended_plain ran.outcome));
         changes = changes-recovered words parts contents before after said asked ran only;
         touches = touches;
       }
@@ -370,7 +365,7 @@ module _ {F S K E : Type 0} {words : List (List ℕ)} {forms : List Key} {conten
   pub whole-enrolled : (parts : EnrolParts) → asks_enrol words ≡ Some parts → EnrolRan parts before.ends after.ends said.status → said.detail ≡ Nothing → UsesNothing before after said → after.files ≡ before.files → FilesGo SameFiles contents before.files after.files → TouchesFilesNamed words contents before after
       → Whole words forms contents before after said
   whole-enrolled parts asked ran plain unused files goes touches =
-      let of : IsModeStatus said.status = subst IsModeStatus (sym ran.status_is) (enrol_status ran.outcome) in
+      let of : IsModeStatus said.status = subst IsModeStatus (sym ran.status_is) (enrol_status _ _ _ parts ran.outcome ran.cause) in
       let only = only_enrol words parts asked in
       record {
         causes = moded words said.status (inr (inr (inr (inr (inr (inr (inr (inr (parts, asked))))))))) (spoken enrol_command words parts asked) of;
@@ -388,12 +383,12 @@ module _ {F S K E : Type 0} {words : List (List ℕ)} {forms : List Key} {conten
               let same : parts ≡ other = (let e : Some parts ≡ Some other = sym asked ∙ is in cc) in
               inr (subst (λ p. EnrolRan p before.ends after.ends said.status) same ran);
         };
-        leaves = moded-leaves (only.serve refl) (λ _ _ _ _ _. files) (λ _ _ _ _ _ _ _ none. none-some (asks_enrol words) parts none asked) unused (λ _ _ _. files) silent (λ _ how. absurd (enrol_files ran.outcome said.status ran.status_is (inr how))) (λ _ _ _ _ _ _. plain);
+        leaves = moded-leaves (only.serve refl) (λ _ _ _ _ _. files) (λ _ _ _ _ _ _ _ none. none-some (asks_enrol words) parts none asked) unused (λ _ _ _. files) silent (λ _ how. absurd (enrol_files _ _ _ parts ran.outcome said.status ran.cause ran.status_is (inr how))) (λ _ _ _ _ _ _. plain);
         changes = changes-none goes;
         touches = touches;
       } where
         silent : (said.status ≡ 3) ⊎ (said.status ≡ 9) × (asks_renew words ≡ None) × (asks_enrol words ≡ None) → after.ends ≡ before.ends
-        silent (inl three) = absurd (enrol_files ran.outcome said.status ran.status_is (inl three))
+        silent (inl three) = absurd (enrol_files _ _ _ parts ran.outcome said.status ran.cause ran.status_is (inl three))
         silent (inr nine) = none-some (asks_enrol words) parts nine.2 asked
 
   -- a command that is done without threads
@@ -482,15 +477,15 @@ module _ {F S K E : Type 0} {words : List (List ℕ)} {forms : List Key} {conten
     unremembered_serve source is =
         let logs = subst (λ (a : Around F S K E). IsUnwritten before.log.held a.log.held) (sym same) (unwritten before.log.held) in
         let placed = subst (λ (a : Around F S K E). Gains before.site.listens [] a.site.listens) (sym same) (Gains-none before.site.listens) in
-        let run = unserved_ended source forms serve_errors.OutOfMemory (Err serve_errors.OutOfMemory) said.journal said.posts (run_around contents before) (run_around contents after)
+        let run = unserved_ended source forms troubles.OutOfMemory (Err troubles.OutOfMemory) said.journal said.posts (run_around contents before) (run_around contents after)
         refl (memory_why source forms (contents before.files.it) (contents after.files.it) (ReadRose before.files after.files) (Rose before.site.faults after.site.faults)) events workers (kept_files contents before.files after.files files) placed logs in
         record {
-          ran = record { end = Err serve_errors.OutOfMemory; status_is = is; detail_is = plain; ended = run.serve };
+          ran = record { end = Err troubles.OutOfMemory; status_is = is; detail_is = plain; ended = run.serve };
           kept = run.kept;
         }
 
     unremembered_drill : (number : ℕ) → said.status ≡ 9 → DrillRan number before.ends after.ends said
-    unremembered_drill number is = record { outcome = Err drill_errors.OutOfMemory; status_is = is; journal_is = events; cause = told }
+    unremembered_drill number is = record { outcome = Err troubles.OutOfMemory; status_is = is; journal_is = events; cause = told }
 
   -- words that were not read
   pub whole-unread : (why : Unread) → IsReading words (Err why) → said ≡ only_answer (unread_answer why) → after ≡ before

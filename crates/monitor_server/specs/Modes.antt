@@ -5,52 +5,34 @@ use Rattle.info_hooks.specs.declared.key.Key.{Key}
 use Rattle.outside.specs.Files.{Contents, SameFiles}
 use Rattle.outside.specs.Told.{Goes}
 use Rattle.policy_model.specs.declared.event.Event.{Event}
-use Rattle.service_reading.specs.declared.error.ServiceError.TheVariants as service_errors
-use Rattle.serve_mode.specs.declared.error.ServeError.{ServeError}
-use Rattle.serve_mode.specs.declared.error.ServeError.TheVariants as serve_errors
-use Rattle.serve_mode.specs.Errors as serves
 use Rattle.serve_mode.specs.Headline.{ServeEnded}
 use Rattle.serve_mode.specs.Keeping.{IsKept}
 use Rattle.serve_mode.specs.Words.{Plain, Source}
-use Rattle.otp_mode.specs.declared.fault.OtpFault.{OtpFault}
-use Rattle.otp_mode.specs.declared.fault.OtpFault.TheVariants as faults
+use Rattle.trouble.specs.declared.trouble.LogFault.TheVariants as log_faults
+use Rattle.trouble.specs.declared.trouble.Trouble.{Trouble}
+use Rattle.trouble.specs.declared.trouble.Trouble.TheVariants as troubles
+use Rattle.trouble.specs.Status.{status_of}
 use Rattle.otp_mode.specs.Asking.{AsksForLine}
 use Rattle.otp_mode.specs.Exact.{IsExact}
-use Rattle.otp_mode.specs.Faults.{status_of}
 use Rattle.otp_mode.specs.Outcome.{IsOutcome}
 use Rattle.otp_mode.specs.Words.{OtpParts}
-use Rattle.check_mode.specs.declared.fault.CheckFault.{CheckFault}
 use Rattle.check_mode.specs.declared.finding.Finding.{Finding}
-use Rattle.check_mode.specs.declared.finding.Finding.TheVariants as findings
 use Rattle.check_mode.specs.Outcome as checks
 use Rattle.child_mode.specs.declared.run.ChildRun.{ChildRun}
 use Rattle.child_mode.specs.Outcome as children
 use Rattle.child_mode.specs.Words.{ChildParts}
 use Rattle.audit_check.specs.declared.answer.Audit.{Audit}
 use Rattle.audit_check.specs.declared.answer.Audit.TheVariants as answers
-use Rattle.audit_mode.specs.declared.error.AuditError.{AuditError}
-use Rattle.audit_mode.specs.declared.error.AuditError.TheVariants as audit_errors
 use Rattle.audit_mode.specs.Outcome as audits
 use Rattle.audit_mode.specs.Words.{AuditParts}
-use Rattle.drill_mode.specs.declared.error.DrillError.{DrillError}
-use Rattle.drill_mode.specs.Errors as drill_errors
 use Rattle.drill_mode.specs.Outcome as drills
-use Rattle.enrol_mode.specs.declared.fault.EnrolFault.{EnrolFault}
 use Rattle.enrol_mode.specs.Exact as enrols_exact
-use Rattle.enrol_mode.specs.Faults as enrol_faults
 use Rattle.enrol_mode.specs.Outcome as enrols
 use Rattle.enrol_mode.specs.Words.{EnrolParts}
 use Rattle.otp_extended.specs.declared.renewal.Renewed.{Renewed}
-use Rattle.otp_extended.specs.declared.run.RenewalFault.TheVariants as renewal_faults
 use Rattle.otp_extended.specs.Commands.{RenewParts}
-use Rattle.renew_mode.specs.declared.error.RenewError.{RenewError}
-use Rattle.renew_mode.specs.declared.error.RenewError.TheVariants as renew_errors
-use Rattle.renew_mode.specs.Errors as error_statuses
 use Rattle.renew_mode.specs.Outcome as renews
 use Rattle.recover_mode.specs.declared.line.Recovery.{Recovery}
-use Rattle.recover_mode.specs.declared.error.RecoveryError.{RecoveryError}
-use Rattle.recover_mode.specs.declared.error.RecoveryError.TheVariants as recovery_errors
-use Rattle.recover_mode.specs.Errors as recovery_statuses
 use Rattle.recover_mode.specs.Outcome as recoveries
 use Rattle.recover_mode.specs.Returning.{BringsBack}
 use Rattle.recover_mode.specs.Words.{RecoverParts}
@@ -58,7 +40,6 @@ use Rattle.monitor_server.specs.declared.report.Answer.{Answer}
 use Rattle.monitor_server.specs.declared.report.Detail.{Detail}
 use Rattle.monitor_server.specs.declared.report.Detail.TheVariants.{AuditNo, FewRequests, LogBad, LogNotFresh, Missing}
 use Rattle.monitor_server.specs.declared.report.Detail.TheVariants.{Nothing, RenewBad, SetupBad, WordsBad}
-use Rattle.monitor_server.specs.declared.report.FileKind.TheVariants.{Log, Setup, Words}
 use Rattle.monitor_server.specs.declared.report.TheConstants.{FEW_REQUESTS}
 use Rattle.monitor_server.specs.Around.{Around, EndsNow, EndsRose, FilesGo, ReadRose, ReplaceRose}
 use Rattle.monitor_server.specs.Around.{Said, SidesNow, answer_in, run_around, sides_of}
@@ -66,21 +47,27 @@ use Rattle.monitor_server.specs.Commands.{asks_audit, asks_check, asks_child, as
 use Rattle.monitor_server.specs.Commands.{asks_recover, asks_renew, asks_serve}
 use Rattle.monitor_server.specs.Headline.{IsUnserved}
 
--- the detail of an end of `serve`: what is missing or refused, or that the log isn't fresh
-abbrev pub serve_detail : Result (Unit {0}) ServeError → Detail
-serve_detail (Err (serve_errors.Unread service_errors.SetupMissing)) = Missing Setup
-serve_detail (Err (serve_errors.Unread (service_errors.SetupRefused fault))) = SetupBad fault
-serve_detail (Err (serve_errors.Unread service_errors.WordsMissing)) = Missing Words
-serve_detail (Err (serve_errors.Unread (service_errors.WordsRefused fault))) = WordsBad fault
-serve_detail (Err serve_errors.LogNotFresh) = LogNotFresh
-serve_detail _ = Nothing
+-- the detail of a trouble: what is missing, refused or bad, or why a response renews nothing
+abbrev pub trouble_detail : Trouble → Detail
+trouble_detail (troubles.Missing file) = Missing file
+trouble_detail (troubles.SetupRefused fault) = SetupBad fault
+trouble_detail (troubles.WordsRefused fault) = WordsBad fault
+trouble_detail (troubles.LogRefused log_faults.NotFresh) = LogNotFresh
+trouble_detail (troubles.LogRefused (log_faults.Record number)) = LogBad number
+trouble_detail (troubles.NoRenewal fault) = RenewBad fault
+trouble_detail _ = Nothing
+
+-- the detail of an end of `serve`, `otp`, `renew` or `recover`: that of its trouble, if it had one
+abbrev pub detail_of : {A : Type 0} → Result A Trouble → Detail
+detail_of (Ok _) = Nothing
+detail_of (Err trouble) = trouble_detail trouble
 
 -- the mode `serve` ended as it promises (`ServeEnded`), and the status and the detail say how
 pub record ServeRan {F S K E : Type 0} (source : Source) (forms : List Key) (contents : F → Option Contents)
     (before after : Around F S K E) (said : Said) : Type 0 where
-  pub end : Result (Unit {0}) ServeError
-  pub status_is : said.status ≡ serves.status_of end
-  pub detail_is : said.detail ≡ serve_detail end
+  pub end : Result (Unit {0}) Trouble
+  pub status_is : said.status ≡ status_of end
+  pub detail_is : said.detail ≡ detail_of end
   pub ended : ServeEnded source forms end said.journal said.posts (run_around contents before)
       (run_around contents after)
 
@@ -96,21 +83,10 @@ pub record KeepsMode {F S K E : Type 0} (words : List (List ℕ)) (forms : List 
       → IsKept source forms said.status said.journal said.posts (run_around contents before)
       (run_around contents after)
 
--- the detail of a fault of `otp`: a word list that is missing or refused
-abbrev pub fault_detail : OtpFault → Detail
-fault_detail faults.ListMissing = Missing Words
-fault_detail (faults.ListRefused fault) = WordsBad fault
-fault_detail _ = Nothing
-
--- the detail of an end of `otp`: that of its fault, if it had one
-abbrev pub detail_of : Result (Unit {0}) OtpFault → Detail
-detail_of (Ok _) = Nothing
-detail_of (Err fault) = fault_detail fault
-
 -- the mode `otp` came to an outcome that fits what the files and the ends report, and status and detail say which
 pub record PasswordRan {F E : Type 0} (parts : OtpParts) (contents : F → Option Contents)
     (before after : SidesNow F E) (answer : Answer) : Type 0 where
-  pub outcome : Result (Unit {0}) OtpFault
+  pub outcome : Result (Unit {0}) Trouble
   pub status_is : answer.status ≡ status_of outcome
   pub detail_is : answer.detail ≡ detail_of outcome
   pub cause : IsOutcome parts (contents after.files.it) before.ends.link after.ends.link
@@ -125,25 +101,16 @@ pub record PasswordMode {F S K E : Type 0} (words : List (List ℕ)) (contents :
   pub ran : (parts : OtpParts) → asks_otp words ≡ Some parts
       → (said.status ≡ 9) ⊎ PasswordRan parts contents (sides_of before) (sides_of after) (answer_in said)
 
--- the detail of what `check` found: what is missing or refused, or that a right setup allows few requests
-abbrev pub finding_detail : Finding → Detail
-finding_detail (findings.Right accounts workers requests) =
-    cond (nat_lt requests FEW_REQUESTS) (FewRequests requests) Nothing
-finding_detail findings.SetupMissing = Missing Setup
-finding_detail (findings.SetupRefused fault) = SetupBad fault
-finding_detail findings.WordsMissing = Missing Words
-finding_detail (findings.WordsRefused fault) = WordsBad fault
-
--- the detail of an end of `check`: that of what it found; none if it failed
-abbrev pub checked_detail : Result Finding CheckFault → Detail
-checked_detail (Ok finding) = finding_detail finding
-checked_detail (Err _) = Nothing
+-- the detail of an end of `check`: what is missing or refused, or that a right setup allows few requests
+abbrev pub checked_detail : Result Finding Trouble → Detail
+checked_detail (Ok finding) = cond (nat_lt finding.requests FEW_REQUESTS) (FewRequests finding.requests) Nothing
+checked_detail (Err trouble) = trouble_detail trouble
 
 -- the mode `check` came to an outcome that fits what the files and the ends report, and status and detail say which
 pub record CheckRan {F E : Type 0} (forms : List Key) (setup : List ℕ) (contents : F → Option Contents)
     (before after : SidesNow F E) (answer : Answer) : Type 0 where
-  pub outcome : Result Finding CheckFault
-  pub status_is : answer.status ≡ checks.status_of outcome
+  pub outcome : Result Finding Trouble
+  pub status_is : answer.status ≡ status_of outcome
   pub detail_is : answer.detail ≡ checked_detail outcome
   pub cause : checks.IsOutcome forms setup (contents after.files.it) before.ends.link after.ends.link
       (ReadRose before.files after.files) (EndsRose before.ends after.ends) outcome
@@ -167,18 +134,16 @@ pub record ChildMode {F S K E : Type 0} (words : List (List ℕ)) (before after 
       → (said.status ≡ 9) ⊎ ChildRan parts before.ends after.ends said.status
 
 -- the detail of an end of `audit`: the first fault of the log, or what is missing or refused
-abbrev pub audit_detail : Result Audit AuditError → Detail
+abbrev pub audit_detail : Result Audit Trouble → Detail
 audit_detail (Ok (answers.No place why)) = AuditNo place why
-audit_detail (Err audit_errors.SetupMissing) = Missing Setup
-audit_detail (Err (audit_errors.SetupRefused fault)) = SetupBad fault
-audit_detail (Err audit_errors.LogMissing) = Missing Log
-audit_detail _ = Nothing
+audit_detail (Ok (answers.Yes events)) = Nothing
+audit_detail (Err trouble) = trouble_detail trouble
 
 -- the mode `audit` came to an outcome that fits what the files and the ends report, and status and detail say which
 pub record AuditRan {F E : Type 0} (parts : AuditParts) (contents : F → Option Contents)
     (before after : SidesNow F E) (answer : Answer) : Type 0 where
-  pub outcome : Result Audit AuditError
-  pub status_is : answer.status ≡ audits.status_of outcome
+  pub outcome : Result Audit Trouble
+  pub status_is : answer.status ≡ audits.audit_status outcome
   pub detail_is : answer.detail ≡ audit_detail outcome
   pub cause : audits.IsOutcome parts (contents after.files.it) before.ends.link after.ends.link
       (ReadRose before.files after.files) (EndsRose before.ends after.ends) outcome
@@ -189,22 +154,12 @@ pub record AuditMode {F S K E : Type 0} (words : List (List ℕ)) (contents : F 
   pub ran : (parts : AuditParts) → asks_audit words ≡ Some parts
       → (said.status ≡ 9) ⊎ AuditRan parts contents (sides_of before) (sides_of after) (answer_in said)
 
--- the detail of an end of `renew`: what is missing or refused, a log that isn't fresh, or why the response was refused
-abbrev pub renew_detail : Result Renewed RenewError → Detail
-renew_detail (Err renew_errors.SetupMissing) = Missing Setup
-renew_detail (Err (renew_errors.SetupRefused fault)) = SetupBad fault
-renew_detail (Err renew_errors.WordsMissing) = Missing Words
-renew_detail (Err (renew_errors.WordsRefused fault)) = WordsBad fault
-renew_detail (Err renew_errors.LogNotFresh) = LogNotFresh
-renew_detail (Err (renew_errors.NoRenewal (renewal_faults.Refused fault))) = RenewBad fault
-renew_detail _ = Nothing
-
 -- the mode `renew` came to an outcome that fits what the files and the ends report, and status and detail say which
 pub record RenewRan {F E : Type 0} (parts : RenewParts) (contents : F → Option Contents)
     (before after : SidesNow F E) (answer : Answer) : Type 0 where
-  pub outcome : Result Renewed RenewError
-  pub status_is : answer.status ≡ error_statuses.status_of outcome
-  pub detail_is : answer.detail ≡ renew_detail outcome
+  pub outcome : Result Renewed Trouble
+  pub status_is : answer.status ≡ status_of outcome
+  pub detail_is : answer.detail ≡ detail_of outcome
   pub cause : renews.IsOutcome parts (contents before.files.it) (contents after.files.it)
       before.ends.link after.ends.link
       (ReadRose before.files after.files) (ReplaceRose before.files after.files) (EndsRose before.ends after.ends)
@@ -221,19 +176,12 @@ pub record RenewMode {F S K E : Type 0} (words : List (List ℕ)) (contents : F 
       → (said.status ≡ 9) × (after.ends.link ≡ before.ends.link)
       ⊎ RenewRan parts contents (sides_of before) (sides_of after) (answer_in said)
 
--- the detail of an end of `recover`: what is missing or refused, or which record of the log is bad
-abbrev pub recover_detail : Result Recovery RecoveryError → Detail
-recover_detail (Err recovery_errors.SetupMissing) = Missing Setup
-recover_detail (Err (recovery_errors.SetupRefused fault)) = SetupBad fault
-recover_detail (Err (recovery_errors.LogRefused number)) = LogBad number
-recover_detail _ = Nothing
-
 -- the mode `recover` came to an outcome that fits what the files and the ends report, and status and detail say which
 pub record RecoverRan {F E : Type 0} (parts : RecoverParts) (contents : F → Option Contents)
     (before after : SidesNow F E) (answer : Answer) : Type 0 where
-  pub outcome : Result Recovery RecoveryError
-  pub status_is : answer.status ≡ recovery_statuses.status_of outcome
-  pub detail_is : answer.detail ≡ recover_detail outcome
+  pub outcome : Result Recovery Trouble
+  pub status_is : answer.status ≡ status_of outcome
+  pub detail_is : answer.detail ≡ detail_of outcome
   pub cause : recoveries.IsOutcome parts (contents before.files.it) (contents after.files.it)
       before.ends.link after.ends.link
       (ReadRose before.files after.files) (ReplaceRose before.files after.files) (EndsRose before.ends after.ends)
@@ -251,8 +199,8 @@ pub record RecoverMode {F S K E : Type 0} (words : List (List ℕ)) (contents : 
 
 -- the mode `enrol` came to an outcome that fits what the ends report, and the status says which
 pub record EnrolRan {E : Type 0} (parts : EnrolParts) (before after : EndsNow E) (status : ℕ) : Type 0 where
-  pub outcome : Result (Unit {0}) EnrolFault
-  pub status_is : status ≡ enrol_faults.status_of outcome
+  pub outcome : Result (Unit {0}) Trouble
+  pub status_is : status ≡ status_of outcome
   pub cause : enrols.IsOutcome parts before.link after.link (EndsRose before after) outcome
   pub exact : enrols_exact.IsExact before.link after.link (EndsRose before after) outcome
   pub asked : Goes AsksForLine before.link after.link
@@ -264,14 +212,14 @@ pub record EnrolMode {F S K E : Type 0} (words : List (List ℕ)) (before after 
       → (said.status ≡ 9) × (after.ends.link ≡ before.ends.link) ⊎ EnrolRan parts before.ends after.ends said.status
 
 -- the journal that a drill gives; empty if it failed
-abbrev pub drilled_journal : Result (Vec Event Global) DrillError → List Event
+abbrev pub drilled_journal : Result (Vec Event Global) Trouble → List Event
 drilled_journal (Ok journal) = journal.items
 drilled_journal (Err _) = []
 
 -- the mode `drill` came to an outcome that fits what the ends report; the status says which, and its journal is given
 pub record DrillRan {E : Type 0} (number : ℕ) (before after : EndsNow E) (said : Said) : Type 0 where
-  pub outcome : Result (Vec Event Global) DrillError
-  pub status_is : said.status ≡ drill_errors.status_of outcome
+  pub outcome : Result (Vec Event Global) Trouble
+  pub status_is : said.status ≡ status_of outcome
   pub journal_is : said.journal ≡ drilled_journal outcome
   pub cause : drills.IsOutcome number before.link after.link (EndsRose before after) outcome
 

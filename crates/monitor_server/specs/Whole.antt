@@ -2,7 +2,7 @@
 use Rattle.std.specs.Prelude.{ℕ, List, Option}
 use Rattle.info_hooks.specs.declared.key.Key.{Key}
 use Rattle.outside.specs.Files.{Contents}
-use Rattle.serve_mode.specs.Errors as serves
+use Rattle.trouble.specs.Status.{status_of}
 use Rattle.serve_mode.specs.Keeping.{IsKept}
 use Rattle.serve_mode.specs.Words.{Source}
 use Rattle.monitor_server.specs.Around.{Around, Said, run_around}
@@ -15,7 +15,7 @@ use Rattle.monitor_server.specs.Touching.{TouchesFilesNamed}
 pub record HasServed {F S K E : Type 0} (source : Source) (forms : List Key) (contents : F → Option Contents)
     (before after : Around F S K E) (said : Said) : Type 0 where
   pub ran : ServeRan source forms contents before after said
-  pub kept : IsKept source forms (serves.status_of ran.end) said.journal said.posts (run_around contents before)
+  pub kept : IsKept source forms (status_of ran.end) said.journal said.posts (run_around contents before)
       (run_around contents after)
 
 -- all that the top call promises of a command line, a part a mode

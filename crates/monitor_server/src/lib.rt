@@ -11,6 +11,6 @@ mod world;
 
 pub use alone::run_alone;
 pub use command::{AloneCommand, Command, Unread, read_command};
-pub use report::{Answer, Detail, Ended, FEW_REQUESTS, FileKind, Report};
+pub use report::{Answer, Detail, Ended, FEW_REQUESTS, Report};
 pub use top::otplogd;
 pub use world::{Sides, World};

@@ -3,7 +3,7 @@
 ghost use Rattle.std.specs.Prelude.{◌≡◌, ◌⊎◌, ◌≤◌, false};
 ghost use Rattle.policy_model.specs.Journal.{has_lost};
 ghost use Rattle.otp_mode.specs.Command.{command_parts};
-ghost use Rattle.otp_mode.specs.Faults.{status_of};
+ghost use Rattle.trouble.specs.Status.{status_of};
 ghost use Rattle.child_mode.specs.Commands.{parts_of};
 ghost use Rattle.enrol_mode.specs.Command as enrolments;
 ghost use Rattle.audit_mode.specs.Commands as audits;
@@ -20,27 +20,28 @@ ghost use Rattle.monitor_server.specs.Headline.{UsesEndsAlone};
 ghost use Rattle.monitor_server.specs.Modes.{AuditRan, CheckRan, ChildRan, DrillRan, EnrolRan, PasswordRan, RecoverRan};
 ghost use Rattle.monitor_server.specs.Touching.{TouchesGiven};
 ghost use Rattle.monitor_server.specs.Whole.{HasServed};
-ghost use Rattle.monitor_server.specs.Modes.{RenewRan, audit_detail, detail_of, finding_detail};
-ghost use Rattle.monitor_server.specs.Modes.{recover_detail, renew_detail, serve_detail};
+ghost use Rattle.monitor_server.specs.Modes.{RenewRan, audit_detail, checked_detail, detail_of};
+ghost use Rattle.monitor_server.specs.Modes.{trouble_detail};
 
-use crate::report::{Answer, Detail, Ended, FEW_REQUESTS, FileKind, Report};
+use crate::report::{Answer, Detail, Ended, FEW_REQUESTS, Report};
 use crate::world::{Sides, World};
 use audit_check::Audit;
-use audit_mode::{AuditCommand, AuditError, run_audit};
+use audit_mode::{AuditCommand, run_audit};
 use check_mode::{Finding, run_check};
 use child_mode::{ChildCommand, run_child_mode};
 use drill_mode::run_drill;
 use enrol_mode::{EnrolCommand, run_enrol};
-use otp_extended::{RenewCommand, RenewalFault, Renewed};
-use otp_mode::{OtpCommand, OtpFault, run_otp};
+use otp_extended::RenewCommand;
+use otp_mode::{OtpCommand, run_otp};
 use outside::{Files, Sink, Site, Stream};
-use recover_mode::{RecoverCommand, Recovery, RecoveryError, run_recover};
-use renew_mode::{RenewError, run_renew};
-use serve_mode::{ServeCommand, ServeError, Served, run_serve};
-use service_reading::{Information, ServiceError};
+use recover_mode::{RecoverCommand, run_recover};
+use renew_mode::run_renew;
+use serve_mode::{ServeCommand, Served, run_serve};
+use service_reading::Information;
 use std::alloc::Global;
 use std::sync::Wait;
 use std::thread::Threads;
+use trouble::{LogFault, Trouble, status_of};
 
 /// Serves the connections of a setup.
 pub(crate) fn serve_setup<
@@ -79,8 +80,8 @@ pub(crate) fn serve_setup<
         posts,
     } = run_serve(rt, alloc, command, &mut files, &mut site, log, information);
     let said = Report {
-        status: serve_mode::status(end),
-        detail: serve_detail(end),
+        status: status_of(&end),
+        detail: detail_of(&end),
         journal,
         posts,
     };
@@ -91,24 +92,6 @@ pub(crate) fn serve_setup<
         ends,
     };
     Ended { said, world }
-}
-
-/// What is missing or refused of what a run serves by and logs to.
-fn serve_detail(end: Result<(), ServeError>) -> Detail
-    ensures { result ≡ serve_detail end }
-{
-    match end {
-        Err(ServeError::Unread(ServiceError::SetupMissing)) => Detail::Missing {
-            file: FileKind::Setup,
-        },
-        Err(ServeError::Unread(ServiceError::SetupRefused(fault))) => Detail::SetupBad(fault),
-        Err(ServeError::Unread(ServiceError::WordsMissing)) => Detail::Missing {
-            file: FileKind::Words,
-        },
-        Err(ServeError::Unread(ServiceError::WordsRefused(fault))) => Detail::WordsBad(fault),
-        Err(ServeError::LogNotFresh) => Detail::LogNotFresh,
-        _ => Detail::Nothing,
-    }
 }
 
 /// Prints a one-time password: the pass phrase is read from the ends, and a word list from its file.
@@ -123,30 +106,32 @@ pub(crate) fn print_password<F: Files, E: Stream>(
 {
     let outcome = run_otp(alloc, command, &mut sides.files, &mut sides.ends);
     Answer {
-        status: otp_status(outcome),
-        detail: otp_detail(outcome),
+        status: status_of(&outcome),
+        detail: detail_of(&outcome),
     }
 }
 
-/// The exit status of what the mode `otp` came to.
-fn otp_status(outcome: Result<(), OtpFault>) -> u8
-    ensures { result ≡ status_of outcome }
+/// Where the trouble of a mode lies, if it ended by one.
+fn detail_of<T>(outcome: &Result<T, Trouble>) -> Detail
+    ensures { result ≡ detail_of outcome.now }
 {
     match outcome {
-        Ok(()) => 0,
-        Err(fault) => fault.status(),
+        Ok(_) => Detail::Nothing,
+        Err(trouble) => trouble_detail(*trouble),
     }
 }
 
-/// Where a fault of the mode `otp` lies.
-fn otp_detail(outcome: Result<(), OtpFault>) -> Detail
-    ensures { result ≡ detail_of outcome }
+/// Where a trouble lies: what is missing, refused or bad, or why a response renews nothing.
+fn trouble_detail(trouble: Trouble) -> Detail
+    ensures { result ≡ trouble_detail trouble }
 {
-    match outcome {
-        Err(OtpFault::ListMissing) => Detail::Missing {
-            file: FileKind::Words,
-        },
-        Err(OtpFault::ListRefused(fault)) => Detail::WordsBad(fault),
+    match trouble {
+        Trouble::Missing(file) => Detail::Missing { file },
+        Trouble::SetupRefused(fault) => Detail::SetupBad(fault),
+        Trouble::WordsRefused(fault) => Detail::WordsBad(fault),
+        Trouble::LogRefused(LogFault::NotFresh) => Detail::LogNotFresh,
+        Trouble::LogRefused(LogFault::Record { number }) => Detail::LogBad { number },
+        Trouble::NoRenewal(fault) => Detail::RenewBad(fault),
         _ => Detail::Nothing,
     }
 }
@@ -162,32 +147,21 @@ pub(crate) fn check_setup<F: Files, I: Information, E: Stream>(
     ensures spares { SparesRest (alone.Check setup.entry) F.contents sides.old sides.new result.status }
     ensures touches { TouchesGiven (alone.Check setup.entry) F.contents sides.old sides.new }
 {
-    match run_check(alloc, setup, information, &mut sides.files, &mut sides.ends) {
-        Ok(finding) => Answer {
-            status: finding.status(),
-            detail: detail_of_finding(finding),
-        },
-        Err(fault) => Answer::plain(fault.status()),
+    let outcome = run_check(alloc, setup, information, &mut sides.files, &mut sides.ends);
+    Answer {
+        status: status_of(&outcome),
+        detail: checked_detail(outcome),
     }
 }
 
-/// What is missing, refused or to be thought of of a setup.
-fn detail_of_finding(finding: Finding) -> Detail
-    ensures { result ≡ finding_detail finding }
+/// What is missing or refused of a setup that was checked, or that a right one allows few requests.
+fn checked_detail(outcome: Result<Finding, Trouble>) -> Detail
+    ensures { result ≡ checked_detail outcome }
 {
-    match finding {
-        Finding::Right { requests, .. } if requests < FEW_REQUESTS => {
-            Detail::FewRequests { requests }
-        }
-        Finding::Right { .. } => Detail::Nothing,
-        Finding::SetupMissing => Detail::Missing {
-            file: FileKind::Setup,
-        },
-        Finding::SetupRefused(fault) => Detail::SetupBad(fault),
-        Finding::WordsMissing => Detail::Missing {
-            file: FileKind::Words,
-        },
-        Finding::WordsRefused(fault) => Detail::WordsBad(fault),
+    match outcome {
+        Ok(Finding { requests, .. }) if requests < FEW_REQUESTS => Detail::FewRequests { requests },
+        Ok(_) => Detail::Nothing,
+        Err(trouble) => trouble_detail(trouble),
     }
 }
 
@@ -223,23 +197,14 @@ pub(crate) fn audit_log<F: Files, E: Stream>(
     }
 }
 
-/// What is missing or refused of a setup and a log.
-fn audit_detail(outcome: Result<Audit, AuditError>) -> Detail
+/// What is missing or refused of a setup and a log, or where the log stops being legal.
+fn audit_detail(outcome: Result<Audit, Trouble>) -> Detail
     ensures { result ≡ audit_detail outcome }
 {
     match outcome {
         Ok(Audit::No { line, why }) => Detail::AuditNo { line, why },
-        Err(AuditError::SetupMissing) => Detail::Missing {
-            file: FileKind::Setup,
-        },
-        Err(AuditError::SetupRefused(fault)) => Detail::SetupBad(fault),
-        Err(AuditError::LogMissing) => Detail::Missing {
-            file: FileKind::Log,
-        },
-        Ok(Audit::Yes { .. })
-        | Err(AuditError::ReadFailed | AuditError::OutOfMemory | AuditError::EndsFailed) => {
-            Detail::Nothing
-        }
+        Ok(Audit::Yes { .. }) => Detail::Nothing,
+        Err(trouble) => trouble_detail(trouble),
     }
 }
 
@@ -255,27 +220,8 @@ pub(crate) fn renew_account<F: Files, E: Stream>(
 {
     let outcome = run_renew(alloc, command, &mut sides.files, &mut sides.ends);
     Answer {
-        status: renew_mode::status(outcome),
-        detail: renew_detail(outcome),
-    }
-}
-
-/// What is missing or refused of a setup, a word list, a log and a response.
-fn renew_detail(outcome: Result<Renewed, RenewError>) -> Detail
-    ensures { result ≡ renew_detail outcome }
-{
-    match outcome {
-        Err(RenewError::SetupMissing) => Detail::Missing {
-            file: FileKind::Setup,
-        },
-        Err(RenewError::SetupRefused(fault)) => Detail::SetupBad(fault),
-        Err(RenewError::WordsMissing) => Detail::Missing {
-            file: FileKind::Words,
-        },
-        Err(RenewError::WordsRefused(fault)) => Detail::WordsBad(fault),
-        Err(RenewError::LogNotFresh) => Detail::LogNotFresh,
-        Err(RenewError::NoRenewal(RenewalFault::Refused(fault))) => Detail::RenewBad(fault),
-        _ => Detail::Nothing,
+        status: status_of(&outcome),
+        detail: detail_of(&outcome),
     }
 }
 
@@ -291,22 +237,8 @@ pub(crate) fn recover_accounts<F: Files, E: Stream>(
 {
     let outcome = run_recover(alloc, command, &mut sides.files, &mut sides.ends);
     Answer {
-        status: recover_mode::status(outcome),
-        detail: recover_detail(outcome),
-    }
-}
-
-/// What is missing, refused or bad of a setup and a durable log.
-fn recover_detail(outcome: Result<Recovery, RecoveryError>) -> Detail
-    ensures { result ≡ recover_detail outcome }
-{
-    match outcome {
-        Err(RecoveryError::SetupMissing) => Detail::Missing {
-            file: FileKind::Setup,
-        },
-        Err(RecoveryError::SetupRefused(fault)) => Detail::SetupBad(fault),
-        Err(RecoveryError::LogRefused { number }) => Detail::LogBad { number },
-        _ => Detail::Nothing,
+        status: status_of(&outcome),
+        detail: detail_of(&outcome),
     }
 }
 
@@ -321,10 +253,8 @@ pub(crate) fn print_account<F: Files, E: Stream>(
     ensures spares { SparesRest (alone.Enrol command.now) F.contents sides.old sides.new result.status }
     ensures touches { TouchesGiven (alone.Enrol command.now) F.contents sides.old sides.new }
 {
-    match run_enrol(alloc, command, &mut sides.ends) {
-        Ok(()) => Answer::plain(0),
-        Err(refused) => Answer::plain(refused.status()),
-    }
+    let outcome = run_enrol(alloc, command, &mut sides.ends);
+    Answer::plain(status_of(&outcome))
 }
 
 /// Runs the drill of a number, from 1 to 64, and tells the counts of its journal.
@@ -343,7 +273,7 @@ pub(crate) fn play_drill<F: Files, S: Site, K: Sink, E: Stream, R: Threads + Wai
         → result.world.ends ≡ world.ends }
 {
     let outcome = run_drill(rt, alloc, number, &mut world.ends);
-    let status = drill_mode::status(&outcome);
+    let status = status_of(&outcome);
     let journal = match outcome {
         Ok(journal) => journal,
         Err(_) => Vec::new(alloc),

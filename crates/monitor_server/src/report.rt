@@ -7,23 +7,12 @@ ghost use Rattle.monitor_server.specs.Around.{only_answer};
 use crate::world::World;
 use account_file::SetupFault;
 use audit_check::AuditWhy;
-use otp_extended::RenewFault;
 use otp_words::DictFault;
 use outside::{Files, Post, Sink, Site, Stream};
 use policy_model::Event;
 use std::alloc::Global;
 use std::marker::Model;
-
-/// A file that the words of the command line, or the setup, name.
-#[derive(Clone, Copy, PartialEq, Eq)]
-pub enum FileKind {
-    /// The setup.
-    Setup,
-    /// The word list.
-    Words,
-    /// The log.
-    Log,
-}
+use trouble::{FileKind, RenewFault};
 
 /// The least number of requests of which `check` doesn't say that they are few: a login by the shipped
 /// children takes nine, and one more for each further piece in which the client's bytes come.

@@ -10,8 +10,8 @@ use Rattle.otp_extended.specs.declared.response.Form.{Form}
 use Rattle.otp_extended.specs.declared.response.Kind.{Kind}
 use Rattle.otp_extended.specs.declared.response.Response.{Response}
 use Rattle.otp_extended.specs.declared.response.Response.TheVariants.{Plain, Init}
-use Rattle.otp_extended.specs.declared.response.ResponseFault.{ResponseFault}
-use Rattle.otp_extended.specs.declared.response.ResponseFault.TheVariants as faults
+use Rattle.trouble.specs.declared.response.ResponseFault.{ResponseFault}
+use Rattle.trouble.specs.declared.response.ResponseFault.TheVariants as faults
 use Rattle.otp_extended.specs.Inner.{HasParams}
 use Rattle.otp_extended.specs.Parts.{parts_of}
 use Rattle.otp_extended.specs.Responses.{AreParams, IsInitOf, IsNoParams, IsPlain, IsReading, IsReadingBy, Spells, kind_of}

@@ -6,8 +6,8 @@ use Rattle.std.proofs.lemmas.List.{take-append-drop, take_rest}
 use Rattle.otp_extended.specs.declared.response.Form.{Form}
 use Rattle.otp_extended.specs.declared.response.Kind.{Kind}
 use Rattle.otp_extended.specs.declared.response.Response.{Response}
-use Rattle.otp_extended.specs.declared.response.ResponseFault.{ResponseFault}
-use Rattle.otp_extended.specs.declared.response.ResponseFault.TheVariants as faults
+use Rattle.trouble.specs.declared.response.ResponseFault.{ResponseFault}
+use Rattle.trouble.specs.declared.response.ResponseFault.TheVariants as faults
 use Rattle.otp_extended.specs.Inner.{is_no_colon}
 use Rattle.otp_extended.specs.Parts.{parts_of, put_before}
 use Rattle.otp_extended.specs.Responses.{IsPlain, IsReading, IsReadingBy, kind_of}

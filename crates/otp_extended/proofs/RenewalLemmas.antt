@@ -9,8 +9,8 @@ use Rattle.policy_model.specs.Settings.{Settings, account_number}
 use Rattle.session_laws.proofs.Numbers.{numbered_by_number}
 use Rattle.otp_extended.specs.declared.response.Response.{Response}
 use Rattle.otp_extended.specs.declared.renewal.Renewed.{Renewed}
-use Rattle.otp_extended.specs.declared.renewal.RenewFault.{RenewFault}
-use Rattle.otp_extended.specs.declared.renewal.RenewFault.TheVariants.{Unknown}
+use Rattle.trouble.specs.declared.response.RenewFault.{RenewFault}
+use Rattle.trouble.specs.declared.response.RenewFault.TheVariants.{Unknown}
 use Rattle.otp_extended.specs.Renewals.{faults_of, first_of, judged, new_chain_of, renewal_by, renewal_of}
 
 pub unknown_user : (setup : Settings) (user : Name) (response : Response) → account_number setup user ≡ None → Err Unknown ≡ renewal_of setup user response

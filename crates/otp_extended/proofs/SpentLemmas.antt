@@ -20,8 +20,8 @@ use Rattle.session_laws.proofs.Permits.{found_name, new_reply, same_some}
 use Rattle.otp_extended.specs.declared.response.Response.{Response}
 use Rattle.otp_extended.specs.declared.response.Response.TheVariants.{Plain, Init}
 use Rattle.otp_extended.specs.declared.renewal.Renewed.{Renewed}
-use Rattle.otp_extended.specs.declared.renewal.RenewFault.{RenewFault}
-use Rattle.otp_extended.specs.declared.renewal.RenewFault.TheVariants.{Disabled, Exhausted, SameSeed, Replayed, NoMatch, Loop}
+use Rattle.trouble.specs.declared.response.RenewFault.{RenewFault}
+use Rattle.trouble.specs.declared.response.RenewFault.TheVariants.{Disabled, Exhausted, SameSeed, Replayed, NoMatch, Loop}
 use Rattle.otp_extended.specs.Renewals.{IsNotNext, IsRenewed, account_with, fault_if, faults_of, first_of, is_loop, judged, new_chain_of, renewal_by, renewal_of, renewed_setup, spent_of}
 use Rattle.otp_extended.proofs.SetupLemmas.{others_with, range_with, stands_with}
 

@@ -13,9 +13,9 @@ use Rattle.policy_model.specs.Settings.{Settings, account_number}
 use Rattle.otp_extended.specs.declared.response.Response.{Response}
 use Rattle.otp_extended.specs.declared.response.Response.TheVariants.{Plain, Init}
 use Rattle.otp_extended.specs.declared.renewal.Renewed.{Renewed}
-use Rattle.otp_extended.specs.declared.renewal.RenewFault.{RenewFault}
-use Rattle.otp_extended.specs.declared.renewal.RenewFault.TheVariants.{Unknown, Disabled, Exhausted, NotInit, SameSeed}
-use Rattle.otp_extended.specs.declared.renewal.RenewFault.TheVariants.{Replayed, NoMatch, Loop}
+use Rattle.trouble.specs.declared.response.RenewFault.{RenewFault}
+use Rattle.trouble.specs.declared.response.RenewFault.TheVariants.{Unknown, Disabled, Exhausted, NotInit, SameSeed}
+use Rattle.trouble.specs.declared.response.RenewFault.TheVariants.{Replayed, NoMatch, Loop}
 
 -- the sequence of a response that begins a new chain is 1 to 9,999
 abbrev pub IsSequenced : Response → Type 0

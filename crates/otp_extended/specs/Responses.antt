@@ -17,8 +17,8 @@ use Rattle.otp_extended.specs.declared.response.Kind.{Kind}
 use Rattle.otp_extended.specs.declared.response.Kind.TheVariants as kinds
 use Rattle.otp_extended.specs.declared.response.Response.{Response}
 use Rattle.otp_extended.specs.declared.response.Response.TheVariants.{Plain, Init}
-use Rattle.otp_extended.specs.declared.response.ResponseFault.{ResponseFault}
-use Rattle.otp_extended.specs.declared.response.ResponseFault.TheVariants as faults
+use Rattle.trouble.specs.declared.response.ResponseFault.{ResponseFault}
+use Rattle.trouble.specs.declared.response.ResponseFault.TheVariants as faults
 
 -- the kind of response that a word names, in any letter case
 unfoldable pub kind_of : List ℕ → Option Kind

@@ -12,7 +12,7 @@ mod run;
 mod setup;
 
 pub use command::{RenewCommand, read_renew_command, renewed_line};
-pub use renewal::{RenewFault, Renewed, renew};
-pub use response::{Response, ResponseFault, read_response};
-pub use run::{Renewal, RenewalFault, receive_renewal};
+pub use renewal::{Renewed, renew};
+pub use response::{Response, read_response};
+pub use run::{Renewal, receive_renewal};
 pub use setup::{parts_with, renewed};

@@ -7,6 +7,7 @@ use crate::response::Response;
 use otp_hash::{Algo, Seed, step};
 use policy_model::{Account, Setup};
 use request_catalogue::Name;
+use trouble::RenewFault;
 
 /// An account's new chain.
 #[derive(Clone, Copy, PartialEq, Eq)]
@@ -19,28 +20,6 @@ pub struct Renewed {
     pub sequence: u16,
     /// The password that the next one hashes to; its first byte is the most significant.
     pub password: u64,
-}
-
-/// Why a response renews nothing.
-#[derive(Clone, Copy, PartialEq, Eq, Debug)]
-pub enum RenewFault {
-    /// No account has that name.
-    Unknown,
-    /// The account isn't enabled.
-    Disabled,
-    /// The account's chain has no password left.
-    Exhausted,
-    /// The response begins no new chain.
-    NotInit,
-    /// The new seed is the account's.
-    SameSeed,
-    /// The current password is the one that was accepted last.
-    Replayed,
-    /// The current password doesn't hash to the one that was accepted last.
-    NoMatch,
-    /// The new password is the current one, the one that was accepted last, or what the current one
-    /// hashes to by the new algorithm: a spent password would be the next one again.
-    Loop,
 }
 
 /// What a response makes of a user's account.

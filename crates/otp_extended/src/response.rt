@@ -2,7 +2,7 @@
 
 ghost use Rattle.std.specs.Prelude.{◌≡◌, ◌∷◌, [], IfOk, IfSome, List, Result, Some, None, ℕ};
 ghost use Rattle.otp_extended.specs.declared.response.Response.{Response};
-ghost use Rattle.otp_extended.specs.declared.response.ResponseFault.{ResponseFault};
+ghost use Rattle.trouble.specs.declared.response.ResponseFault.{ResponseFault};
 ghost use Rattle.otp_extended.specs.Parts.{parts_of};
 ghost use Rattle.otp_extended.specs.Renewals.{IsSequenced};
 ghost use Rattle.otp_extended.specs.Responses.{IsInit, IsInitOf, IsPlain, IsPlainOf, IsReading, Spells, kind_of};
@@ -11,6 +11,7 @@ use crate::cutting::cut_at_colon;
 use crate::params::read_params;
 use otp_hash::{Algo, Seed};
 use otp_words::{Dictionary, candidates};
+use trouble::ResponseFault;
 
 /// A response of RFC 2243.
 #[derive(Clone, Copy, PartialEq, Eq)]
@@ -33,21 +34,6 @@ pub enum Response {
         /// The new password; its first byte is the most significant.
         password: u64,
     },
-}
-
-/// Why a text is no response: the first part of it that doesn't read.
-#[derive(Clone, Copy, PartialEq, Eq, Debug)]
-pub enum ResponseFault {
-    /// It doesn't begin with a kind's word and a colon.
-    Kind,
-    /// Not as many parts follow as the kind has, one or three.
-    Parts,
-    /// The current password doesn't read.
-    Current,
-    /// The parameters of the new chain don't read.
-    Params,
-    /// The new password doesn't read.
-    New,
 }
 
 /// How the passwords of a response are spelled.

@@ -8,9 +8,9 @@ use Rattle.std.specs.Bool.{then_some}
 use Rattle.std.specs.Str.Lines.{strip_carriage_return}
 use Rattle.outside.specs.Link.{Link}
 use Rattle.outside.specs.Told.{Goes}
-use Rattle.otp_mode.specs.declared.fault.PhraseFault.{PhraseFault}
-use Rattle.otp_mode.specs.declared.fault.PhraseFault.TheVariants as faults
-use Rattle.otp_mode.specs.Inner.{Accepted, IsPhraseFault, ReceivedLine}
+use Rattle.trouble.specs.declared.trouble.Trouble.{Trouble}
+use Rattle.trouble.specs.declared.trouble.Trouble.TheVariants as troubles
+use Rattle.otp_mode.specs.Inner.{Accepted, IsPhraseTrouble, ReceivedLine}
 use Rattle.otp_mode.specs.Lines.{first_line, line_of, line_to}
 use Rattle.otp_mode.specs.Outcome.{RefusedPhrase}
 use Rattle.otp_mode.specs.Phrase.{is_phrase, phrase_of}
@@ -53,7 +53,7 @@ phrase_by_line xs ys same = go (nat_lt (newline_or_len xs) 4096) (nat_lt (newlin
   go false false p q e = phrase_of-long xs p ∙ sym (phrase_of-long ys q)
 
 -- where that is a phrase it is accepted
-pub phrase_accepted : {A : Type 0} (view : A → List ℕ) (got : List ℕ) (before after : Option Link) (o : Option A) → Goes (ReceivedLine got) before after → option_map view o ≡ phrase_of got → IfOk (ok_or o faults.Refused) (λ phrase. Goes (Accepted (view phrase)) before after)
+pub phrase_accepted : {A : Type 0} (view : A → List ℕ) (got : List ℕ) (before after : Option Link) (o : Option A) → Goes (ReceivedLine got) before after → option_map view o ≡ phrase_of got → IfOk (ok_or o troubles.PhraseRefused) (λ phrase. Goes (Accepted (view phrase)) before after)
 phrase_accepted view got before after None received is = tt
 phrase_accepted view got before None (Some phrase) received is = tt
 phrase_accepted view got None (Some after) (Some phrase) received is = received
@@ -61,11 +61,11 @@ phrase_accepted view got (Some before) (Some after) (Some phrase) received is =
     record { accepted = phrase_by_line before.left got received.enough ∙ sym is; received = got; few = received.few; passed = received.passed }
 
 -- and else refused
-pub phrase_refused : {A : Type 0} (view : A → List ℕ) (got : List ℕ) (before after : Option Link) (EndsFailed : Type 0) (o : Option A) (fault : PhraseFault) → Goes (ReceivedLine got) before after → option_map view o ≡ phrase_of got → ok_or o faults.Refused ≡ Err fault → IsPhraseFault before after EndsFailed fault
-phrase_refused view got before after EndsFailed (Some phrase) fault received is e = absurd cc
-phrase_refused view got before after EndsFailed None fault received is e =
-    let same : faults.Refused ≡ fault = cc in
-    subst (IsPhraseFault before after EndsFailed) same (refused before after received) where
+pub phrase_refused : {A : Type 0} (view : A → List ℕ) (got : List ℕ) (before after : Option Link) (EndsFailed : Type 0) (o : Option A) (trouble : Trouble) → Goes (ReceivedLine got) before after → option_map view o ≡ phrase_of got → ok_or o troubles.PhraseRefused ≡ Err trouble → IsPhraseTrouble before after EndsFailed trouble
+phrase_refused view got before after EndsFailed (Some phrase) trouble received is e = absurd cc
+phrase_refused view got before after EndsFailed None trouble received is e =
+    let same : troubles.PhraseRefused ≡ trouble = cc in
+    subst (IsPhraseTrouble before after EndsFailed) same (refused before after received) where
       refused : (before after : Option Link) → Goes (ReceivedLine got) before after → Goes RefusedPhrase before after
       refused before None received = tt
       refused None (Some after) received = received

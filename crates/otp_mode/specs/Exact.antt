@@ -5,8 +5,8 @@ use Rattle.outside.specs.Link.{Link}
 use Rattle.otp_words.specs.declared.fault.DictFault.{DictFault}
 use Rattle.otp_words.specs.Lists.{dictionary_of}
 use Rattle.file_front.specs.Lists.{list_text}
-use Rattle.otp_mode.specs.declared.fault.OtpFault.{OtpFault}
-use Rattle.otp_mode.specs.declared.fault.OtpFault.TheVariants as faults
+use Rattle.trouble.specs.declared.trouble.Trouble.{Trouble}
+use Rattle.trouble.specs.declared.trouble.Trouble.TheVariants as troubles
 use Rattle.otp_mode.specs.Outcome.{ends_at_list}
 use Rattle.otp_mode.specs.Phrase.{phrase_of}
 use Rattle.otp_mode.specs.Words.{OtpParts}
@@ -36,10 +36,11 @@ ListIsGood contents (Some name) = (words : List (List ℕ)) × IsJudged contents
 -- a bad list or a missing phrase is refused, unless something fails first; otherwise `otp` succeeds, unless something
 -- fails or memory runs out
 pub record IsExact (parts : OtpParts) (contents : Option Contents) (before after : Option Link)
-    (ReadFailed EndsFailed : Type 0) (result : Result (Unit {0}) OtpFault) : Type 0 where
+    (ReadFailed EndsFailed : Type 0) (result : Result (Unit {0}) Trouble) : Type 0 where
   pub list_refused : (name : List ℕ) (fault : DictFault) → parts.list ≡ Some name → IsJudged contents name (Err fault)
-      → (result ≡ Err (faults.ListRefused fault)) ⊎ (result ≡ Err faults.ReadFailed) ⊎ (result ≡ Err faults.OutOfMemory)
-  pub phrase_refused : HasPhrase before after None → (result ≡ Err faults.PhraseRefused)
-      ⊎ (result ≡ Err faults.EndsFailed) ⊎ (ends_at_list result ≡ true)
+      → (result ≡ Err (troubles.WordsRefused fault)) ⊎ (result ≡ Err troubles.ReadFailed)
+      ⊎ (result ≡ Err troubles.OutOfMemory)
+  pub phrase_refused : HasPhrase before after None → (result ≡ Err troubles.PhraseRefused)
+      ⊎ (result ≡ Err troubles.EndsFailed) ⊎ (ends_at_list result ≡ true)
   pub complete : (phrase : List ℕ) → ListIsGood contents parts.list → HasPhrase before after (Some phrase)
-      → (ReadFailed → ⊥) → (EndsFailed → ⊥) → (result ≡ Ok tt) ⊎ (result ≡ Err faults.OutOfMemory)
+      → (ReadFailed → ⊥) → (EndsFailed → ⊥) → (result ≡ Ok tt) ⊎ (result ≡ Err troubles.OutOfMemory)

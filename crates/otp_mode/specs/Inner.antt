@@ -2,8 +2,8 @@
 use Rattle.std.specs.Prelude.{◌≡◌, ℕ, ◌≤◌, List, [], length, Option, Some}
 use Rattle.outside.specs.Link.{Exchanged, Link}
 use Rattle.outside.specs.Told.{Goes}
-use Rattle.otp_mode.specs.declared.fault.PhraseFault.{PhraseFault}
-use Rattle.otp_mode.specs.declared.fault.PhraseFault.TheVariants as faults
+use Rattle.trouble.specs.declared.trouble.Trouble.{Trouble}
+use Rattle.trouble.specs.declared.trouble.Trouble.TheVariants as troubles
 use Rattle.otp_mode.specs.Outcome.{OnlyReceived, RefusedPhrase}
 use Rattle.otp_mode.specs.Lines.{line_of}
 use Rattle.otp_mode.specs.Phrase.{phrase_of}
@@ -22,6 +22,7 @@ pub record Accepted (phrase : List ℕ) (before after : Link) : Type 0 where
   pub passed : Exchanged received [] before after
 
 -- why no phrase was received
-abbrev pub IsPhraseFault : Option Link → Option Link → Type 0 → PhraseFault → Type 0
-IsPhraseFault before after EndsFailed faults.EndsFailed = EndsFailed × Goes OnlyReceived before after
-IsPhraseFault before after EndsFailed faults.Refused = Goes RefusedPhrase before after
+abbrev pub IsPhraseTrouble : Option Link → Option Link → Type 0 → Trouble → Type 0
+IsPhraseTrouble before after EndsFailed troubles.EndsFailed = EndsFailed × Goes OnlyReceived before after
+IsPhraseTrouble before after EndsFailed troubles.PhraseRefused = Goes RefusedPhrase before after
+IsPhraseTrouble before after EndsFailed _ = ⊥

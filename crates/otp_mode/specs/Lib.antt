@@ -1,6 +1,5 @@
 pub mod Words
 pub mod Command
-pub mod Faults
 pub mod Lines
 pub mod Phrase
 pub mod Output

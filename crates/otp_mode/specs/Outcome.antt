@@ -1,13 +1,13 @@
 -- Believed: what the mode `otp` came to, and why.
 use Rattle.std.specs.Prelude.{◌≡◌, ◌⊎◌, ℕ, ◌≤◌, Bool, true, false, List, [], length, take, Option, Some, None, Result}
-use Rattle.std.specs.Prelude.{Ok, Err, IsSome}
+use Rattle.std.specs.Prelude.{Ok, Err}
 use Rattle.outside.specs.Files.{Contents}
 use Rattle.outside.specs.Link.{Exchanged, Link}
 use Rattle.outside.specs.Told.{Goes}
-use Rattle.otp_words.specs.declared.fault.DictFault.{DictFault}
-use Rattle.file_front.specs.Lists.{IsJudgedSo, IsMissing}
-use Rattle.otp_mode.specs.declared.fault.OtpFault.{OtpFault}
-use Rattle.otp_mode.specs.declared.fault.OtpFault.TheVariants as faults
+use Rattle.file_front.specs.Lists.{IsJudgedSo}
+use Rattle.trouble.specs.declared.trouble.Trouble.{Trouble}
+use Rattle.trouble.specs.declared.trouble.Trouble.TheVariants as troubles
+use Rattle.trouble.specs.Reading.{IsUnreadList}
 use Rattle.otp_mode.specs.Output.{otp_text}
 use Rattle.otp_mode.specs.Phrase.{phrase_of}
 use Rattle.otp_mode.specs.Words.{OtpParts}
@@ -18,15 +18,10 @@ HasWords contents None None = Unit {0}
 HasWords contents (Some name) (Some words) = IsJudgedSo contents name (Ok words)
 HasWords contents _ _ = ⊥
 
--- the word list that is named isn't there
-abbrev pub IsListMissing : Option Contents → Option (List ℕ) → Type 0
-IsListMissing contents None = ⊥
-IsListMissing contents (Some name) = IsMissing contents name
-
--- the word list that is named is refused by this fault
-abbrev pub IsListRefused : Option Contents → Option (List ℕ) → DictFault → Type 0
-IsListRefused contents None fault = ⊥
-IsListRefused contents (Some name) fault = IsJudgedSo contents name (Err fault)
+-- why the word list that is named wasn't read
+abbrev pub IsUnlisted : Option Contents → Option (List ℕ) → Type 0 → Trouble → Type 0
+IsUnlisted contents None ReadFailed trouble = ⊥
+IsUnlisted contents (Some name) ReadFailed trouble = IsUnreadList contents name ReadFailed trouble
 
 -- a phrase was received, in at most 4,096 bytes, and the lines of its password were sent
 pub record Printed (parts : OtpParts) (words : Option (List (List ℕ))) (before after : Link) : Type 0 where
@@ -60,40 +55,31 @@ pub record PrintedPart (parts : OtpParts) (words : Option (List (List ℕ))) (be
 
 -- what came of a phrase and its password, with these words of a list
 abbrev pub IsPrinting : OtpParts → Option (List (List ℕ)) → Option Link → Option Link → Type 0
-    → Result (Unit {0}) OtpFault → Type 0
+    → Result (Unit {0}) Trouble → Type 0
 IsPrinting parts words before after EndsFailed (Ok _) = Goes (Printed parts words) before after
-IsPrinting parts words before after EndsFailed (Err faults.EndsFailed) =
+IsPrinting parts words before after EndsFailed (Err troubles.EndsFailed) =
     EndsFailed × (Goes OnlyReceived before after ⊎ Goes (PrintedPart parts words) before after)
-IsPrinting parts words before after EndsFailed (Err faults.PhraseRefused) =
+IsPrinting parts words before after EndsFailed (Err troubles.PhraseRefused) =
     Goes RefusedPhrase before after
 IsPrinting parts words before after EndsFailed (Err _) = ⊥
 
 -- what each end of `otp` means: the password was printed, whole or in part, or why not; at a bad list nothing is
 -- received
 abbrev pub IsOutcome : OtpParts → Option Contents → Option Link → Option Link → Type 0 → Type 0
-    → Result (Unit {0}) OtpFault → Type 0
+    → Result (Unit {0}) Trouble → Type 0
 IsOutcome parts contents before after ReadFailed EndsFailed (Ok _) =
     (words : Option (List (List ℕ))) × HasWords contents parts.list words × Goes (Printed parts words) before after
-IsOutcome parts contents before after ReadFailed EndsFailed (Err faults.ReadFailed) =
-    IsSome parts.list × ReadFailed × (after ≡ before)
-IsOutcome parts contents before after ReadFailed EndsFailed (Err faults.ListMissing) =
-    IsListMissing contents parts.list × (after ≡ before)
-IsOutcome parts contents before after ReadFailed EndsFailed (Err (faults.ListRefused fault)) =
-    IsListRefused contents parts.list fault × (after ≡ before)
-IsOutcome parts contents before after ReadFailed EndsFailed (Err faults.OutOfMemory) =
-    IsSome parts.list × (after ≡ before)
-IsOutcome parts contents before after ReadFailed EndsFailed (Err faults.EndsFailed) =
+IsOutcome parts contents before after ReadFailed EndsFailed (Err troubles.EndsFailed) =
     EndsFailed × ((words : Option (List (List ℕ))) × HasWords contents parts.list words
     × (Goes OnlyReceived before after ⊎ Goes (PrintedPart parts words) before after))
-IsOutcome parts contents before after ReadFailed EndsFailed (Err faults.PhraseRefused) =
+IsOutcome parts contents before after ReadFailed EndsFailed (Err troubles.PhraseRefused) =
     ((words : Option (List (List ℕ))) × HasWords contents parts.list words) × Goes RefusedPhrase before after
+IsOutcome parts contents before after ReadFailed EndsFailed (Err trouble) =
+    IsUnlisted contents parts.list ReadFailed trouble × (after ≡ before)
 
 -- the mode `otp` ended at the word list, before it asked for the phrase
-abbrev pub ends_at_list : Result (Unit {0}) OtpFault → Bool
+abbrev pub ends_at_list : Result (Unit {0}) Trouble → Bool
 ends_at_list (Ok _) = false
-ends_at_list (Err faults.ReadFailed) = true
-ends_at_list (Err faults.ListMissing) = true
-ends_at_list (Err (faults.ListRefused _)) = true
-ends_at_list (Err faults.OutOfMemory) = true
-ends_at_list (Err faults.EndsFailed) = false
-ends_at_list (Err faults.PhraseRefused) = false
+ends_at_list (Err troubles.EndsFailed) = false
+ends_at_list (Err troubles.PhraseRefused) = false
+ends_at_list (Err _) = true

@@ -3,14 +3,12 @@
 #![tactic(auto)]
 
 mod command;
-mod fault;
 mod line;
 mod phrase;
 mod printing;
 mod run;
 
 pub use command::{OtpCommand, read_otp_command};
-pub use fault::{OtpFault, PhraseFault};
 pub use line::{LINE_MAX, line_in, receive_line};
 pub use phrase::read_phrase;
 pub use run::run_otp;

@@ -3,16 +3,16 @@
 ghost use Rattle.std.specs.Prelude.{◌≡◌, ◌≤◌, IfOk, option_map};
 ghost use Rattle.outside.specs.Told.{Goes, Rose};
 ghost use Rattle.fixed_list.specs.FixedList.{list_of};
-ghost use Rattle.otp_mode.specs.declared.fault.PhraseFault.{PhraseFault};
+ghost use Rattle.trouble.specs.declared.trouble.Trouble.{Trouble};
 ghost use Rattle.otp_mode.specs.Asking.{AsksForLine};
 ghost use Rattle.otp_mode.specs.Phrase.{is_phrase, phrase_of};
-ghost use Rattle.otp_mode.specs.Inner.{Accepted, IsPhraseFault};
+ghost use Rattle.otp_mode.specs.Inner.{Accepted, IsPhraseTrouble};
 
-use crate::fault::PhraseFault;
 use crate::line::{LINE_MAX, first_line, receive_line};
 use fixed_list::FixedList;
 use outside::Stream;
 use request_catalogue::are_printable;
+use trouble::Trouble;
 
 /// The fewest bytes that a pass phrase has.
 const PHRASE_MIN: usize = 10;
@@ -26,17 +26,17 @@ const PHRASE_MAX: usize = 63;
 /// # Errors
 ///
 /// The input failed, or its first line is no pass phrase.
-pub fn read_phrase<E: Stream>(ends: &mut E) -> Result<FixedList<63>, PhraseFault>
+pub fn read_phrase<E: Stream>(ends: &mut E) -> Result<FixedList<63>, Trouble>
     ensures phrase { IfOk result (λ phrase.
         Goes (Accepted (list_of phrase)) (E.link ends.old) (E.link ends.new)) }
-    ensures fault { (fault : PhraseFault) → result ≡ Err fault → IsPhraseFault (E.link ends.old)
-        (E.link ends.new) (Rose (E.faults ends.old) (E.faults ends.new)) fault }
+    ensures trouble { (trouble : Trouble) → result ≡ Err trouble → IsPhraseTrouble (E.link ends.old)
+        (E.link ends.new) (Rose (E.faults ends.old) (E.faults ends.new)) trouble }
     ensures asked { Goes AsksForLine (E.link ends.old) (E.link ends.new) }
     ensures faults { E.faults ends.old ≤ E.faults ends.new }
 {
     let mut buf = [0; LINE_MAX];
     let n = receive_line(ends, &mut buf)?;
-    phrase_in(&buf[..n]).ok_or(PhraseFault::Refused)
+    phrase_in(&buf[..n]).ok_or(Trouble::PhraseRefused)
 }
 
 /// The pass phrase of an input.

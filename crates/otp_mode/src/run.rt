@@ -10,7 +10,6 @@ ghost use Rattle.otp_mode.specs.Exact.{IsExact};
 ghost use Rattle.otp_mode.specs.Outcome.{IsOutcome, IsPrinting, ends_at_list};
 
 use crate::command::OtpCommand;
-use crate::fault::OtpFault;
 use crate::phrase::read_phrase;
 use crate::printing::{TEXT_MAX, put_password};
 use file_front::read_list;
@@ -18,18 +17,19 @@ use otp_hash::at;
 use otp_words::Dictionary;
 use outside::{Files, Stream};
 use std::alloc::Global;
+use trouble::Trouble;
 
 /// Runs the mode: reads the word list, if one is named, takes the pass phrase from the first line of
 /// the input, and prints its password, in hexadecimal groups and a newline, and where there is a
 /// word list in six words and a newline. The phrase is 10 to 63 bytes of printable ASCII, and no
-/// more than 4,096 bytes are received. The first fault ends it, in this order: of the word list, of
+/// more than 4,096 bytes are received. The first trouble ends it, in this order: of the word list, of
 /// the phrase, of the printing.
 pub fn run_otp<F: Files, E: Stream>(
     alloc: Global,
     command: &OtpCommand<'_>,
     files: &mut F,
     ends: &mut E,
-) -> Result<(), OtpFault>
+) -> Result<(), Trouble>
     ensures outcome { IsOutcome (command_parts command.now) (F.contents files.new)
         (E.link ends.old) (E.link ends.new)
         (Rose (F.read_faults files.old) (F.read_faults files.new))
@@ -56,7 +56,7 @@ fn print_password<E: Stream>(
     command: &OtpCommand<'_>,
     list: Option<&Dictionary>,
     ends: &mut E,
-) -> Result<(), OtpFault>
+) -> Result<(), Trouble>
     ensures printing { IsPrinting (command_parts command.now) (option_copied list.entry)
         (E.link ends.old) (E.link ends.new) (Rose (E.faults ends.old) (E.faults ends.new)) result }
     ensures asked { Goes AsksForLine (E.link ends.old) (E.link ends.new) }

@@ -6,6 +6,7 @@ use std::alloc::Global;
 use std::sync::Wait;
 use std::test::*;
 use std::thread::Threads;
+use trouble::status_of;
 
 /// Words that are no number of a drill, one a line.
 const OTHERS: &str = "0
@@ -63,7 +64,7 @@ fn tells<R: Threads + Wait + Sync>(rt: &R, alloc: Global, n: u32, text: &str) ->
 {
     let mut ends = MemStream::new(alloc, &[], &[16], &[])?;
     let outcome = run_drill(rt, alloc, n, &mut ends);
-    Ok(status(&outcome) == 0 && ends.sent() == text.as_bytes())
+    Ok(status_of(&outcome) == 0 && ends.sent() == text.as_bytes())
 }
 
 #[test]

@@ -1,12 +1,12 @@
 use audit_check::AuditWhy;
 use messages::{Complaint, RunCounts, RunFaults};
-use monitor_server::{Detail, FileKind};
-use otp_extended::RenewFault;
+use monitor_server::Detail;
 use otp_words::{DictFault, DictRule};
 use std::alloc::{AllocError, Global};
 use std::fmt::Display;
 use std::io;
 use std::test::Fail;
+use trouble::{FileKind, RenewFault};
 
 /// Whether a value is written as this line.
 fn is_told(alloc: Global, value: &impl Display, line: &str) -> Result<bool, AllocError> {

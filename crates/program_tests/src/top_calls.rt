@@ -5,7 +5,7 @@ ghost use Rattle.outside.specs.Scene.{IsFresh};
 use account_file::{SetupFault, SetupKey, SetupRule};
 use audit_check::AuditWhy;
 use info_hooks::Hooks;
-use monitor_server::{Detail, Ended, FileKind, World, otplogd};
+use monitor_server::{Detail, Ended, World, otplogd};
 use otp_words::{DictFault, DictRule};
 use outside::{Accepted, Act, Bytes, Role, Word};
 use outside_memory::{MemFiles, MemPost, MemSink, MemSite, MemStream, Script};
@@ -13,6 +13,7 @@ use std::alloc::{AllocError, Global};
 use std::sync::Wait;
 use std::test::Fail as Fault;
 use std::thread::Threads;
+use trouble::FileKind;
 
 mod drills;
 mod offline;

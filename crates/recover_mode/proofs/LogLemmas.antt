@@ -13,8 +13,8 @@ use Rattle.ledger_journal.specs.Logins.{accepts_reply, account_taken, last_takin
 use Rattle.ledger_journal.specs.Recovering.{HasFault, HasSome, IsFirstFault}
 use Rattle.ledger_journal.proofs.AnswerLemmas.{line_number}
 use Rattle.ledger_journal.proofs.PassLemmas.{all_left}
-use Rattle.recover_mode.specs.Errors.{error_of_log}
-use Rattle.recover_mode.specs.Recovering.{IsBroughtBack, IsLogError, IsLogFault}
+use Rattle.trouble.specs.Reading.{trouble_of_log}
+use Rattle.recover_mode.specs.Recovering.{IsBroughtBack, IsLogTrouble, IsLogFault}
 
 -- ---- no record has the number 0
 
@@ -59,9 +59,9 @@ IsLogFault-first : (setup : Settings) (image : List ℕ) (number : ℕ) (some : 
 IsLogFault-first setup image zero some first = absurd (no-fault-0 setup some.records first.here)
 IsLogFault-first setup image (suc place) some first = record { records = some.records; has = some.has; first = first }
 
-pub IsLogError-of : (setup : Settings) (image : List ℕ) (error : RecoverError) → IsBroughtBack setup image (Err error) → IsLogError setup image (error_of_log error)
-IsLogError-of setup image log_errors.NoLog answered =
+pub IsLogTrouble-of : (setup : Settings) (image : List ℕ) (error : RecoverError) → IsBroughtBack setup image (Err error) → IsLogTrouble setup image (trouble_of_log error)
+IsLogTrouble-of setup image log_errors.NoLog answered =
     record { error = log_errors.NoLog; answered = answered; told = refl; fault = answered.log }
-IsLogError-of setup image (log_errors.Line number) answered =
+IsLogTrouble-of setup image (log_errors.Line number) answered =
     record { error = log_errors.Line number; answered = answered; told = refl; fault = IsLogFault-first setup image number answered.log (answered.exact answered.log.records answered.log.has) }
-IsLogError-of setup image log_errors.OutOfMemory answered = tt
+IsLogTrouble-of setup image log_errors.OutOfMemory answered = tt

@@ -7,13 +7,11 @@ use Rattle.outside.proofs.Told.{Rose-within}
 use Rattle.policy_model.specs.Settings.{Settings}
 use Rattle.file_front.specs.declared.front.FrontError.{FrontError}
 use Rattle.file_front.specs.declared.front.FrontError.TheVariants as front_errors
-use Rattle.setup_reading.specs.declared.reading.SetupFileError.{SetupFileError}
-use Rattle.setup_reading.specs.declared.reading.SetupFileError.TheVariants as setup_errors
-use Rattle.setup_reading.specs.Read.{IsSetupError, IsSetupIn, judged_setup}
+use Rattle.setup_reading.specs.Read.{IsSetupIn, judged_setup}
 use Rattle.setup_reading.proofs.ReadLemmas.{IsSetupIn-later}
 use Rattle.durable_log.specs.Journal.{image_of}
-use Rattle.recover_mode.specs.Bases.{HasBasis, IsFileError, image_in}
-use Rattle.recover_mode.specs.Errors.{error_of_front, error_of_setup}
+use Rattle.recover_mode.specs.Bases.{HasBasis, image_in}
+use Rattle.trouble.specs.Reading.{IsUnreadSetup, trouble_of_front}
 use Rattle.recover_mode.specs.Words.{RecoverParts}
 
 -- ---- the image
@@ -61,13 +59,7 @@ HasBasis-before (Some before) (Some between) (Some after) parts setup image Step
 
 -- ---- why there is none
 
-pub IsFileError-setup : (contents : Option Contents) (name : List ℕ) (ReadFailed : Type 0) (error : SetupFileError) → IsSetupError contents name ReadFailed error → IsFileError contents name ReadFailed (error_of_setup error)
-IsFileError-setup contents name R setup_errors.Failed why = why
-IsFileError-setup contents name R setup_errors.OutOfMemory why = tt
-IsFileError-setup contents name R setup_errors.Missing why = why
-IsFileError-setup contents name R (setup_errors.Refused fault) why = why
-
--- an error of the log's file, after the setup's
-pub IsFileError-log : (contents : Option Contents) (name : List ℕ) (first between last : ℕ) (error : FrontError) → first ≤ between → (error ≡ front_errors.Failed → Rose between last) → IsFileError contents name (Rose first last) (error_of_front error)
-IsFileError-log contents name first between last front_errors.Failed le why = Rose-within first between last last le (why refl) (omega arith)
-IsFileError-log contents name first between last front_errors.OutOfMemory le why = tt
+-- a failed reading of the log's file, after the setup's
+pub log-unread : (contents : Option Contents) (name : List ℕ) (first between last : ℕ) (error : FrontError) → first ≤ between → (error ≡ front_errors.Failed → Rose between last) → IsUnreadSetup contents name (Rose first last) (trouble_of_front error)
+log-unread contents name first between last front_errors.Failed le why = Rose-within first between last last le (why refl) (omega arith)
+log-unread contents name first between last front_errors.OutOfMemory le why = tt

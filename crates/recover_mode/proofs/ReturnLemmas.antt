@@ -18,12 +18,13 @@ use Rattle.ledger_journal.specs.declared.answer.Recovered.{Recovered}
 use Rattle.ledger_journal.specs.declared.answer.RecoverError.{RecoverError}
 use Rattle.ledger_journal.specs.declared.answer.RecoverError.TheVariants as log_errors
 use Rattle.ledger_journal.specs.Journals.{IsBackAt, IsRecoveredAs, IsThereAlready, IsWhole, chain_after, chain_known, records_of}
-use Rattle.recover_mode.specs.declared.error.RecoveryError.{RecoveryError}
-use Rattle.recover_mode.specs.declared.error.RecoveryError.TheVariants as errors
+use Rattle.trouble.specs.declared.trouble.LogFault.TheVariants as log_faults
+use Rattle.trouble.specs.declared.trouble.Trouble.{Trouble}
+use Rattle.trouble.specs.declared.trouble.Trouble.TheVariants as troubles
 use Rattle.recover_mode.specs.declared.line.Recovery.{Recovery}
 use Rattle.recover_mode.specs.declared.texts.Texts.{Texts}
 use Rattle.recover_mode.specs.Bases.{HasBasis, image_in}
-use Rattle.recover_mode.specs.Errors.{error_of_log}
+use Rattle.trouble.specs.Reading.{trouble_of_log}
 use Rattle.recover_mode.specs.Outcome.{IsOutcome, Spares}
 use Rattle.recover_mode.specs.Recovering.{AreTexts, AreWritten, IsRefused}
 use Rattle.recover_mode.specs.Returning.{BringsBack, HasRun, HasRunAlready, IsCounted, IsSpelled}
@@ -73,7 +74,7 @@ written-spelled parts setup target image texts old new made written same ne =
 -- ---- the log of a run
 
 -- it isn't refused
-not-refused : (P : Recovered → Type 0) (error : RecoverError) (number : ℕ) → error_of_log error ≡ errors.LogRefused number → IsRecoveredAs P (Err error) → ⊥
+not-refused : (P : Recovered → Type 0) (error : RecoverError) (number : ℕ) → trouble_of_log error ≡ troubles.LogRefused (log_faults.Record number) → IsRecoveredAs P (Err error) → ⊥
 not-refused P log_errors.NoLog number told back = back
 not-refused P (log_errors.Line n) number told back = back
 not-refused P log_errors.OutOfMemory number told back = cc
@@ -120,7 +121,7 @@ refused-again parts read first setup image number journal old stood refused run 
 counted-as : (journal : List Event) (recovery counts : Recovery) → recovery ≡ counts → IsCounted journal counts → IsCounted journal recovery
 counted-as journal recovery counts same counted = subst (IsCounted journal) (sym same) counted
 
-told-back : (parts : RecoverParts) (old new : Contents) (before after : Option Link) (R P E : Type 0) (result : Result Recovery RecoveryError) → IsOutcome parts (Some old) (Some new) before after R P E result → BringsBack parts result old new
+told-back : (parts : RecoverParts) (old new : Contents) (before after : Option Link) (R P E : Type 0) (result : Result Recovery Trouble) → IsOutcome parts (Some old) (Some new) before after R P E result → BringsBack parts result old new
 told-back parts old new before after R P E (Ok recovery) h = record {
   logged = λ setup journal run.
       let kept = kept-logged parts h.setup setup h.image h.texts journal old new h.stood h.made h.put.1 run in
@@ -129,21 +130,27 @@ told-back parts old new before after R P E (Ok recovery) h = record {
       let kept = kept-again parts h.setup first setup h.image h.texts journal old new h.stood h.made h.put.1 run in
       (counted-as journal recovery h.texts.recovery h.put.0 kept.counted, kept.spelled);
 }
-told-back parts old new before after R P E (Err errors.SendFailed) h = record {
+told-back parts old new before after R P E (Err troubles.EndsFailed) h = record {
   logged = λ setup journal run. (kept-logged parts h.setup setup h.image h.texts journal old new h.stood h.made h.put.1 run).spelled;
   again = λ first setup journal run. (kept-again parts h.setup first setup h.image h.texts journal old new h.stood h.made h.put.1 run).spelled;
 }
-told-back parts old new before after R P E (Err (errors.LogRefused number)) h = record {
+told-back parts old new before after R P E (Err (troubles.LogRefused (log_faults.Record number))) h = record {
   logged = λ setup journal run. refused-logged parts h.0.setup setup h.0.image number journal old h.0.stood h.0.refused run;
   again = λ first setup journal run. refused-again parts h.0.setup first setup h.0.image number journal old h.0.stood h.0.refused run;
 }
-told-back parts old new before after R P E (Err errors.ReplaceFailed) h = record { logged = λ _ _ _. tt; again = λ _ _ _ _. tt }
-told-back parts old new before after R P E (Err errors.OutOfMemory) h = record { logged = λ _ _ _. tt; again = λ _ _ _ _. tt }
-told-back parts old new before after R P E (Err errors.ReadFailed) h = record { logged = λ _ _ _. tt; again = λ _ _ _ _. tt }
-told-back parts old new before after R P E (Err errors.SetupMissing) h = record { logged = λ _ _ _. tt; again = λ _ _ _ _. tt }
-told-back parts old new before after R P E (Err (errors.SetupRefused fault)) h = record { logged = λ _ _ _. tt; again = λ _ _ _ _. tt }
+told-back parts old new before after R P E (Err troubles.ReplaceFailed) h = record { logged = λ _ _ _. tt; again = λ _ _ _ _. tt }
+told-back parts old new before after R P E (Err troubles.OutOfMemory) h = record { logged = λ _ _ _. tt; again = λ _ _ _ _. tt }
+told-back parts old new before after R P E (Err troubles.ReadFailed) h = record { logged = λ _ _ _. tt; again = λ _ _ _ _. tt }
+told-back parts old new before after R P E (Err (troubles.Missing _)) h = record { logged = λ _ _ _. tt; again = λ _ _ _ _. tt }
+told-back parts old new before after R P E (Err (troubles.SetupRefused _)) h = record { logged = λ _ _ _. tt; again = λ _ _ _ _. tt }
+told-back parts old new before after R P E (Err (troubles.Serving _)) h = record { logged = λ _ _ _. tt; again = λ _ _ _ _. tt }
+told-back parts old new before after R P E (Err (troubles.ResponseRefused _)) h = record { logged = λ _ _ _. tt; again = λ _ _ _ _. tt }
+told-back parts old new before after R P E (Err (troubles.NoRenewal _)) h = record { logged = λ _ _ _. tt; again = λ _ _ _ _. tt }
+told-back parts old new before after R P E (Err (troubles.LogRefused log_faults.NotFresh)) h = absurd h.0.why
+told-back parts old new before after R P E (Err (troubles.WordsRefused _)) h = record { logged = λ _ _ _. tt; again = λ _ _ _ _. tt }
+told-back parts old new before after R P E (Err troubles.PhraseRefused) h = record { logged = λ _ _ _. tt; again = λ _ _ _ _. tt }
 
-pub BringsBack-of : (parts : RecoverParts) (old new : Option Contents) (before after : Option Link) (R P E : Type 0) (result : Result Recovery RecoveryError) → IsOutcome parts old new before after R P E result → Goes (BringsBack parts result) old new
+pub BringsBack-of : (parts : RecoverParts) (old new : Option Contents) (before after : Option Link) (R P E : Type 0) (result : Result Recovery Trouble) → IsOutcome parts old new before after R P E result → Goes (BringsBack parts result) old new
 BringsBack-of parts old None before after R P E result h = tt
 BringsBack-of parts None (Some new) before after R P E result h =
     let spares : Goes (Spares parts) None (Some new) = IsOutcome-spares parts None (Some new) before after R P E result h in

@@ -1,13 +1,10 @@
--- Believed: the setup and the image of a recovery, or why there is no setup.
+-- Believed: the setup and the image of a recovery.
 use Rattle.std.specs.Prelude.{◌≡◌, ℕ, List, [], take, Option, Some, None, Ok}
 use Rattle.outside.specs.Files.{Contents}
 use Rattle.policy_model.specs.Settings.{Settings}
 use Rattle.account_file.specs.Entries.{entries_of}
-use Rattle.setup_reading.specs.declared.reading.SetupFileError.TheVariants as setup_errors
-use Rattle.setup_reading.specs.Read.{IsSetupError, setup_in}
+use Rattle.setup_reading.specs.Read.{setup_in}
 use Rattle.durable_log.specs.Journal.{image_of}
-use Rattle.recover_mode.specs.declared.error.RecoveryError.{RecoveryError}
-use Rattle.recover_mode.specs.declared.error.RecoveryError.TheVariants as errors
 use Rattle.recover_mode.specs.Words.{RecoverParts}
 
 -- the image of a log: the first 271,581,189 bytes of its file; without a file, the image of no records
@@ -19,12 +16,3 @@ image_in (Some bytes) = take 271581189 bytes
 pub record HasBasis (parts : RecoverParts) (setup : Settings) (image : List ℕ) (files : Contents) : Type 0 where
   pub spelled : setup_in files parts.setup ≡ Some (Ok (entries_of setup))
   pub logged : image ≡ image_in (files parts.log)
-
--- why there is no setup or no image: a read failed, memory ran out, or the setup's file is missing or refused
-abbrev pub IsFileError : Option Contents → List ℕ → Type 0 → RecoveryError → Type 0
-IsFileError contents name ReadFailed errors.ReadFailed = ReadFailed
-IsFileError contents name ReadFailed errors.SetupMissing = IsSetupError contents name ReadFailed setup_errors.Missing
-IsFileError contents name ReadFailed (errors.SetupRefused fault) =
-    IsSetupError contents name ReadFailed (setup_errors.Refused fault)
-IsFileError contents name ReadFailed errors.OutOfMemory = Unit {0}
-IsFileError contents name ReadFailed _ = ⊥

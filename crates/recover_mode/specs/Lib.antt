@@ -1,7 +1,7 @@
 pub mod Words
 pub mod Commands
 pub mod Lines
-pub mod Errors
+pub mod Ends
 pub mod Bases
 pub mod Recovering
 pub mod Outcome

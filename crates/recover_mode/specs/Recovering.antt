@@ -17,11 +17,12 @@ use Rattle.ledger_journal.specs.declared.answer.Recovered.{Recovered}
 use Rattle.ledger_journal.specs.declared.answer.RecoverError.{RecoverError}
 use Rattle.ledger_journal.specs.Journals.{IsBackAt, IsRecoveredAs, IsThereAlready, IsWhole, records_of}
 use Rattle.ledger_journal.specs.Recovering.{HasSome, IsAnswerOf, IsFirstFault, IsLogOr}
-use Rattle.recover_mode.specs.declared.error.RecoveryError.{RecoveryError}
-use Rattle.recover_mode.specs.declared.error.RecoveryError.TheVariants as errors
+use Rattle.trouble.specs.declared.trouble.LogFault.TheVariants as log_faults
+use Rattle.trouble.specs.declared.trouble.Trouble.{Trouble}
+use Rattle.trouble.specs.declared.trouble.Trouble.TheVariants as troubles
+use Rattle.trouble.specs.Reading.{trouble_of_log}
 use Rattle.recover_mode.specs.declared.line.Recovery.{Recovery}
 use Rattle.recover_mode.specs.declared.texts.Texts.{Texts}
-use Rattle.recover_mode.specs.Errors.{error_of_log}
 use Rattle.recover_mode.specs.Lines.{recovery_line}
 use Rattle.recover_mode.specs.Words.{RecoverParts}
 
@@ -50,14 +51,14 @@ IsLogFault setup image (suc place) = HasFirstFault setup image (suc place)
 pub record IsRefused (setup : Settings) (image : List ℕ) (number : ℕ) : Type 0 where
   pub error : RecoverError
   pub answered : IsBroughtBack setup image (Err error)
-  pub told : error_of_log error ≡ errors.LogRefused number
+  pub told : trouble_of_log error ≡ troubles.LogRefused (log_faults.Record number)
   pub fault : IsLogFault setup image number
 
 -- why nothing is written of a setup and an image: the log is refused, or out of memory
-abbrev pub IsLogError : Settings → List ℕ → RecoveryError → Type 0
-IsLogError setup image (errors.LogRefused number) = IsRefused setup image number
-IsLogError setup image errors.OutOfMemory = Unit {0}
-IsLogError setup image _ = ⊥
+abbrev pub IsLogTrouble : Settings → List ℕ → Trouble → Type 0
+IsLogTrouble setup image (troubles.LogRefused (log_faults.Record number)) = IsRefused setup image number
+IsLogTrouble setup image troubles.OutOfMemory = Unit {0}
+IsLogTrouble setup image _ = ⊥
 
 -- what is written and sent of what was recovered
 pub record AreTextsOf (parts : RecoverParts) (setup : Settings) (recovered : Recovered) (texts : Texts) : Type 0 where
@@ -95,12 +96,12 @@ pub record MayBeWritten (texts : Texts) (before after : Contents) : Type 0 where
 
 -- the files were written and then the line was sent, or which of these failed
 abbrev pub IsPut : Texts → Option Contents → Option Contents → Option Link → Option Link → Type 0 → Type 0
-    → Result Recovery RecoveryError → Type 0
+    → Result Recovery Trouble → Type 0
 IsPut texts old new before after ReplaceFailed EndsFailed (Ok recovery) =
     (recovery ≡ texts.recovery) × Goes (AreWritten texts) old new × Goes (Exchanged [] (string_bytes texts.line)) before
     after
-IsPut texts old new before after ReplaceFailed EndsFailed (Err errors.ReplaceFailed) =
+IsPut texts old new before after ReplaceFailed EndsFailed (Err troubles.ReplaceFailed) =
     ReplaceFailed × Goes (MayBeWritten texts) old new × (after ≡ before)
-IsPut texts old new before after ReplaceFailed EndsFailed (Err errors.SendFailed) =
+IsPut texts old new before after ReplaceFailed EndsFailed (Err troubles.EndsFailed) =
     EndsFailed × Goes (AreWritten texts) old new × SendsPart (string_bytes texts.line) before after
 IsPut texts old new before after ReplaceFailed EndsFailed (Err _) = ⊥

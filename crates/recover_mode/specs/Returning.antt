@@ -11,8 +11,8 @@ use Rattle.account_writer.specs.Written.{IsFileOf}
 use Rattle.setup_reading.specs.Read.{setup_in}
 use Rattle.durable_log.specs.Records.{HasRecords}
 use Rattle.ledger_journal.specs.Journals.{IsWhole, records_of}
-use Rattle.recover_mode.specs.declared.error.RecoveryError.{RecoveryError}
-use Rattle.recover_mode.specs.declared.error.RecoveryError.TheVariants as errors
+use Rattle.trouble.specs.declared.trouble.Trouble.{Trouble}
+use Rattle.trouble.specs.declared.trouble.Trouble.TheVariants as troubles
 use Rattle.recover_mode.specs.declared.line.Recovery.{Recovery}
 use Rattle.recover_mode.specs.Bases.{image_in}
 use Rattle.recover_mode.specs.Words.{RecoverParts}
@@ -43,15 +43,15 @@ pub record IsCounted (journal : List Event) (recovery : Recovery) : Type 0 where
   pub accepted : recovery.accepted ≡ count_by accepts journal
 
 -- `recover` doesn't refuse the log of this journal, and once it has written, the setup file spells this setup
-abbrev pub IsReturned : RecoverParts → Settings → List Event → Contents → Result Recovery RecoveryError → Type 0
+abbrev pub IsReturned : RecoverParts → Settings → List Event → Contents → Result Recovery Trouble → Type 0
 IsReturned parts setup journal files (Ok recovery) = IsCounted journal recovery × IsSpelled parts setup files
-IsReturned parts setup journal files (Err errors.SendFailed) = IsSpelled parts setup files
-IsReturned parts setup journal files (Err (errors.LogRefused number)) = ⊥
+IsReturned parts setup journal files (Err troubles.EndsFailed) = IsSpelled parts setup files
+IsReturned parts setup journal files (Err (troubles.LogRefused fault)) = ⊥
 IsReturned parts setup journal files (Err _) = Unit {0}
 
 -- from a whole run's log, `recover` writes the setup after the run's journal; a setup that has it already stays as it
 -- is
-pub record BringsBack (parts : RecoverParts) (result : Result Recovery RecoveryError)
+pub record BringsBack (parts : RecoverParts) (result : Result Recovery Trouble)
     (old new : Contents) : Type 0 where
   pub logged : (setup : Settings) (journal : List Event) → HasRun parts setup journal old
       → IsReturned parts (setup_after setup journal) journal new result

@@ -3,19 +3,20 @@
 ghost use Rattle.std.specs.Prelude.{◌≡◌, ◌∷◌, [], Err, IfOk, IfSome};
 ghost use Rattle.outside.specs.FilesNow.{OnlyReads, files_now};
 ghost use Rattle.outside.specs.Told.{Rose};
-ghost use Rattle.recover_mode.specs.declared.error.RecoveryError.{RecoveryError};
-ghost use Rattle.recover_mode.specs.Bases.{HasBasis, IsFileError, image_in};
+ghost use Rattle.trouble.specs.declared.trouble.Trouble.{Trouble};
+ghost use Rattle.trouble.specs.Reading.{IsUnreadSetup};
+ghost use Rattle.recover_mode.specs.Bases.{HasBasis, image_in};
 ghost use Rattle.recover_mode.specs.Commands.{command_parts};
 ghost use Rattle.recover_mode.specs.Words.{names_of};
 
 use crate::command::RecoverCommand;
-use crate::error::RecoveryError;
 use file_front::{FrontError, read_front};
 use fresh_log::fresh_image;
 use outside::Files;
 use policy_model::Setup;
 use setup_reading::read_setup_file;
 use std::alloc::Global;
+use trouble::Trouble;
 
 /// The bytes of a log's image at most: those of 1,048,576 records of 256 bytes, with `OTJ1` and the
 /// gates and lengths.
@@ -33,11 +34,11 @@ pub(crate) fn read_basis<F: Files>(
     alloc: Global,
     command: &RecoverCommand<'_>,
     files: &mut F,
-) -> Result<Basis, RecoveryError>
+) -> Result<Basis, Trouble>
     ensures basis { IfOk result (λ basis. IfSome (F.contents files.new)
         (HasBasis (command_parts command.now) basis.setup basis.image.items)) }
-    ensures error { (error : RecoveryError) → result ≡ Err error → IsFileError (F.contents files.new)
-        command.now.setup.now (Rose (F.read_faults files.old) (F.read_faults files.new)) error }
+    ensures trouble { (trouble : Trouble) → result ≡ Err trouble → IsUnreadSetup (F.contents files.new)
+        command.now.setup.now (Rose (F.read_faults files.old) (F.read_faults files.new)) trouble }
     ensures files { let now = files_now F.contents F.read_faults F.replace_faults F.touched in
         OnlyReads (names_of (command_parts command.now)) (now files.old) (now files.new) }
 {

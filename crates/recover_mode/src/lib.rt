@@ -5,12 +5,10 @@
 
 mod basis;
 mod command;
-mod error;
 mod line;
 mod run;
 mod texts;
 
 pub use command::{RecoverCommand, read_recover_command};
-pub use error::RecoveryError;
 pub use line::Recovery;
-pub use run::{run_recover, status};
+pub use run::run_recover;

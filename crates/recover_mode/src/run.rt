@@ -6,7 +6,7 @@ ghost use Rattle.outside.specs.FilesNow.{files_now};
 ghost use Rattle.outside.specs.Told.{Goes, Rose};
 ghost use Rattle.setup_reading.specs.Touching.{OnlyReplaces, TouchesNamed};
 ghost use Rattle.recover_mode.specs.Commands.{command_parts};
-ghost use Rattle.recover_mode.specs.Errors.{ends_before_line, may_be_written, status_of};
+ghost use Rattle.recover_mode.specs.Ends.{ends_before_line, may_be_written};
 ghost use Rattle.recover_mode.specs.Outcome.{IsOutcome, Spares};
 ghost use Rattle.recover_mode.specs.Recovering.{AreWritten, IsPut, MayBeWritten};
 ghost use Rattle.recover_mode.specs.Returning.{BringsBack};
@@ -14,23 +14,12 @@ ghost use Rattle.recover_mode.specs.Words.{names_of};
 
 use crate::basis::read_basis;
 use crate::command::RecoverCommand;
-use crate::error::RecoveryError;
 use crate::line::Recovery;
 use crate::texts::{Texts, texts_of};
 use fresh_log::fresh_image;
 use outside::{Failed, Files, Stream};
 use std::alloc::Global;
-
-/// The exit status of a program that ends by what came of the mode: 0 where the log was recovered, else
-/// 3, 4, 5, 8, 9, 11 or 13.
-pub fn status(outcome: Result<Recovery, RecoveryError>) -> u8
-    ensures { result ≡ status_of outcome }
-{
-    match outcome {
-        Ok(_) => 0,
-        Err(error) => error.status(),
-    }
-}
+use trouble::Trouble;
 
 /// Runs the mode: reads the setup and then the log, of which the first 271,581,189 bytes count and which
 /// has no records where its file is missing. It verifies the replies that the log accepts, replaces the
@@ -41,15 +30,16 @@ pub fn status(outcome: Result<Recovery, RecoveryError>) -> u8
 ///
 /// # Errors
 ///
-/// The first error, in this order: of the setup, the log's file, its records, memory, replacing the two
-/// files, sending the line. Memory may also run out at a file. A file is replaced only if no error came
-/// before.
+/// The first trouble, in this order: of the setup, the log's file, its records, memory, replacing the two
+/// files, sending the line. Memory may also run out at a file. A file is replaced only if no trouble came
+/// before: where a replacing failed, nothing is written, or the setup alone, or both; where the sending
+/// failed, both are.
 pub fn run_recover<F: Files, E: Stream>(
     alloc: Global,
     command: &RecoverCommand<'_>,
     files: &mut F,
     ends: &mut E,
-) -> Result<Recovery, RecoveryError>
+) -> Result<Recovery, Trouble>
     ensures outcome { IsOutcome (command_parts command.now) (F.contents files.old) (F.contents files.new)
         (E.link ends.old) (E.link ends.new) (Rose (F.read_faults files.old) (F.read_faults files.new))
         (Rose (F.replace_faults files.old) (F.replace_faults files.new))
@@ -69,11 +59,7 @@ pub fn run_recover<F: Files, E: Stream>(
 }
 
 /// Writes the setup and then the log, and then tells it.
-fn put<F: Files, E: Stream>(
-    texts: &Texts,
-    files: &mut F,
-    ends: &mut E,
-) -> Result<Recovery, RecoveryError>
+fn put<F: Files, E: Stream>(texts: &Texts, files: &mut F, ends: &mut E) -> Result<Recovery, Trouble>
     ensures put { IsPut texts.now (F.contents files.old) (F.contents files.new) (E.link ends.old) (E.link ends.new)
         (Rose (F.replace_faults files.old) (F.replace_faults files.new))
         (Rose (E.faults ends.old) (E.faults ends.new)) result }
@@ -83,10 +69,10 @@ fn put<F: Files, E: Stream>(
     ensures faults { E.faults ends.old ≤ E.faults ends.new }
 {
     if write(texts, files).is_err() {
-        return Err(RecoveryError::ReplaceFailed);
+        return Err(Trouble::ReplaceFailed);
     }
     if ends.send(texts.line.as_bytes()).is_err() {
-        return Err(RecoveryError::SendFailed);
+        return Err(Trouble::EndsFailed);
     }
     Ok(texts.recovery)
 }

@@ -1,19 +1,19 @@
 //! What is written and sent.
 
 ghost use Rattle.std.specs.Prelude.{◌≡◌, Err, IfOk};
-ghost use Rattle.recover_mode.specs.declared.error.RecoveryError.{RecoveryError};
+ghost use Rattle.trouble.specs.declared.trouble.Trouble.{Trouble};
 ghost use Rattle.recover_mode.specs.Commands.{command_parts};
-ghost use Rattle.recover_mode.specs.Recovering.{AreTexts, AreTextsOf, IsBroughtBack, IsLogError};
+ghost use Rattle.recover_mode.specs.Recovering.{AreTexts, AreTextsOf, IsBroughtBack, IsLogTrouble};
 
 use crate::basis::Basis;
 use crate::command::RecoverCommand;
-use crate::error::RecoveryError;
 use crate::line::{Recovery, recovery_line};
 use account_writer::write_accounts;
 use ledger_journal::{RecoverError, Recovered, recover};
 use outside::Word;
 use policy_model::Setup;
 use std::alloc::{AllocError, Global};
+use trouble::Trouble;
 
 /// What is written and sent, all of whose memory is taken before anything is written.
 #[derive(Drop)]
@@ -35,10 +35,10 @@ pub(crate) fn texts_of(
     alloc: Global,
     command: &RecoverCommand<'_>,
     basis: &Basis,
-) -> Result<Texts, RecoveryError>
+) -> Result<Texts, Trouble>
     ensures texts { IfOk result (AreTexts (command_parts command.now) basis.now.setup basis.now.image.items) }
-    ensures error { (error : RecoveryError) → result ≡ Err error →
-        IsLogError basis.now.setup basis.now.image.items error }
+    ensures trouble { (trouble : Trouble) → result ≡ Err trouble →
+        IsLogTrouble basis.now.setup basis.now.image.items trouble }
 {
     let recovered = bring_back(alloc, basis)?;
     Ok(recovered_texts(alloc, command, &basis.setup, &recovered)?)

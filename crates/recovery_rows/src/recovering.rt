@@ -8,13 +8,14 @@ ghost use Rattle.recover_mode.specs.Returning.{BringsBack};
 ghost use Rattle.recovery_rows.specs.Parts.{row_parts};
 
 use outside_memory::{MemFiles, MemStream};
-use recover_mode::{RecoverCommand, Recovery, RecoveryError, run_recover};
+use recover_mode::{RecoverCommand, Recovery, run_recover};
 use std::alloc::{AllocError, Global};
+use trouble::Trouble;
 
 /// What recovery came to, what it sent, and the files after it.
 #[derive(Drop)]
 pub struct Came {
-    pub outcome: Result<Recovery, RecoveryError>,
+    pub outcome: Result<Recovery, Trouble>,
     pub told: Vec<u8>,
     pub files: MemFiles,
 }

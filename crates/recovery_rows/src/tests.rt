@@ -14,14 +14,14 @@ use outside::{Bytes, Word};
 use outside_memory::{CallKind, Fail, MemFiles, MemPost, MemSite};
 use policy_model::Event;
 use recover_mode::Recovery;
-use serve_mode::{ServeCommand, ServeError, Served, run_serve};
+use serve_mode::{ServeCommand, Served, run_serve};
 use service_play::{ONE, Play, Session, chain_in, come, posts_of, setup_in};
-use service_reading::ServiceError;
 use service_rows::{CLIENT, Login, log_in};
 use std::alloc::{AllocError, Global};
 use std::sync::Wait;
 use std::test::Fail as Fault;
 use std::thread::Threads;
+use trouble::{LogFault, Trouble};
 
 /// Bob's sequence and password before the login, and after the reply that it accepts (RFC 2289,
 /// `This is a test.`, seed `test`, SHA-1, numbers 1 and 0).
@@ -103,7 +103,7 @@ fn posts(alloc: Global, login: &Login) -> Result<Vec<MemPost>, Fault>
 /// How a run with a durable log ended, of how many posts, and the disk of its log.
 #[derive(Drop)]
 struct Logged {
-    end: Result<(), ServeError>,
+    end: Result<(), Trouble>,
     posts: usize,
     disk: MemDisk,
 }
@@ -391,14 +391,14 @@ fn no_password_is_taken_again_behind_a_stop(rt: HostRuntime) -> Result<(), Fault
 struct Case {
     log: Option<&'static [u8]>,
     number: u32,
-    error: ServeError,
+    trouble: Trouble,
 }
 
 /// A log that isn't there.
 const MISSING: Case = Case {
     log: None,
     number: 0,
-    error: ServeError::LogNotFresh,
+    trouble: Trouble::LogRefused(LogFault::NotFresh),
 };
 
 const UNFRESH: [Case; 5] = [
@@ -419,13 +419,13 @@ const UNFRESH: [Case; 5] = [
     Case {
         log: Some(b"OTJ1\x00"),
         number: 7,
-        error: ServeError::Unread(ServiceError::Failed),
+        trouble: Trouble::ReadFailed,
     },
 ];
 
 /// Whether a run served nobody for this reason, and made no call to the disk of its log.
-fn is_refused(logged: &Logged, error: ServeError) -> bool {
-    logged.end == Err(error) && logged.posts == 0 && logged.disk.calls() == 0
+fn is_refused(logged: &Logged, trouble: Trouble) -> bool {
+    logged.end == Err(trouble) && logged.posts == 0 && logged.disk.calls() == 0
 }
 
 /// Whether nobody is served by a log of that kind, for that reason, and no call is made to its disk.
@@ -441,7 +441,7 @@ fn is_unserved<R: Threads + Wait + Sync>(
         sent: 0,
     };
     let mut files = files_of(alloc, &login.setup, &login.list, case.log, &[fail])?;
-    Ok(is_refused(&serve_logged(rt, alloc, login, &mut files)?, case.error))
+    Ok(is_refused(&serve_logged(rt, alloc, login, &mut files)?, case.trouble))
 }
 
 /// Whether nobody is served by any of these logs.

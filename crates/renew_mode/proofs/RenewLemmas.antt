@@ -11,14 +11,16 @@ use Rattle.otp_ledger.specs.Accounts.{new_state}
 use Rattle.account_writer.specs.CurrentSetup.{current_accounts, current_setup}
 use Rattle.setup_reading.specs.declared.reading.SetupFileError.{SetupFileError}
 use Rattle.setup_reading.specs.declared.reading.SetupFileError.TheVariants as setup_errors
+use Rattle.trouble.specs.declared.trouble.LogFault.TheVariants as log_faults
+use Rattle.trouble.specs.declared.trouble.Trouble.{Trouble}
+use Rattle.trouble.specs.declared.trouble.Trouble.TheVariants as troubles
+use Rattle.trouble.specs.Reading.{trouble_of_list, trouble_of_setup}
+use Rattle.trouble.proofs.Unread.{list_unread, setup_unread}
 use Rattle.setup_reading.specs.Read.{IsSetupError, IsSetupIn, judged_setup}
 use Rattle.setup_reading.proofs.ReadLemmas.{IsSetupIn-later}
 use Rattle.otp_extended.specs.Commands.{RenewParts}
 use Rattle.renew_mode.specs.declared.basis.Basis.{Basis}
-use Rattle.renew_mode.specs.declared.error.RenewError.{RenewError}
-use Rattle.renew_mode.specs.declared.error.RenewError.TheVariants as errors
-use Rattle.renew_mode.specs.Errors.{error_of_list, error_of_setup}
-use Rattle.renew_mode.specs.Bases.{HasBasis, HasFreshLog, IsFileError, IsReady, IsUnready}
+use Rattle.renew_mode.specs.Bases.{HasBasis, HasFreshLog, IsFileTrouble, IsReady, IsUnready}
 use Rattle.renew_mode.specs.Installing.{IsLogRefused}
 
 -- ---- a setup that is written
@@ -72,49 +74,55 @@ IsReady-before (Some before) (Some between) (Some after) parts basis Step goes s
 }
 
 -- an error of the setup's file
-pub IsFileError-setup : (contents : Option Contents) (name : List ℕ) (ReadFailed : Type 0) (error : SetupFileError) → IsSetupError contents name ReadFailed error → IsFileError contents name ReadFailed (error_of_setup error)
-IsFileError-setup contents name R setup_errors.Failed why = why
-IsFileError-setup contents name R setup_errors.OutOfMemory why = tt
-IsFileError-setup contents name R setup_errors.Missing why = why
-IsFileError-setup contents name R (setup_errors.Refused fault) why = why
+pub IsFileTrouble-setup : (contents : Option Contents) (name : List ℕ) (ReadFailed : Type 0) (error : SetupFileError) → IsSetupError contents name ReadFailed error → IsFileTrouble contents name ReadFailed (trouble_of_setup error)
+IsFileTrouble-setup contents name R setup_errors.Failed why = why
+IsFileTrouble-setup contents name R setup_errors.OutOfMemory why = tt
+IsFileTrouble-setup contents name R setup_errors.Missing why = setup_unread contents name R setup_errors.Missing why
+IsFileTrouble-setup contents name R (setup_errors.Refused fault) why = setup_unread contents name R (setup_errors.Refused fault) why
 
 -- an error of the word list's file, after the setup's
-pub IsFileError-list : (before after : Option Contents) (name : List ℕ) (setup : Settings) (first between last : ℕ) (error : ListError) → Goes SameFiles before after → IsSetupIn before name setup → first ≤ between → IsListFault after setup.words (Rose between last) error → IsFileError after name (Rose first last) (error_of_list error)
-IsFileError-list before after name setup first between last list_errors.Failed goes spelled le why =
+pub IsFileTrouble-list : (before after : Option Contents) (name : List ℕ) (setup : Settings) (first between last : ℕ) (error : ListError) → Goes SameFiles before after → IsSetupIn before name setup → first ≤ between → IsListFault after setup.words (Rose between last) error → IsFileTrouble after name (Rose first last) (trouble_of_list error)
+IsFileTrouble-list before after name setup first between last list_errors.Failed goes spelled le why =
     Rose-within first between last last le why (omega arith)
-IsFileError-list before after name setup first between last list_errors.OutOfMemory goes spelled le why = tt
-IsFileError-list before after name setup first between last list_errors.Missing goes spelled le why =
-    record { setup = setup; spelled = IsSetupIn-later before after name setup goes spelled; unread = why }
-IsFileError-list before after name setup first between last (list_errors.Refused fault) goes spelled le why =
-    record { setup = setup; spelled = IsSetupIn-later before after name setup goes spelled; unread = why }
+IsFileTrouble-list before after name setup first between last list_errors.OutOfMemory goes spelled le why = tt
+IsFileTrouble-list before after name setup first between last list_errors.Missing goes spelled le why =
+    record { setup = setup; spelled = IsSetupIn-later before after name setup goes spelled; unread = list_unread after setup.words (Rose between last) list_errors.Missing why }
+IsFileTrouble-list before after name setup first between last (list_errors.Refused fault) goes spelled le why =
+    record { setup = setup; spelled = IsSetupIn-later before after name setup goes spelled; unread = list_unread after setup.words (Rose between last) (list_errors.Refused fault) why }
 
 -- ---- why the input isn't asked for
 
 -- there is no setup or no word list
-pub IsUnready-file : (parts : RenewParts) (contents : Option Contents) (ReadFailed : Type 0) (error : RenewError) → IsFileError contents parts.setup ReadFailed error → IsUnready parts contents ReadFailed error
-IsUnready-file parts contents R errors.ReadFailed why = why
-IsUnready-file parts contents R errors.SetupMissing why = why
-IsUnready-file parts contents R (errors.SetupRefused fault) why = why
-IsUnready-file parts contents R errors.WordsMissing why = why
-IsUnready-file parts contents R (errors.WordsRefused fault) why = why
-IsUnready-file parts contents R errors.OutOfMemory why = tt
-IsUnready-file parts contents R errors.LogNotFresh why = absurd why
-IsUnready-file parts contents R (errors.NoRenewal fault) why = absurd why
-IsUnready-file parts contents R errors.ReplaceFailed why = absurd why
-IsUnready-file parts contents R errors.SendFailed why = absurd why
+pub IsUnready-file : (parts : RenewParts) (contents : Option Contents) (ReadFailed : Type 0) (trouble : Trouble) → IsFileTrouble contents parts.setup ReadFailed trouble → IsUnready parts contents ReadFailed trouble
+IsUnready-file parts contents R (troubles.LogRefused log_faults.NotFresh) why = absurd why
+IsUnready-file parts contents R troubles.OutOfMemory why = tt
+IsUnready-file parts contents R troubles.ReadFailed why = why
+IsUnready-file parts contents R (troubles.Missing file) why = why
+IsUnready-file parts contents R (troubles.SetupRefused fault) why = why
+IsUnready-file parts contents R (troubles.WordsRefused fault) why = why
+IsUnready-file parts contents R (troubles.LogRefused (log_faults.Record number)) why = why
+IsUnready-file parts contents R (troubles.Serving fault) why = why
+IsUnready-file parts contents R troubles.ReplaceFailed why = why
+IsUnready-file parts contents R troubles.EndsFailed why = why
+IsUnready-file parts contents R troubles.PhraseRefused why = why
+IsUnready-file parts contents R (troubles.ResponseRefused fault) why = why
+IsUnready-file parts contents R (troubles.NoRenewal fault) why = why
 
 -- the log is refused, after a setup and a word list
-pub IsUnready-log : (setup user : List ℕ) (log : Option (List ℕ)) (contents : Option Contents) (basis : Basis) (first between last : ℕ) (error : RenewError) → IfSome contents (HasBasis setup basis) → first ≤ between → IsLogRefused log contents (Rose between last) error → IsUnready (record { setup = setup; user = user; log = log }) contents (Rose first last) error
-IsUnready-log setup user None contents basis first between last error has le refused = absurd refused
-IsUnready-log setup user (Some log) contents basis first between last errors.LogNotFresh has le refused =
+pub IsUnready-log : (setup user : List ℕ) (log : Option (List ℕ)) (contents : Option Contents) (basis : Basis) (first between last : ℕ) (trouble : Trouble) → IfSome contents (HasBasis setup basis) → first ≤ between → IsLogRefused log contents (Rose between last) trouble → IsUnready (record { setup = setup; user = user; log = log }) contents (Rose first last) trouble
+IsUnready-log setup user None contents basis first between last trouble has le refused = absurd refused
+IsUnready-log setup user (Some log) contents basis first between last (troubles.LogRefused log_faults.NotFresh) has le refused =
     record { log = log; named = refl; basis = basis; has = has; unfresh = refused }
-IsUnready-log setup user (Some log) contents basis first between last errors.ReadFailed has le refused =
+IsUnready-log setup user (Some log) contents basis first between last troubles.ReadFailed has le refused =
     Rose-within first between last last le refused (omega arith)
-IsUnready-log setup user (Some log) contents basis first between last errors.OutOfMemory has le refused = tt
-IsUnready-log setup user (Some log) contents basis first between last errors.SetupMissing has le refused = absurd refused
-IsUnready-log setup user (Some log) contents basis first between last (errors.SetupRefused fault) has le refused = absurd refused
-IsUnready-log setup user (Some log) contents basis first between last errors.WordsMissing has le refused = absurd refused
-IsUnready-log setup user (Some log) contents basis first between last (errors.WordsRefused fault) has le refused = absurd refused
-IsUnready-log setup user (Some log) contents basis first between last (errors.NoRenewal fault) has le refused = absurd refused
-IsUnready-log setup user (Some log) contents basis first between last errors.ReplaceFailed has le refused = absurd refused
-IsUnready-log setup user (Some log) contents basis first between last errors.SendFailed has le refused = absurd refused
+IsUnready-log setup user (Some log) contents basis first between last troubles.OutOfMemory has le refused = tt
+IsUnready-log setup user (Some log) contents basis first between last (troubles.Missing file) has le refused = absurd refused
+IsUnready-log setup user (Some log) contents basis first between last (troubles.SetupRefused fault) has le refused = absurd refused
+IsUnready-log setup user (Some log) contents basis first between last (troubles.WordsRefused fault) has le refused = absurd refused
+IsUnready-log setup user (Some log) contents basis first between last (troubles.LogRefused (log_faults.Record number)) has le refused = absurd refused
+IsUnready-log setup user (Some log) contents basis first between last (troubles.Serving fault) has le refused = absurd refused
+IsUnready-log setup user (Some log) contents basis first between last troubles.ReplaceFailed has le refused = absurd refused
+IsUnready-log setup user (Some log) contents basis first between last troubles.EndsFailed has le refused = absurd refused
+IsUnready-log setup user (Some log) contents basis first between last troubles.PhraseRefused has le refused = absurd refused
+IsUnready-log setup user (Some log) contents basis first between last (troubles.ResponseRefused fault) has le refused = absurd refused
+IsUnready-log setup user (Some log) contents basis first between last (troubles.NoRenewal fault) has le refused = absurd refused

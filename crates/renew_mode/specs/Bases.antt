@@ -2,16 +2,16 @@
 use Rattle.std.specs.Prelude.{◌≡◌, ℕ, List, Option, Some, None, Ok, IfSome}
 use Rattle.outside.specs.Files.{Contents}
 use Rattle.policy_model.specs.Settings.{Settings}
-use Rattle.file_front.specs.declared.list.ListError.{ListError}
-use Rattle.file_front.specs.declared.list.ListError.TheVariants as list_errors
-use Rattle.file_front.specs.Lists.{IsJudgedSo, IsListFault}
+use Rattle.file_front.specs.Lists.{IsJudgedSo}
 use Rattle.account_file.specs.Entries.{entries_of}
-use Rattle.setup_reading.specs.declared.reading.SetupFileError.TheVariants as setup_errors
-use Rattle.setup_reading.specs.Read.{IsSetupError, IsSetupIn, setup_in}
+use Rattle.setup_reading.specs.Read.{IsSetupIn, setup_in}
+use Rattle.trouble.specs.declared.trouble.FileKind.TheVariants as kinds
+use Rattle.trouble.specs.declared.trouble.LogFault.TheVariants as log_faults
+use Rattle.trouble.specs.declared.trouble.Trouble.{Trouble}
+use Rattle.trouble.specs.declared.trouble.Trouble.TheVariants as troubles
+use Rattle.trouble.specs.Reading.{IsUnreadList, IsUnreadSetup}
 use Rattle.fresh_log.specs.Fresh.{IsFresh}
 use Rattle.otp_extended.specs.Commands.{RenewParts}
-use Rattle.renew_mode.specs.declared.error.RenewError.{RenewError}
-use Rattle.renew_mode.specs.declared.error.RenewError.TheVariants as errors
 use Rattle.renew_mode.specs.declared.basis.Basis.{Basis}
 
 -- the named file spells the setup, and the file that the setup names has the words
@@ -20,23 +20,19 @@ pub record HasBasis (name : List ℕ) (basis : Basis) (files : Contents) : Type 
   pub listed : IsJudgedSo (Some files) basis.setup.words (Ok basis.dictionary)
 
 -- the named file spells a setup, and the word list that it names wasn't read
-pub record IsListError (contents : Option Contents) (name : List ℕ) (ReadFailed : Type 0)
-    (error : ListError) : Type 0 where
+pub record IsListTrouble (contents : Option Contents) (name : List ℕ) (ReadFailed : Type 0)
+    (trouble : Trouble) : Type 0 where
   pub setup : Settings
   pub spelled : IsSetupIn contents name setup
-  pub unread : IsListFault contents setup.words ReadFailed error
+  pub unread : IsUnreadList contents setup.words ReadFailed trouble
 
 -- why there is no setup or no word list: a read failed, memory ran out, or a file is missing or refused
-abbrev pub IsFileError : Option Contents → List ℕ → Type 0 → RenewError → Type 0
-IsFileError contents name ReadFailed errors.ReadFailed = ReadFailed
-IsFileError contents name ReadFailed errors.SetupMissing = IsSetupError contents name ReadFailed setup_errors.Missing
-IsFileError contents name ReadFailed (errors.SetupRefused fault) =
-    IsSetupError contents name ReadFailed (setup_errors.Refused fault)
-IsFileError contents name ReadFailed errors.WordsMissing = IsListError contents name ReadFailed list_errors.Missing
-IsFileError contents name ReadFailed (errors.WordsRefused fault) =
-    IsListError contents name ReadFailed (list_errors.Refused fault)
-IsFileError contents name ReadFailed errors.OutOfMemory = Unit {0}
-IsFileError contents name ReadFailed _ = ⊥
+abbrev pub IsFileTrouble : Option Contents → List ℕ → Type 0 → Trouble → Type 0
+IsFileTrouble contents name ReadFailed (troubles.Missing kinds.Words) =
+    IsListTrouble contents name ReadFailed (troubles.Missing kinds.Words)
+IsFileTrouble contents name ReadFailed (troubles.WordsRefused fault) =
+    IsListTrouble contents name ReadFailed (troubles.WordsRefused fault)
+IsFileTrouble contents name ReadFailed trouble = IsUnreadSetup contents name ReadFailed trouble
 
 -- a durable log that is named is there and has no records
 abbrev pub HasFreshLog : Option (List ℕ) → Contents → Type 0
@@ -57,6 +53,6 @@ pub record IsUnfresh (parts : RenewParts) (contents : Option Contents) : Type 0 
   pub unfresh : IfSome contents (λ files. IsFresh (files log) → ⊥)
 
 -- why no response was asked for: no setup or no word list was read, or the log isn't fresh
-abbrev pub IsUnready : RenewParts → Option Contents → Type 0 → RenewError → Type 0
-IsUnready parts contents ReadFailed errors.LogNotFresh = IsUnfresh parts contents
-IsUnready parts contents ReadFailed error = IsFileError contents parts.setup ReadFailed error
+abbrev pub IsUnready : RenewParts → Option Contents → Type 0 → Trouble → Type 0
+IsUnready parts contents ReadFailed (troubles.LogRefused log_faults.NotFresh) = IsUnfresh parts contents
+IsUnready parts contents ReadFailed trouble = IsFileTrouble contents parts.setup ReadFailed trouble

@@ -1,4 +1,4 @@
-pub mod Errors
+pub mod Ends
 pub mod Bases
 pub mod Renewing
 pub mod Installing

@@ -4,9 +4,7 @@
 #![tactic(auto)]
 
 mod basis;
-mod error;
 mod run;
 mod texts;
 
-pub use error::RenewError;
-pub use run::{run_renew, status};
+pub use run::run_renew;

@@ -8,28 +8,17 @@ ghost use Rattle.outside.specs.Told.{Goes, Rose};
 ghost use Rattle.otp_mode.specs.Asking.{AsksForLine, AsksOneLine};
 ghost use Rattle.setup_reading.specs.Touching.{OnlyReplaces, TouchesNamed};
 ghost use Rattle.otp_extended.specs.Commands.{command_parts};
-ghost use Rattle.renew_mode.specs.Errors.{ends_before_input, may_be_written, status_of};
+ghost use Rattle.renew_mode.specs.Ends.{ends_before_input, may_be_written};
 ghost use Rattle.renew_mode.specs.Installing.{IsInstalling};
 ghost use Rattle.renew_mode.specs.Outcome.{IsOutcome, Spares, names_of};
 ghost use Rattle.renew_mode.specs.Renewing.{IsPut, IsRenewing};
 
 use crate::basis::{Basis, make_ready};
-use crate::error::RenewError;
 use crate::texts::{Texts, texts_of};
 use otp_extended::{RenewCommand, Renewal, Renewed, receive_renewal};
 use outside::{Files, Stream};
 use std::alloc::Global;
-
-/// The exit status of a program that ends by what came of the mode: 0 for a renewal, else 3, 4, 5, 8,
-/// 9, 11, 12, 13 or 15.
-pub fn status(outcome: Result<Renewed, RenewError>) -> u8
-    ensures { result ≡ status_of outcome }
-{
-    match outcome {
-        Ok(_) => 0,
-        Err(error) => error.status(),
-    }
-}
+use trouble::Trouble;
 
 /// Runs the mode: reads the setup and then the word list that it names, sees that the durable log that is
 /// named, if one is, has no record, receives the first line of the input, and takes it as a response for
@@ -38,15 +27,16 @@ pub fn status(outcome: Result<Renewed, RenewError>) -> u8
 ///
 /// # Errors
 ///
-/// The first error, in this order: of the setup, the word list, the log, receiving the line, the
+/// The first trouble, in this order: of the setup, the word list, the log, receiving the line, the
 /// response, the renewal, memory, replacing the file, sending the line. Memory may also run out at a
-/// file. The file is replaced only if no error came before.
+/// file. The file is replaced only if no trouble came before: where the replacing failed, it is as it was
+/// or has the new chain; where the sending failed, it has it.
 pub fn run_renew<F: Files, E: Stream>(
     alloc: Global,
     command: &RenewCommand<'_>,
     files: &mut F,
     ends: &mut E,
-) -> Result<Renewed, RenewError>
+) -> Result<Renewed, Trouble>
     ensures outcome { IsOutcome (command_parts command.now) (F.contents files.old) (F.contents files.new)
         (E.link ends.old) (E.link ends.new) (Rose (F.read_faults files.old) (F.read_faults files.new))
         (Rose (F.replace_faults files.old) (F.replace_faults files.new))
@@ -70,7 +60,7 @@ fn renew_account<F: Files, E: Stream>(
     basis: &Basis,
     files: &mut F,
     ends: &mut E,
-) -> Result<Renewed, RenewError>
+) -> Result<Renewed, Trouble>
     ensures outcome { IsRenewing (command_parts command.now) basis.now (F.contents files.old) (F.contents files.new)
         (E.link ends.old) (E.link ends.new) (Rose (F.replace_faults files.old) (F.replace_faults files.new))
         (Rose (E.faults ends.old) (E.faults ends.new)) result }
@@ -91,7 +81,7 @@ fn install<F: Files, E: Stream>(
     renewal: &Renewal,
     files: &mut F,
     ends: &mut E,
-) -> Result<Renewed, RenewError>
+) -> Result<Renewed, Trouble>
     ensures outcome { IsInstalling (command_parts command.now) renewal.now (F.contents files.old) (F.contents files.new)
         (E.link ends.old) (E.link ends.new) (Rose (F.replace_faults files.old) (F.replace_faults files.new))
         (Rose (E.faults ends.old) (E.faults ends.new)) result }
@@ -106,7 +96,7 @@ fn install<F: Files, E: Stream>(
 }
 
 /// Writes the new setup, and then tells it.
-fn put<F: Files, E: Stream>(texts: &Texts, files: &mut F, ends: &mut E) -> Result<(), RenewError>
+fn put<F: Files, E: Stream>(texts: &Texts, files: &mut F, ends: &mut E) -> Result<(), Trouble>
     ensures put { IsPut texts.now (F.contents files.old) (F.contents files.new) (E.link ends.old) (E.link ends.new)
         (Rose (F.replace_faults files.old) (F.replace_faults files.new))
         (Rose (E.faults ends.old) (E.faults ends.new)) result }
@@ -116,10 +106,10 @@ fn put<F: Files, E: Stream>(texts: &Texts, files: &mut F, ends: &mut E) -> Resul
     ensures faults { E.faults ends.old ≤ E.faults ends.new }
 {
     if files.replace(&texts.file, texts.bytes.as_slice()).is_err() {
-        return Err(RenewError::ReplaceFailed);
+        return Err(Trouble::ReplaceFailed);
     }
     if ends.send(texts.line.as_slice()).is_err() {
-        return Err(RenewError::SendFailed);
+        return Err(Trouble::EndsFailed);
     }
     Ok(())
 }

@@ -1,6 +1,7 @@
 -- All that serving by a service promises, where somebody was served and where nobody was.
 use Rattle.std.proofs.Common.{◌≡◌, ◌≢◌, ◌⊎◌, ℕ, ◌≤◌, Bool, true, false, List, [], ◌∷◌, ◌++◌, length, Option, Some, None, Result, Ok, Err, refl, sym, ap, subst, ◌∙◌, arith, inl, inr, append-nil}
 use Rattle.std.specs.Prelude.{IfSome, slice_get, is_some}
+use Rattle.std.specs.Result.{result_map_both}
 use Rattle.info_hooks.specs.declared.key.Key.{Key}
 use Rattle.monitor_book.specs.declared.opened.Held.{Held}
 use Rattle.monitor_book.specs.Lines.{AppendsLines, HoldsLines, IsUnwritten, LogMatches}
@@ -26,20 +27,20 @@ use Rattle.setup_reading.proofs.ReadLemmas.{judged-short}
 use Rattle.policy_model.proofs.Legal.{IsLegal-none}
 use Rattle.service_model.specs.Places.{worker_places}
 use Rattle.service_model.specs.Service.{Service}
-use Rattle.service_reading.specs.declared.error.ServiceError.{ServiceError}
-use Rattle.service_reading.specs.declared.error.ServiceError.TheVariants as unread
-use Rattle.service_reading.specs.Errors.{IsServiceError}
-use Rattle.service_reading.specs.Found.{service_in}
+use Rattle.service_reading.specs.Found as services
 use Rattle.session_core.proofs.ReplayLemmas.{consequences}
-use Rattle.serve_mode.specs.declared.error.ServeError.{ServeError}
-use Rattle.serve_mode.specs.declared.error.ServeError.TheVariants as errors
+use Rattle.trouble.specs.declared.trouble.LogFault.TheVariants as log_faults
+use Rattle.trouble.specs.declared.trouble.ServeFault.TheVariants as serving
+use Rattle.trouble.specs.declared.trouble.Trouble.{Trouble}
+use Rattle.trouble.specs.declared.trouble.Trouble.TheVariants as troubles
+use Rattle.trouble.specs.Reading.{service_in, trouble_of_service}
+use Rattle.trouble.specs.Status.{status_of, trouble_status}
 use Rattle.serve_mode.proofs.StillLemmas.{IsServiceOf, plain_service, service_of, service_still}
 use Rattle.serve_mode.specs.Accounts.{AccountsMatch, AreAccountsWritten}
 use Rattle.serve_mode.specs.AroundRun.{AroundRun}
-use Rattle.serve_mode.specs.Errors.{IsUnread, error_status, status_of, unread_status}
 use Rattle.serve_mode.specs.Headline.{NoFault, OfServed, ServeHasCause, ServePromises, is_run_status, is_unserved_status, served_places, setup_place}
 use Rattle.fresh_log.specs.Fresh.{IsFresh}
-use Rattle.serve_mode.specs.Services.{IsServable, IsServedBy, IsUnfresh, tell_throughout}
+use Rattle.serve_mode.specs.Services.{IsEndedBy, IsServable, IsServedBy, IsUnfresh, IsUnread, tell_throughout}
 use Rattle.serve_mode.specs.Steps.{IsUnready, RunEnded, WritesBack, WritesNamed, run_end}
 use Rattle.serve_mode.specs.Keeping.{ServeKeeps}
 use Rattle.serve_mode.specs.Users.{KeepsUsers}
@@ -48,21 +49,21 @@ use Rattle.serve_mode.specs.Words.{Named, Plain, Source}
 -- ---- the end of a run
 
 -- what a run's end tells
-record EndTells (end : Result (Unit {0}) ServeError) (written : Result (Unit {0}) ServeError) (lost failed : Bool) : Type 0 where
+record EndTells (end : Result (Unit {0}) Trouble) (written : Result (Unit {0}) Trouble) (lost failed : Bool) : Type 0 where
   pub served : is_unserved_status (status_of end) ≡ false
   pub six : status_of end ≢ 6
   pub three : status_of end ≢ 3
   pub lost_is : lost ≡ true → (status_of end ≡ 7) ⊎ (status_of end ≡ 9)
   pub seven : status_of end ≡ 7 → lost ≡ true
   pub ten : status_of end ≡ 10 → failed ≡ true
-  pub eight : status_of end ≡ 8 → written ≡ Err errors.ReplaceFailed
+  pub eight : status_of end ≡ 8 → written ≡ Err troubles.ReplaceFailed
   pub zero : status_of end ≡ 0 → (lost ≡ false) × (failed ≡ false) × (written ≡ Ok tt)
-  pub printed : is_run_status (status_of end) ≡ true → written ≢ Err errors.OutOfMemory
-  pub unprinted : is_run_status (status_of end) ≡ false → written ≡ Err errors.OutOfMemory
-  pub well : lost ≡ false → failed ≡ false → written ≢ Err errors.ReplaceFailed → (status_of end ≡ 0) ⊎ (status_of end ≡ 9)
+  pub printed : is_run_status (status_of end) ≡ true → written ≢ Err troubles.OutOfMemory
+  pub unprinted : is_run_status (status_of end) ≡ false → written ≡ Err troubles.OutOfMemory
+  pub well : lost ≡ false → failed ≡ false → written ≢ Err troubles.ReplaceFailed → (status_of end ≡ 0) ⊎ (status_of end ≡ 9)
 
 -- no memory was found for the accounts
-at_no_memory : (end written : Result (Unit {0}) ServeError) (lost failed : Bool) → status_of end ≡ 9 → written ≡ Err errors.OutOfMemory → EndTells end written lost failed
+at_no_memory : (end written : Result (Unit {0}) Trouble) (lost failed : Bool) → status_of end ≡ 9 → written ≡ Err troubles.OutOfMemory → EndTells end written lost failed
 at_no_memory end written lost failed is oom = record {
   served = ap is_unserved_status is;
   six = λ e. omega (arith, is, e);
@@ -78,7 +79,7 @@ at_no_memory end written lost failed is oom = record {
 }
 
 -- a decision was lost
-at_loss : (end written : Result (Unit {0}) ServeError) (lost failed : Bool) → status_of end ≡ 7 → lost ≡ true → written ≢ Err errors.OutOfMemory → EndTells end written lost failed
+at_loss : (end written : Result (Unit {0}) Trouble) (lost failed : Bool) → status_of end ≡ 7 → lost ≡ true → written ≢ Err troubles.OutOfMemory → EndTells end written lost failed
 at_loss end written lost failed is some printed = record {
   served = ap is_unserved_status is;
   six = λ e. omega (arith, is, e);
@@ -94,7 +95,7 @@ at_loss end written lost failed is some printed = record {
 }
 
 -- an accept failed
-at_accept : (end written : Result (Unit {0}) ServeError) (lost failed : Bool) → status_of end ≡ 10 → lost ≡ false → failed ≡ true → written ≢ Err errors.OutOfMemory → EndTells end written lost failed
+at_accept : (end written : Result (Unit {0}) Trouble) (lost failed : Bool) → status_of end ≡ 10 → lost ≡ false → failed ≡ true → written ≢ Err troubles.OutOfMemory → EndTells end written lost failed
 at_accept end written lost failed is kept some printed = record {
   served = ap is_unserved_status is;
   six = λ e. omega (arith, is, e);
@@ -110,7 +111,7 @@ at_accept end written lost failed is kept some printed = record {
 }
 
 -- the accounts were not written
-at_replace : (end written : Result (Unit {0}) ServeError) (lost failed : Bool) → status_of end ≡ 8 → lost ≡ false → written ≡ Err errors.ReplaceFailed → EndTells end written lost failed
+at_replace : (end written : Result (Unit {0}) Trouble) (lost failed : Bool) → status_of end ≡ 8 → lost ≡ false → written ≡ Err troubles.ReplaceFailed → EndTells end written lost failed
 at_replace end written lost failed is kept unwritten = record {
   served = ap is_unserved_status is;
   six = λ e. omega (arith, is, e);
@@ -120,13 +121,13 @@ at_replace end written lost failed is kept unwritten = record {
   ten = λ e. absurd (omega (arith, is, e));
   eight = λ e. unwritten;
   zero = λ e. absurd (omega (arith, is, e));
-  printed = λ e h. absurd (let f : ◌≡◌ {A = Result (Unit {0}) ServeError} (Err errors.ReplaceFailed) (Err errors.OutOfMemory) = sym unwritten ∙ h in cc);
+  printed = λ e h. absurd (let f : ◌≡◌ {A = Result (Unit {0}) Trouble} (Err troubles.ReplaceFailed) (Err troubles.OutOfMemory) = sym unwritten ∙ h in cc);
   unprinted = λ e. absurd (let f : true ≡ false = sym (ap is_run_status is) ∙ e in cc);
   well = λ h k r. absurd (r unwritten);
 }
 
 -- all went well
-at_success : (end written : Result (Unit {0}) ServeError) (lost failed : Bool) → status_of end ≡ 0 → lost ≡ false → failed ≡ false → written ≡ Ok tt → EndTells end written lost failed
+at_success : (end written : Result (Unit {0}) Trouble) (lost failed : Bool) → status_of end ≡ 0 → lost ≡ false → failed ≡ false → written ≡ Ok tt → EndTells end written lost failed
 at_success end written lost failed is kept none done = record {
   served = ap is_unserved_status is;
   six = λ e. omega (arith, is, e);
@@ -136,46 +137,52 @@ at_success end written lost failed is kept none done = record {
   ten = λ e. absurd (omega (arith, is, e));
   eight = λ e. absurd (omega (arith, is, e));
   zero = λ e. (kept, none, done);
-  printed = λ e h. absurd (let f : ◌≡◌ {A = Result (Unit {0}) ServeError} (Ok tt) (Err errors.OutOfMemory) = sym done ∙ h in cc);
+  printed = λ e h. absurd (let f : ◌≡◌ {A = Result (Unit {0}) Trouble} (Ok tt) (Err troubles.OutOfMemory) = sym done ∙ h in cc);
   unprinted = λ e. absurd (let f : true ≡ false = sym (ap is_run_status is) ∙ e in cc);
   well = λ h k r. inl is;
 }
 
 -- what writing back comes to
-abbrev IsWritten : Result (Unit {0}) ServeError → Type 0
-IsWritten written = (written ≡ Ok tt) ⊎ (written ≡ Err errors.OutOfMemory) ⊎ (written ≡ Err errors.ReplaceFailed)
+abbrev IsWritten : Result (Unit {0}) Trouble → Type 0
+IsWritten written = (written ≡ Ok tt) ⊎ (written ≡ Err troubles.OutOfMemory) ⊎ (written ≡ Err troubles.ReplaceFailed)
 
-named_end : (name : List ℕ) (setup : Settings) (ledger : LedgerParts) (old new : Option Contents) (ReplaceRose : Type 0) (written : Result (Unit {0}) ServeError) → WritesNamed name setup ledger old new ReplaceRose written → IsWritten written
+named_end : (name : List ℕ) (setup : Settings) (ledger : LedgerParts) (old new : Option Contents) (ReplaceRose : Type 0) (written : Result (Unit {0}) Trouble) → WritesNamed name setup ledger old new ReplaceRose written → IsWritten written
 named_end name setup ledger old new ReplaceRose (Ok done) w = inl refl
-named_end name setup ledger old new ReplaceRose (Err errors.OutOfMemory) w = inr (inl refl)
-named_end name setup ledger old new ReplaceRose (Err errors.ReplaceFailed) w = inr (inr refl)
-named_end name setup ledger old new ReplaceRose (Err (errors.Unread error)) w = absurd w
-named_end name setup ledger old new ReplaceRose (Err errors.ListenFailed) w = absurd w
-named_end name setup ledger old new ReplaceRose (Err errors.LogLost) w = absurd w
-named_end name setup ledger old new ReplaceRose (Err errors.AcceptFailed) w = absurd w
-named_end name setup ledger old new ReplaceRose (Err errors.LogNotFresh) w = absurd w
+named_end name setup ledger old new ReplaceRose (Err troubles.OutOfMemory) w = inr (inl refl)
+named_end name setup ledger old new ReplaceRose (Err troubles.ReplaceFailed) w = inr (inr refl)
+named_end name setup ledger old new ReplaceRose (Err troubles.ReadFailed) w = absurd w
+named_end name setup ledger old new ReplaceRose (Err (troubles.Missing _)) w = absurd w
+named_end name setup ledger old new ReplaceRose (Err (troubles.SetupRefused _)) w = absurd w
+named_end name setup ledger old new ReplaceRose (Err (troubles.WordsRefused _)) w = absurd w
+named_end name setup ledger old new ReplaceRose (Err (troubles.LogRefused (log_faults.Record _))) w = absurd w
+named_end name setup ledger old new ReplaceRose (Err (troubles.LogRefused log_faults.NotFresh)) w = absurd w
+named_end name setup ledger old new ReplaceRose (Err (troubles.Serving _)) w = absurd w
+named_end name setup ledger old new ReplaceRose (Err (troubles.ResponseRefused _)) w = absurd w
+named_end name setup ledger old new ReplaceRose (Err (troubles.NoRenewal _)) w = absurd w
+named_end name setup ledger old new ReplaceRose (Err troubles.EndsFailed) w = absurd w
+named_end name setup ledger old new ReplaceRose (Err troubles.PhraseRefused) w = absurd w
 
-written_end : (source : Source) (setup : Settings) (ledger : LedgerParts) (old new : Option Contents) (ReplaceRose : Type 0) (written : Result (Unit {0}) ServeError) → WritesBack source setup ledger old new ReplaceRose written → IsWritten written
+written_end : (source : Source) (setup : Settings) (ledger : LedgerParts) (old new : Option Contents) (ReplaceRose : Type 0) (written : Result (Unit {0}) Trouble) → WritesBack source setup ledger old new ReplaceRose written → IsWritten written
 written_end Plain setup ledger old new ReplaceRose written w = inl w.0
 written_end (Named name log) setup ledger old new ReplaceRose written w = named_end name setup ledger old new ReplaceRose written w
 
 -- the same for each way of writing back, of losing and of accepting
-end_tells : (written : Result (Unit {0}) ServeError) (lost failed : Bool) → IsWritten written → EndTells (run_end written lost failed) written lost failed
-end_tells written lost failed (inr (inl oom)) = subst (λ w. EndTells (run_end w lost failed) w lost failed) (sym oom) (at_no_memory (Err errors.OutOfMemory) (Err errors.OutOfMemory) lost failed refl refl)
+end_tells : (written : Result (Unit {0}) Trouble) (lost failed : Bool) → IsWritten written → EndTells (run_end written lost failed) written lost failed
+end_tells written lost failed (inr (inl oom)) = subst (λ w. EndTells (run_end w lost failed) w lost failed) (sym oom) (at_no_memory (Err troubles.OutOfMemory) (Err troubles.OutOfMemory) lost failed refl refl)
 end_tells written lost failed (inl done) = subst (λ w. EndTells (run_end w lost failed) w lost failed) (sym done) (go lost failed) where
   go : (lost failed : Bool) → EndTells (run_end (Ok tt) lost failed) (Ok tt) lost failed
-  go true failed = at_loss (Err errors.LogLost) (Ok tt) true failed refl refl (λ e. absurd cc)
-  go false true = at_accept (Err errors.AcceptFailed) (Ok tt) false true refl refl refl (λ e. absurd cc)
+  go true failed = at_loss (Err (troubles.Serving serving.LogLost)) (Ok tt) true failed refl refl (λ e. absurd cc)
+  go false true = at_accept (Err (troubles.Serving serving.AcceptFailed)) (Ok tt) false true refl refl refl (λ e. absurd cc)
   go false false = at_success (Ok tt) (Ok tt) false false refl refl refl refl
 end_tells written lost failed (inr (inr not)) = subst (λ w. EndTells (run_end w lost failed) w lost failed) (sym not) (go lost failed) where
-  go : (lost failed : Bool) → EndTells (run_end (Err errors.ReplaceFailed) lost failed) (Err errors.ReplaceFailed) lost failed
-  go true failed = at_loss (Err errors.LogLost) (Err errors.ReplaceFailed) true failed refl refl (λ e. absurd cc)
-  go false true = at_accept (Err errors.AcceptFailed) (Err errors.ReplaceFailed) false true refl refl refl (λ e. absurd cc)
-  go false false = at_replace (Err errors.ReplaceFailed) (Err errors.ReplaceFailed) false false refl refl refl
+  go : (lost failed : Bool) → EndTells (run_end (Err troubles.ReplaceFailed) lost failed) (Err troubles.ReplaceFailed) lost failed
+  go true failed = at_loss (Err (troubles.Serving serving.LogLost)) (Err troubles.ReplaceFailed) true failed refl refl (λ e. absurd cc)
+  go false true = at_accept (Err (troubles.Serving serving.AcceptFailed)) (Err troubles.ReplaceFailed) false true refl refl refl (λ e. absurd cc)
+  go false false = at_replace (Err troubles.ReplaceFailed) (Err troubles.ReplaceFailed) false false refl refl refl
 
 -- that the accounts were not replaced has its cause
-replace_rose : (source : Source) (setup : Settings) (ledger : LedgerParts) (old new : Option Contents) (ReplaceRose : Type 0) (written : Result (Unit {0}) ServeError) → WritesBack source setup ledger old new ReplaceRose written → written ≡ Err errors.ReplaceFailed → ReplaceRose
-replace_rose Plain setup ledger old new ReplaceRose written w is = absurd (let f : ◌≡◌ {A = Result (Unit {0}) ServeError} (Ok tt) (Err errors.ReplaceFailed) = sym w.0 ∙ is in cc)
+replace_rose : (source : Source) (setup : Settings) (ledger : LedgerParts) (old new : Option Contents) (ReplaceRose : Type 0) (written : Result (Unit {0}) Trouble) → WritesBack source setup ledger old new ReplaceRose written → written ≡ Err troubles.ReplaceFailed → ReplaceRose
+replace_rose Plain setup ledger old new ReplaceRose written w is = absurd (let f : ◌≡◌ {A = Result (Unit {0}) Trouble} (Ok tt) (Err troubles.ReplaceFailed) = sym w.0 ∙ is in cc)
 replace_rose (Named name log) setup ledger old new ReplaceRose written w is = (subst (WritesNamed name setup ledger old new ReplaceRose) is w).2
 
 -- ---- the accounts
@@ -199,7 +206,7 @@ maybe_through name bytes a b c kept m = record { either = go m.either } where
 file_judged : (setup : Settings) (bytes : List ℕ) → IsFileOf setup bytes → judged_setup bytes ≡ Ok (entries_of setup)
 file_judged setup bytes is = judged-short bytes (entries_of setup) is.few (file_read setup bytes is)
 
-accounts_named : (name : List ℕ) (setup : Settings) (ledger : LedgerParts) (end written : Result (Unit {0}) ServeError) (lost failed : Bool) (journal : List Event) (before after : FilesNow) (mid : Option Contents) → EndTells end written lost failed → StandsFor ledger (kept_events journal) → Goes SameFiles before.contents mid → WritesNamed name setup ledger mid after.contents (Rose before.replace_faults after.replace_faults) written → IsWritten written → AreAccountsWritten name setup (status_of end) journal before after
+accounts_named : (name : List ℕ) (setup : Settings) (ledger : LedgerParts) (end written : Result (Unit {0}) Trouble) (lost failed : Bool) (journal : List Event) (before after : FilesNow) (mid : Option Contents) → EndTells end written lost failed → StandsFor ledger (kept_events journal) → Goes SameFiles before.contents mid → WritesNamed name setup ledger mid after.contents (Rose before.replace_faults after.replace_faults) written → IsWritten written → AreAccountsWritten name setup (status_of end) journal before after
 accounts_named name setup ledger end written lost failed journal before after mid tells stands kept w (inl done) =
     let did = subst (WritesNamed name setup ledger mid after.contents (Rose before.replace_faults after.replace_faults)) done w in
     let file = did.1.by_journal (kept_events journal) stands in
@@ -210,8 +217,8 @@ accounts_named name setup ledger end written lost failed journal before after mi
       file = λ _. file;
       written = λ _. goes;
       tried = λ _. inl goes;
-      failed = λ e. absurd (let f : ◌≡◌ {A = Result (Unit {0}) ServeError} (Ok tt) (Err errors.ReplaceFailed) = sym done ∙ tells.eight e in cc);
-      unwritten = λ e. absurd (let f : ◌≡◌ {A = Result (Unit {0}) ServeError} (Ok tt) (Err errors.OutOfMemory) = sym done ∙ tells.unprinted e in cc);
+      failed = λ e. absurd (let f : ◌≡◌ {A = Result (Unit {0}) Trouble} (Ok tt) (Err troubles.ReplaceFailed) = sym done ∙ tells.eight e in cc);
+      unwritten = λ e. absurd (let f : ◌≡◌ {A = Result (Unit {0}) Trouble} (Ok tt) (Err troubles.OutOfMemory) = sym done ∙ tells.unprinted e in cc);
     }
 accounts_named name setup ledger end written lost failed journal before after mid tells stands kept w (inr (inl oom)) =
     let did = subst (WritesNamed name setup ledger mid after.contents (Rose before.replace_faults after.replace_faults)) oom w in
@@ -235,56 +242,56 @@ accounts_named name setup ledger end written lost failed journal before after mi
       bytes = did.0;
       spells = λ _. file_judged (setup_after setup (kept_events journal)) did.0 file;
       file = λ _. file;
-      written = λ e. absurd (let f : ◌≡◌ {A = Result (Unit {0}) ServeError} (Err errors.ReplaceFailed) (Ok tt) = sym not ∙ (tells.zero e).2 in cc);
+      written = λ e. absurd (let f : ◌≡◌ {A = Result (Unit {0}) Trouble} (Err troubles.ReplaceFailed) (Ok tt) = sym not ∙ (tells.zero e).2 in cc);
       tried = λ _. inr (did.2, goes);
       failed = λ _. (did.2, goes);
-      unwritten = λ e. absurd (let f : ◌≡◌ {A = Result (Unit {0}) ServeError} (Err errors.ReplaceFailed) (Err errors.OutOfMemory) = sym not ∙ tells.unprinted e in cc);
+      unwritten = λ e. absurd (let f : ◌≡◌ {A = Result (Unit {0}) Trouble} (Err troubles.ReplaceFailed) (Err troubles.OutOfMemory) = sym not ∙ tells.unprinted e in cc);
     }
 
-accounts_match : (source : Source) (setup : Settings) (ledger : LedgerParts) (end written : Result (Unit {0}) ServeError) (lost failed : Bool) (journal : List Event) (before after : FilesNow) (mid : Option Contents) → EndTells end written lost failed → StandsFor ledger (kept_events journal) → Goes SameFiles before.contents mid → WritesBack source setup ledger mid after.contents (Rose before.replace_faults after.replace_faults) written → IsWritten written → AccountsMatch source setup (status_of end) journal before after
+accounts_match : (source : Source) (setup : Settings) (ledger : LedgerParts) (end written : Result (Unit {0}) Trouble) (lost failed : Bool) (journal : List Event) (before after : FilesNow) (mid : Option Contents) → EndTells end written lost failed → StandsFor ledger (kept_events journal) → Goes SameFiles before.contents mid → WritesBack source setup ledger mid after.contents (Rose before.replace_faults after.replace_faults) written → IsWritten written → AccountsMatch source setup (status_of end) journal before after
 accounts_match Plain setup ledger end written lost failed journal before after mid tells stands kept w is = same_then before.contents mid after.contents SameFiles same_through kept w.1
 accounts_match (Named name log) setup ledger end written lost failed journal before after mid tells stands kept w is = accounts_named name setup ledger end written lost failed journal before after mid tells stands kept w is
 
--- an end that a run which was served doesn't come to
-abbrev IsUnbegun : Result (Unit {0}) ServeError → Type 0
-IsUnbegun (Err (errors.Unread error)) = Unit {0}
-IsUnbegun (Err errors.LogNotFresh) = Unit {0}
-IsUnbegun (Err errors.ListenFailed) = Unit {0}
-IsUnbegun _ = ⊥
+-- what is known of an end of a run that was served is what its trouble says
+served_ends : (source : Source) (forms : List Key) (contents : Option Contents) (ReadFailed : Type 0) (written : Result (Unit {0}) Trouble) (lost failed : Bool) → IsWritten written → (trouble : Trouble) → run_end written lost failed ≡ Err trouble → IsEndedBy source forms contents ReadFailed trouble
+served_ends source forms contents R written lost failed is trouble ends = at is where
+  Known : Trouble → Type 0
+  Known t = IsEndedBy source forms contents R t
 
-served_begins : (source : Source) (setup : Settings) (ledger : LedgerParts) (old new : Option Contents) (ReplaceRose : Type 0) (written : Result (Unit {0}) ServeError) (lost failed : Bool) → WritesBack source setup ledger old new ReplaceRose written → IsUnbegun (run_end written lost failed) → ⊥
-served_begins source setup ledger old new ReplaceRose written lost failed w is = at (written_end source setup ledger old new ReplaceRose written w) where
-  whole : (lost failed : Bool) → IsUnbegun (run_end (Ok tt) lost failed) → ⊥
-  whole true failed is = is
-  whole false true is = is
-  whole false false is = is
+  named : (known : Trouble) → Known known → ◌≡◌ {A = Result (Unit {0}) Trouble} (Err known) (Err trouble) → Known trouble
+  named known has e = subst Known (let same : known ≡ trouble = cc in same) has
 
-  unwritten : (lost failed : Bool) → IsUnbegun (run_end (Err errors.ReplaceFailed) lost failed) → ⊥
-  unwritten true failed is = is
-  unwritten false true is = is
-  unwritten false false is = is
+  whole : (lost failed : Bool) → run_end (Ok tt) lost failed ≡ Err trouble → Known trouble
+  whole true failed e = named (troubles.Serving serving.LogLost) tt e
+  whole false true e = named (troubles.Serving serving.AcceptFailed) tt e
+  whole false false e = absurd cc
 
-  at : IsWritten written → ⊥
-  at (inl done) = whole lost failed (subst (λ w. IsUnbegun (run_end w lost failed)) done is)
-  at (inr (inl oom)) = subst (λ w. IsUnbegun (run_end w lost failed)) oom is
-  at (inr (inr not)) = unwritten lost failed (subst (λ w. IsUnbegun (run_end w lost failed)) not is)
+  unwritten : (lost failed : Bool) → run_end (Err troubles.ReplaceFailed) lost failed ≡ Err trouble → Known trouble
+  unwritten true failed e = named (troubles.Serving serving.LogLost) tt e
+  unwritten false true e = named (troubles.Serving serving.AcceptFailed) tt e
+  unwritten false false e = named troubles.ReplaceFailed tt e
+
+  at : IsWritten written → Known trouble
+  at (inl done) = whole lost failed (subst (λ w. run_end w lost failed ≡ Err trouble) done ends)
+  at (inr (inl oom)) = named troubles.OutOfMemory tt (subst (λ w. run_end w lost failed ≡ Err trouble) oom ends)
+  at (inr (inr not)) = unwritten lost failed (subst (λ w. run_end w lost failed ≡ Err trouble) not ends)
 
 -- the plain setup's accounts are written nowhere, so no memory is needed for them
 plain_printed : (source : Source) (setup : Settings) (ledger : LedgerParts) (old new : Option Contents)
-    (ReplaceRose : Type 0) (written : Result (Unit {0}) ServeError) (lost failed : Bool)
+    (ReplaceRose : Type 0) (written : Result (Unit {0}) Trouble) (lost failed : Bool)
     → WritesBack source setup ledger old new ReplaceRose written
-    → run_end written lost failed ≡ Err errors.OutOfMemory → source ≢ Plain
+    → run_end written lost failed ≡ Err troubles.OutOfMemory → source ≢ Plain
 plain_printed source setup ledger old new ReplaceRose written lost failed w is plain =
     let did = subst (λ s. WritesBack s setup ledger old new ReplaceRose written) plain w in
-    at lost failed (subst (λ r. run_end r lost failed ≡ Err errors.OutOfMemory) did.0 is) where
-      at : (lost failed : Bool) → run_end (Ok tt) lost failed ≡ Err errors.OutOfMemory → ⊥
+    at lost failed (subst (λ r. run_end r lost failed ≡ Err troubles.OutOfMemory) did.0 is) where
+      at : (lost failed : Bool) → run_end (Ok tt) lost failed ≡ Err troubles.OutOfMemory → ⊥
       at true failed is = absurd cc
       at false true is = absurd cc
       at false false is = absurd cc
 
 -- ---- where somebody was served
 
-module _ (source : Source) (service : Service) (ledger : LedgerParts) (written : Result (Unit {0}) ServeError) (failed : Bool) (journal : List Event) (posts : List PostNow) (before after : AroundRun) (mid : Option Contents) (ran : RunPromises service failed journal posts before.held after.held before.log_faults after.log_faults) (writes : WritesBack source service.setup ledger mid after.files.contents (Rose before.files.replace_faults after.files.replace_faults) written) where
+module _ (source : Source) (service : Service) (ledger : LedgerParts) (written : Result (Unit {0}) Trouble) (failed : Bool) (journal : List Event) (posts : List PostNow) (before after : AroundRun) (mid : Option Contents) (ran : RunPromises service failed journal posts before.held after.held before.log_faults after.log_faults) (writes : WritesBack source service.setup ledger mid after.files.contents (Rose before.files.replace_faults after.files.replace_faults) written) where
   tells : EndTells (run_end written (has_lost journal) failed) written (has_lost journal) failed
   tells = end_tells written (has_lost journal) failed (written_end source service.setup ledger mid after.files.contents (Rose before.files.replace_faults after.files.replace_faults) written writes)
 
@@ -357,7 +364,7 @@ module _ (source : Source) (service : Service) (ledger : LedgerParts) (written :
   }
 
   -- all of it, under the name of the end that was handed out
-  pub served_ended : (forms : List Key) (end : Result (Unit {0}) ServeError) → end ≡ run_end written (has_lost journal) failed → IsServedBy source forms before.files.contents after.files.contents service → ((other : Service) → IsServiceOf source forms before.files.contents after.files.contents other → other ≡ service) → 1 ≤ service.setup.workers → StandsFor ledger (kept_events journal) → Goes SameFiles before.files.contents mid → Gains before.listens (setup_place service.setup ∷ []) after.listens
+  pub served_ended : (forms : List Key) (end : Result (Unit {0}) Trouble) → end ≡ run_end written (has_lost journal) failed → IsServedBy source forms before.files.contents after.files.contents service → ((other : Service) → IsServiceOf source forms before.files.contents after.files.contents other → other ≡ service) → 1 ≤ service.setup.workers → StandsFor ledger (kept_events journal) → Goes SameFiles before.files.contents mid → Gains before.listens (setup_place service.setup ∷ []) after.listens
       → RunEnded source forms end journal posts before after
   served_ended forms end is by same some stands kept listens =
       let promises = served_promises some stands kept listens in
@@ -375,9 +382,7 @@ module _ (source : Source) (service : Service) (ledger : LedgerParts) (written :
         };
         serve = record {
           causes = served_causes some;
-          unread = λ error e. absurd (served_begins source service.setup ledger mid after.files.contents (Rose before.files.replace_faults after.files.replace_faults) written (has_lost journal) failed writes (subst IsUnbegun (sym e) tt));
-          unfresh = λ e. absurd (served_begins source service.setup ledger mid after.files.contents (Rose before.files.replace_faults after.files.replace_faults) written (has_lost journal) failed writes (subst IsUnbegun (sym e) tt));
-          ready = λ e. absurd (served_begins source service.setup ledger mid after.files.contents (Rose before.files.replace_faults after.files.replace_faults) written (has_lost journal) failed writes (subst IsUnbegun (sym e) tt));
+          ended = λ trouble e. served_ends source forms after.files.contents (Rose before.files.read_faults after.files.read_faults) written (has_lost journal) failed (written_end source service.setup ledger mid after.files.contents (Rose before.files.replace_faults after.files.replace_faults) written writes) trouble e;
           printed = λ e _. plain_printed source service.setup ledger mid after.files.contents (Rose before.files.replace_faults after.files.replace_faults) written (has_lost journal) failed writes e;
           promises = of_served forms serve by same promises;
           unlogged = λ none. absurd (unserved none);
@@ -478,20 +483,18 @@ module _ (source : Source) (service : Service) (status : ℕ) (journal : List Ev
     not n is e = let f : true ≡ false = sym is ∙ ap is_run_status (sym e) ∙ not_run in absurd cc
 
 -- nobody was served, for an error that isn't that of a run
-pub record TellsUnserved (error : ServeError) (ReadRose ListenRose : Type 0) : Type 0 where
-  pub not_run : is_run_status (error_status error) ≡ false
-  pub three : error_status error ≡ 3 → ReadRose
-  pub six : error_status error ≡ 6 → ListenRose
+pub record TellsUnserved (error : Trouble) (ReadRose ListenRose : Type 0) : Type 0 where
+  pub not_run : is_run_status (trouble_status error) ≡ false
+  pub three : trouble_status error ≡ 3 → ReadRose
+  pub six : trouble_status error ≡ 6 → ListenRose
 
 -- why nobody was served, by all that is said of it
-pub record TellsWhy (source : Source) (forms : List Key) (old new : Option Contents) (error : ServeError) (ReadRose ListenRose : Type 0) : Type 0 where
+pub record TellsWhy (source : Source) (forms : List Key) (old new : Option Contents) (error : Trouble) (ReadRose ListenRose : Type 0) : Type 0 where
   pub tells : TellsUnserved error ReadRose ListenRose
-  pub nine : (service : Service) → IsServiceOf source forms old new service → ¬ ReadRose → ¬ ListenRose → error_status error ≡ 9
-  pub unread : (other : ServiceError) → error ≡ errors.Unread other → IsUnread source forms new ReadRose other
-  pub unfresh : error ≡ errors.LogNotFresh → IsUnfresh source forms new
-  pub ready : error ≡ errors.ListenFailed → IsServable source forms new
+  pub nine : (service : Service) → IsServiceOf source forms old new service → ¬ ReadRose → ¬ ListenRose → trouble_status error ≡ 9
+  pub ended : IsEndedBy source forms new ReadRose error
 
-pub unserved_ended : (source : Source) (forms : List Key) (error : ServeError) (end : Result (Unit {0}) ServeError) (journal : List Event) (posts : List PostNow) (before after : AroundRun)
+pub unserved_ended : (source : Source) (forms : List Key) (error : Trouble) (end : Result (Unit {0}) Trouble) (journal : List Event) (posts : List PostNow) (before after : AroundRun)
     → end ≡ Err error → TellsWhy source forms before.files.contents after.files.contents error (Rose before.files.read_faults after.files.read_faults) (Rose before.listen_faults after.listen_faults) → journal ≡ [] → posts ≡ [] → Goes SameFiles before.files.contents after.files.contents → Gains before.listens [] after.listens → IsUnwritten before.held after.held
     → RunEnded source forms end journal posts before after
 unserved_ended source forms error end journal posts before after is why events none kept listens log =
@@ -501,88 +504,45 @@ unserved_ended source forms error end journal posts before after is why events n
           some = inl none;
           all = λ service told asked. record {
             serves = serves service told asked;
-            users = unserved_users source service (error_status error) journal posts events none before after;
-            accounts = unserved_accounts source service (error_status error) journal posts events none before after why.tells.not_run kept;
+            users = unserved_users source service (trouble_status error) journal posts events none before after;
+            accounts = unserved_accounts source service (trouble_status error) journal posts events none before after why.tells.not_run kept;
             numbers = numbers_none service.setup journal posts events none;
           };
         };
         unchanged = λ _. kept;
       };
       serve = record {
-        causes = unserved_causes source (plain_service forms) (error_status error) journal posts events none before after why.tells.not_run why.tells.three why.tells.six;
-        unread = λ other e. why.unread other (let f : ◌≡◌ {A = Result (Unit {0}) ServeError} (Err error) (Err (errors.Unread other)) = e in cc);
-        unfresh = λ e. why.unfresh (let f : ◌≡◌ {A = Result (Unit {0}) ServeError} (Err error) (Err errors.LogNotFresh) = e in cc);
-        ready = λ e. why.ready (let f : ◌≡◌ {A = Result (Unit {0}) ServeError} (Err error) (Err errors.ListenFailed) = e in cc);
+        causes = unserved_causes source (plain_service forms) (trouble_status error) journal posts events none before after why.tells.not_run why.tells.three why.tells.six;
+        ended = λ trouble e. subst (IsEndedBy source forms after.files.contents (Rose before.files.read_faults after.files.read_faults)) (let f : ◌≡◌ {A = Result (Unit {0}) Trouble} (Err error) (Err trouble) = e in let same : error ≡ trouble = cc in same) why.ended;
         printed = λ _ some. absurd (some none);
         promises = record { some = inl none; all = serves };
         unlogged = λ _. log;
         unlistened = λ _. listens;
       };
     }) where
-      serves : (service : Service) → tell_throughout source before.files.contents after.files.contents ≡ true → IsServedBy source forms before.files.contents after.files.contents service → ServePromises service (error_status error) journal posts before after
-      serves service told asked = unserved_promises source service (error_status error) journal posts events none before after why.tells.not_run listens log (λ fault. why.nine service (service_of source forms before.files.contents after.files.contents service told asked) fault.read fault.listen)
+      serves : (service : Service) → tell_throughout source before.files.contents after.files.contents ≡ true → IsServedBy source forms before.files.contents after.files.contents service → ServePromises service (trouble_status error) journal posts before after
+      serves service told asked = unserved_promises source service (trouble_status error) journal posts events none before after why.tells.not_run listens log (λ fault. why.nine service (service_of source forms before.files.contents after.files.contents service told asked) fault.read fault.listen)
 
 -- ---- why nobody was served
 
--- it is 3 only where a reading failed
-pub read_failed : (source : Source) (forms : List Key) (contents : Option Contents) (ReadRose : Type 0) (error : ServiceError) → IsUnread source forms contents ReadRose error → unread_status error ≡ 3 → ReadRose
-read_failed Plain forms contents ReadRose error why three = absurd (let f : 9 ≡ 3 = sym (ap unread_status why) ∙ three in omega (arith, f))
-read_failed (Named name log) forms contents ReadRose unread.Failed why three = why
-read_failed (Named name log) forms contents ReadRose unread.OutOfMemory why three = absurd (omega (arith, three))
-read_failed (Named name log) forms contents ReadRose unread.SetupMissing why three = absurd (omega (arith, three))
-read_failed (Named name log) forms contents ReadRose unread.WordsMissing why three = absurd (omega (arith, three))
-read_failed (Named name log) forms contents ReadRose (unread.SetupRefused fault) why three = absurd (omega (arith, three))
-read_failed (Named name log) forms contents ReadRose (unread.WordsRefused fault) why three = absurd (omega (arith, three))
-
--- and where the files spell a service, without a fault of reading, it is 9
-pub unread_nine : (source : Source) (forms : List Key) (old new : Option Contents) (ReadRose : Type 0) (service : Service) (error : ServiceError) → IsUnread source forms new ReadRose error → Goes SameFiles old new → IsServiceOf source forms old new service → ¬ ReadRose → unread_status error ≡ 9
-unread_nine Plain forms old new ReadRose service error why kept is none = ap unread_status why
-unread_nine (Named name log) forms old new ReadRose service error why kept is none = go error why where
-  told : (error : ServiceError) → IfSome new (λ files. service_in forms files name ≡ Err error) → ⊥
-  told error said = at old new is.told is.still kept said where
-    at : (old new : Option Contents) → old ≡ Some is.files → is_some new ≡ true → Goes SameFiles old new → IfSome new (λ files. service_in forms files name ≡ Err error) → ⊥
-    at old None told still kept said = absurd cc
-    at None (Some later) told still kept said = kept
-    at (Some files) (Some later) told still kept said =
-        let same : files ≡ is.files = cc in
-        let both = sym said ∙ service_still forms files later name kept ∙ ap (λ (c : Contents). service_in forms c name) same ∙ is.found in
-        absurd cc
-
-  go : (error : ServiceError) → IsServiceError forms new name ReadRose error → unread_status error ≡ 9
-  go unread.Failed why = absurd (none why)
-  go unread.OutOfMemory why = refl
-  go unread.SetupMissing why = absurd (told unread.SetupMissing why)
-  go unread.WordsMissing why = absurd (told unread.WordsMissing why)
-  go (unread.SetupRefused fault) why = absurd (told (unread.SetupRefused fault) why)
-  go (unread.WordsRefused fault) why = absurd (told (unread.WordsRefused fault) why)
-
--- nothing was read to serve with: a status of it, and its cause
-pub unread_tells : (source : Source) (forms : List Key) (contents : Option Contents) (ReadRose ListenRose : Type 0) (error : ServiceError) → IsUnread source forms contents ReadRose error → TellsUnserved (errors.Unread error) ReadRose ListenRose
-unread_tells source forms contents ReadRose ListenRose error why = record { not_run = not_run error; three = read_failed source forms contents ReadRose error why; six = λ e. absurd (six error e) } where
-  not_run : (error : ServiceError) → is_run_status (unread_status error) ≡ false
-  not_run unread.Failed = refl
-  not_run unread.OutOfMemory = refl
-  not_run unread.SetupMissing = refl
-  not_run unread.WordsMissing = refl
-  not_run (unread.SetupRefused fault) = refl
-  not_run (unread.WordsRefused fault) = refl
-
-  six : (error : ServiceError) → unread_status error ≡ 6 → ⊥
-  six unread.Failed e = omega (arith, e)
-  six unread.OutOfMemory e = omega (arith, e)
-  six unread.SetupMissing e = omega (arith, e)
-  six unread.WordsMissing e = omega (arith, e)
-  six (unread.SetupRefused fault) e = omega (arith, e)
-  six (unread.WordsRefused fault) e = omega (arith, e)
+-- where the files spell a service nothing is wrong with it
+said_none : (forms : List Key) (old new : Option Contents) (name : List ℕ) (log : Option (List ℕ)) (service : Service) (trouble : Trouble) → Goes SameFiles old new → IsServiceOf (Named name log) forms old new service → IfSome new (λ files. service_in forms files name ≡ Err trouble) → ⊥
+said_none forms old new name log service trouble kept is said = at old new is.told is.still kept said where
+  at : (old new : Option Contents) → old ≡ Some is.files → is_some new ≡ true → Goes SameFiles old new → IfSome new (λ files. service_in forms files name ≡ Err trouble) → ⊥
+  at old None told still kept said = absurd cc
+  at None (Some later) told still kept said = kept
+  at (Some files) (Some later) told still kept said =
+      let same : files ≡ is.files = cc in
+      let found = service_still forms files later name kept ∙ ap (λ (c : Contents). services.service_in forms c name) same ∙ is.found in
+      let both = sym said ∙ ap (result_map_both (λ f. f) trouble_of_service) found in
+      absurd cc
 
 -- out of memory
-pub memory_why : (source : Source) (forms : List Key) (old new : Option Contents) (ReadRose ListenRose : Type 0) → TellsWhy source forms old new errors.OutOfMemory ReadRose ListenRose
+pub memory_why : (source : Source) (forms : List Key) (old new : Option Contents) (ReadRose ListenRose : Type 0) → TellsWhy source forms old new troubles.OutOfMemory ReadRose ListenRose
 memory_why source forms old new ReadRose ListenRose = record {
   tells = record { not_run = refl; three = λ e. absurd (omega (arith, e)); six = λ e. absurd (omega (arith, e)) };
   nine = λ service is read listen. refl;
-  unread = λ other same. absurd cc;
-  unfresh = λ same. absurd cc;
-  ready = λ same. absurd cc;
+  ended = tt;
 }
 
 -- a service that the files spell has a fresh log, so a log that isn't fresh is of none
@@ -597,67 +557,111 @@ unfresh_none (Named name (Some log)) forms old new service unfresh kept is = go 
       let same : files ≡ is.files = cc in
       unfresh.1 (subst IsFresh (sym (kept.same log ∙ ap (λ (c : Contents). c log) same)) is.fresh)
 
--- there was nothing to begin with
-pub unready_why : (source : Source) (forms : List Key) (old new : Option Contents) (ReadRose ListenRose : Type 0) (error : ServeError) → IsUnready source forms new ReadRose error → Goes SameFiles old new → TellsWhy source forms old new error ReadRose ListenRose
-unready_why source forms old new ReadRose ListenRose (errors.Unread error) why kept = record {
-  tells = unread_tells source forms new ReadRose ListenRose error why;
-  nine = λ service is read listen. unread_nine source forms old new ReadRose service error why kept is read;
-  unread = λ other same. subst (IsUnread source forms new ReadRose) (let e : error ≡ other = cc in e) why;
-  unfresh = λ same. absurd cc;
-  ready = λ same. absurd cc;
+-- the files were not read, or say that one is missing or refused
+unread_why : (name : List ℕ) (log : Option (List ℕ)) (forms : List Key) (old new : Option Contents) (ReadRose ListenRose : Type 0) (trouble : Trouble) → IsUnread (Named name log) forms new ReadRose trouble → Goes SameFiles old new → TellsWhy (Named name log) forms old new trouble ReadRose ListenRose
+unread_why name log forms old new R L troubles.ReadFailed why kept = record {
+  tells = record { not_run = refl; three = λ _. why; six = λ e. absurd (omega (arith, e)) };
+  nine = λ service is read listen. absurd (read why);
+  ended = why;
 }
-unready_why source forms old new ReadRose ListenRose errors.LogNotFresh why kept = record {
+unread_why name log forms old new R L troubles.OutOfMemory why kept = memory_why (Named name log) forms old new R L
+unread_why name log forms old new R L (troubles.Missing file) why kept = record {
+  tells = record { not_run = refl; three = λ e. absurd (omega (arith, e)); six = λ e. absurd (omega (arith, e)) };
+  nine = λ service is read listen. absurd (said_none forms old new name log service (troubles.Missing file) kept is why.1);
+  ended = why;
+}
+unread_why name log forms old new R L (troubles.SetupRefused fault) why kept = record {
+  tells = record { not_run = refl; three = λ e. absurd (omega (arith, e)); six = λ e. absurd (omega (arith, e)) };
+  nine = λ service is read listen. absurd (said_none forms old new name log service (troubles.SetupRefused fault) kept is why.1);
+  ended = why;
+}
+unread_why name log forms old new R L (troubles.WordsRefused fault) why kept = record {
+  tells = record { not_run = refl; three = λ e. absurd (omega (arith, e)); six = λ e. absurd (omega (arith, e)) };
+  nine = λ service is read listen. absurd (said_none forms old new name log service (troubles.WordsRefused fault) kept is why.1);
+  ended = why;
+}
+unread_why name log forms old new R L (troubles.LogRefused (log_faults.Record _)) why kept = absurd why
+unread_why name log forms old new R L (troubles.LogRefused log_faults.NotFresh) why kept = absurd why
+unread_why name log forms old new R L (troubles.Serving _) why kept = absurd why
+unread_why name log forms old new R L (troubles.ResponseRefused _) why kept = absurd why
+unread_why name log forms old new R L (troubles.NoRenewal _) why kept = absurd why
+unread_why name log forms old new R L troubles.ReplaceFailed why kept = absurd why
+unread_why name log forms old new R L troubles.EndsFailed why kept = absurd why
+unread_why name log forms old new R L troubles.PhraseRefused why kept = absurd why
+
+unread_of : (source : Source) (forms : List Key) (old new : Option Contents) (ReadRose ListenRose : Type 0) (trouble : Trouble) → IsUnread source forms new ReadRose trouble → Goes SameFiles old new → TellsWhy source forms old new trouble ReadRose ListenRose
+unread_of Plain forms old new R L trouble why kept = absurd why
+unread_of (Named name log) forms old new R L trouble why kept = unread_why name log forms old new R L trouble why kept
+
+-- there was nothing to begin with
+pub unready_why : (source : Source) (forms : List Key) (old new : Option Contents) (ReadRose ListenRose : Type 0) (trouble : Trouble) → IsUnready source forms new ReadRose trouble → Goes SameFiles old new → TellsWhy source forms old new trouble ReadRose ListenRose
+unready_why source forms old new R L (troubles.LogRefused log_faults.NotFresh) why kept = record {
   tells = record { not_run = refl; three = λ e. absurd (omega (arith, e)); six = λ e. absurd (omega (arith, e)) };
   nine = λ service is read listen. absurd (unfresh_none source forms old new service why kept is);
-  unread = λ other same. absurd cc;
-  unfresh = λ _. why;
-  ready = λ same. absurd cc;
+  ended = why;
 }
-unready_why source forms old new ReadRose ListenRose errors.OutOfMemory why kept = memory_why source forms old new ReadRose ListenRose
-unready_why source forms old new ReadRose ListenRose errors.ListenFailed why kept = absurd why
-unready_why source forms old new ReadRose ListenRose errors.LogLost why kept = absurd why
-unready_why source forms old new ReadRose ListenRose errors.AcceptFailed why kept = absurd why
-unready_why source forms old new ReadRose ListenRose errors.ReplaceFailed why kept = absurd why
+unready_why source forms old new R L troubles.OutOfMemory why kept = memory_why source forms old new R L
+unready_why source forms old new R L troubles.ReadFailed why kept = unread_of source forms old new R L troubles.ReadFailed why kept
+unready_why source forms old new R L (troubles.Missing file) why kept = unread_of source forms old new R L (troubles.Missing file) why kept
+unready_why source forms old new R L (troubles.SetupRefused fault) why kept = unread_of source forms old new R L (troubles.SetupRefused fault) why kept
+unready_why source forms old new R L (troubles.WordsRefused fault) why kept = unread_of source forms old new R L (troubles.WordsRefused fault) why kept
+unready_why source forms old new R L (troubles.LogRefused (log_faults.Record number)) why kept = unread_of source forms old new R L (troubles.LogRefused (log_faults.Record number)) why kept
+unready_why source forms old new R L (troubles.Serving fault) why kept = unread_of source forms old new R L (troubles.Serving fault) why kept
+unready_why source forms old new R L (troubles.ResponseRefused fault) why kept = unread_of source forms old new R L (troubles.ResponseRefused fault) why kept
+unready_why source forms old new R L (troubles.NoRenewal fault) why kept = unread_of source forms old new R L (troubles.NoRenewal fault) why kept
+unready_why source forms old new R L troubles.ReplaceFailed why kept = unread_of source forms old new R L troubles.ReplaceFailed why kept
+unready_why source forms old new R L troubles.EndsFailed why kept = unread_of source forms old new R L troubles.EndsFailed why kept
+unready_why source forms old new R L troubles.PhraseRefused why kept = unread_of source forms old new R L troubles.PhraseRefused why kept
 
 -- a run that could not begin: out of memory, or the site could not listen
-pub not_served_why : (source : Source) (forms : List Key) (old new : Option Contents) (ReadRose ListenRose : Type 0) (error : ServeError) → IsServable source forms new → (error ≡ errors.OutOfMemory) ⊎ ((error ≡ errors.ListenFailed) × ListenRose) → TellsWhy source forms old new error ReadRose ListenRose
+pub not_served_why : (source : Source) (forms : List Key) (old new : Option Contents) (ReadRose ListenRose : Type 0) (error : Trouble) → IsServable source forms new → (error ≡ troubles.OutOfMemory) ⊎ ((error ≡ troubles.Serving serving.ListenFailed) × ListenRose) → TellsWhy source forms old new error ReadRose ListenRose
 not_served_why source forms old new ReadRose ListenRose error ready (inl oom) = subst (λ e. TellsWhy source forms old new e ReadRose ListenRose) (sym oom) (memory_why source forms old new ReadRose ListenRose)
 not_served_why source forms old new ReadRose ListenRose error ready (inr (failed, rose)) = subst (λ e. TellsWhy source forms old new e ReadRose ListenRose) (sym failed) (record {
   tells = record { not_run = refl; three = λ e. absurd (omega (arith, e)); six = λ _. rose };
   nine = λ service is read none. absurd (none rose);
-  unread = λ other same. absurd cc;
-  unfresh = λ same. absurd cc;
-  ready = λ _. ready;
+  ended = ready;
 })
 
 -- a fault of replacing that was counted after a moment was counted after an earlier one
-pub writes_more : (source : Source) (setup : Settings) (ledger : LedgerParts) (old new : Option Contents) (first mid last : ℕ) (written : Result (Unit {0}) ServeError) → first ≤ mid → WritesBack source setup ledger old new (Rose mid last) written → WritesBack source setup ledger old new (Rose first last) written
+pub writes_more : (source : Source) (setup : Settings) (ledger : LedgerParts) (old new : Option Contents) (first mid last : ℕ) (written : Result (Unit {0}) Trouble) → first ≤ mid → WritesBack source setup ledger old new (Rose mid last) written → WritesBack source setup ledger old new (Rose first last) written
 writes_more Plain setup ledger old new first mid last written low w = w
 writes_more (Named name log) setup ledger old new first mid last written low w = go written w where
-  go : (written : Result (Unit {0}) ServeError) → WritesNamed name setup ledger old new (Rose mid last) written → WritesNamed name setup ledger old new (Rose first last) written
+  go : (written : Result (Unit {0}) Trouble) → WritesNamed name setup ledger old new (Rose mid last) written → WritesNamed name setup ledger old new (Rose first last) written
   go (Ok done) w = w
-  go (Err errors.OutOfMemory) w = w
-  go (Err errors.ReplaceFailed) w = (w.0, w.1, Rose-within first mid last last low w.2 (omega arith), w.3)
-  go (Err (errors.Unread error)) w = absurd w
-  go (Err errors.ListenFailed) w = absurd w
-  go (Err errors.LogLost) w = absurd w
-  go (Err errors.AcceptFailed) w = absurd w
-  go (Err errors.LogNotFresh) w = absurd w
+  go (Err troubles.OutOfMemory) w = w
+  go (Err troubles.ReplaceFailed) w = (w.0, w.1, Rose-within first mid last last low w.2 (omega arith), w.3)
+  go (Err troubles.ReadFailed) w = absurd w
+  go (Err (troubles.Missing _)) w = absurd w
+  go (Err (troubles.SetupRefused _)) w = absurd w
+  go (Err (troubles.WordsRefused _)) w = absurd w
+  go (Err (troubles.LogRefused (log_faults.Record _))) w = absurd w
+  go (Err (troubles.LogRefused log_faults.NotFresh)) w = absurd w
+  go (Err (troubles.Serving _)) w = absurd w
+  go (Err (troubles.ResponseRefused _)) w = absurd w
+  go (Err (troubles.NoRenewal _)) w = absurd w
+  go (Err troubles.EndsFailed) w = absurd w
+  go (Err troubles.PhraseRefused) w = absurd w
 
 -- where the files tell after a run, they told before its accounts were written
-pub told_before : (source : Source) (setup : Settings) (ledger : LedgerParts) (old new : Option Contents) (ReplaceRose : Type 0) (written : Result (Unit {0}) ServeError) → WritesBack source setup ledger old new ReplaceRose written → is_some new ≡ true → is_some old ≡ true
+pub told_before : (source : Source) (setup : Settings) (ledger : LedgerParts) (old new : Option Contents) (ReplaceRose : Type 0) (written : Result (Unit {0}) Trouble) → WritesBack source setup ledger old new ReplaceRose written → is_some new ≡ true → is_some old ≡ true
 told_before source setup ledger None None ReplaceRose written w some = some
 told_before source setup ledger (Some old) new ReplaceRose written w some = refl
 told_before source setup ledger None (Some new) ReplaceRose written w some = absurd (go source w) where
   go : (source : Source) → WritesBack source setup ledger None (Some new) ReplaceRose written → ⊥
   go Plain w = w.1
   go (Named name log) w = at written w where
-    at : (written : Result (Unit {0}) ServeError) → WritesNamed name setup ledger None (Some new) ReplaceRose written → ⊥
+    at : (written : Result (Unit {0}) Trouble) → WritesNamed name setup ledger None (Some new) ReplaceRose written → ⊥
     at (Ok done) w = w.2
-    at (Err errors.OutOfMemory) w = w
-    at (Err errors.ReplaceFailed) w = w.3
-    at (Err (errors.Unread error)) w = w
-    at (Err errors.ListenFailed) w = w
-    at (Err errors.LogLost) w = w
-    at (Err errors.AcceptFailed) w = w
-    at (Err errors.LogNotFresh) w = w
+    at (Err troubles.OutOfMemory) w = w
+    at (Err troubles.ReplaceFailed) w = w.3
+    at (Err troubles.ReadFailed) w = w
+    at (Err (troubles.Missing _)) w = w
+    at (Err (troubles.SetupRefused _)) w = w
+    at (Err (troubles.WordsRefused _)) w = w
+    at (Err (troubles.LogRefused (log_faults.Record _))) w = w
+    at (Err (troubles.LogRefused log_faults.NotFresh)) w = w
+    at (Err (troubles.Serving _)) w = w
+    at (Err (troubles.ResponseRefused _)) w = w
+    at (Err (troubles.NoRenewal _)) w = w
+    at (Err troubles.EndsFailed) w = w
+    at (Err troubles.PhraseRefused) w = w

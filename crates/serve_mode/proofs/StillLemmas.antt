@@ -18,11 +18,15 @@ use Rattle.account_file.proofs.Once.{setup_once}
 use Rattle.setup_reading.specs.Touching.{ReadsNamed}
 use Rattle.setup_reading.proofs.Touching.{reads_more}
 use Rattle.service_reading.specs.declared.error.ServiceError.{ServiceError}
+use Rattle.service_reading.specs.declared.error.ServiceError.TheVariants as service_errors
+use Rattle.service_reading.specs.Errors.{IsServiceError}
 use Rattle.service_reading.specs.Found.{FoundService, IsServiceIn, service_in}
 use Rattle.fresh_log.specs.Fresh.{IsFresh}
-use Rattle.service_reading.specs.declared.error.ServiceError.TheVariants as unread
-use Rattle.serve_mode.specs.declared.error.ServeError.{ServeError}
-use Rattle.serve_mode.specs.declared.error.ServeError.TheVariants as errors
+use Rattle.trouble.specs.declared.trouble.LogFault.TheVariants as log_faults
+use Rattle.trouble.specs.declared.trouble.Trouble.{Trouble}
+use Rattle.trouble.specs.declared.trouble.Trouble.TheVariants as troubles
+use Rattle.trouble.specs.Reading.{trouble_of_service}
+use Rattle.trouble.proofs.Unread.{service_unread}
 use Rattle.serve_mode.specs.Services.{HasFreshLog, IsServable, IsServedBy, IsUnfresh, plain_entries, tell_throughout}
 use Rattle.serve_mode.specs.Steps.{IsLogRefused, IsReadFrom, IsUnready, log_of, service_by}
 use Rattle.serve_mode.specs.Words.{Named, Plain, Source, files_of, setups_of}
@@ -119,26 +123,38 @@ ready_by Plain forms contents setup words read fresh = tt
 ready_by (Named name log) forms None setup words read fresh = tt
 ready_by (Named name log) forms (Some files) setup words read fresh = (ap is_ok read, fresh)
 
+-- what the reader of a service answers leaves nothing to begin with
+pub unready_service : (source : Source) (name : List ℕ) (log : Option (List ℕ)) (forms : List Key) (contents : Option Contents) (ReadFailed : Type 0) (error : ServiceError) → source ≡ Named name log → IsServiceError forms contents name ReadFailed error → IsUnready source forms contents ReadFailed (trouble_of_service error)
+unready_service source name log forms contents R error is why = subst (λ s. IsUnready s forms contents R (trouble_of_service error)) (sym is) (go error why) where
+  go : (error : ServiceError) → IsServiceError forms contents name R error → IsUnready (Named name log) forms contents R (trouble_of_service error)
+  go service_errors.Failed why = why
+  go service_errors.OutOfMemory why = tt
+  go service_errors.SetupMissing why = service_unread forms contents name R service_errors.SetupMissing why
+  go service_errors.WordsMissing why = service_unread forms contents name R service_errors.WordsMissing why
+  go (service_errors.SetupRefused fault) why = service_unread forms contents name R (service_errors.SetupRefused fault) why
+  go (service_errors.WordsRefused fault) why = service_unread forms contents name R (service_errors.WordsRefused fault) why
+
 -- a log that is refused after what was read leaves nothing to begin with
-pub unready_log : (source : Source) (forms : List Key) (mid new : Option Contents) (setup : Settings) (words : List (List ℕ)) (first meanwhile last : ℕ) (error : ServeError) → IsReadFrom source forms mid setup words → Goes SameFiles mid new → first ≤ meanwhile → IsLogRefused (log_of source) new (Rose meanwhile last) error → IsUnready source forms new (Rose first last) error
-unready_log Plain forms mid new setup words first meanwhile last error read kept low refused = absurd refused
-unready_log (Named name None) forms mid new setup words first meanwhile last error read kept low refused = absurd refused
-unready_log (Named name (Some log)) forms mid new setup words first meanwhile last errors.LogNotFresh read kept low refused = go mid new read kept refused where
+pub unready_log : (source : Source) (forms : List Key) (mid new : Option Contents) (setup : Settings) (words : List (List ℕ)) (first meanwhile last : ℕ) (trouble : Trouble) → IsReadFrom source forms mid setup words → Goes SameFiles mid new → first ≤ meanwhile → IsLogRefused (log_of source) new (Rose meanwhile last) trouble → IsUnready source forms new (Rose first last) trouble
+unready_log Plain forms mid new setup words first meanwhile last trouble read kept low refused = absurd refused
+unready_log (Named name None) forms mid new setup words first meanwhile last trouble read kept low refused = absurd refused
+unready_log (Named name (Some log)) forms mid new setup words first meanwhile last (troubles.LogRefused log_faults.NotFresh) read kept low refused = go mid new read kept refused where
   go : (mid new : Option Contents) → IsServiceIn forms mid name setup words → Goes SameFiles mid new → IfSome new (λ files. IsFresh (files log) → ⊥) → IsUnfresh (Named name (Some log)) forms new
   go mid None read kept refused = tt
   go None (Some later) read kept refused = absurd kept
   go (Some files) (Some later) read kept refused = (ap is_ok (service_still forms files later name kept ∙ read), refused)
-unready_log (Named name (Some log)) forms mid new setup words first meanwhile last (errors.Unread unread.Failed) read kept low refused = Rose-within first meanwhile last last low refused (omega arith)
-unready_log (Named name (Some log)) forms mid new setup words first meanwhile last (errors.Unread unread.OutOfMemory) read kept low refused = absurd refused
-unready_log (Named name (Some log)) forms mid new setup words first meanwhile last (errors.Unread unread.SetupMissing) read kept low refused = absurd refused
-unready_log (Named name (Some log)) forms mid new setup words first meanwhile last (errors.Unread (unread.SetupRefused fault)) read kept low refused = absurd refused
-unready_log (Named name (Some log)) forms mid new setup words first meanwhile last (errors.Unread unread.WordsMissing) read kept low refused = absurd refused
-unready_log (Named name (Some log)) forms mid new setup words first meanwhile last (errors.Unread (unread.WordsRefused fault)) read kept low refused = absurd refused
-unready_log (Named name (Some log)) forms mid new setup words first meanwhile last errors.OutOfMemory read kept low refused = tt
-unready_log (Named name (Some log)) forms mid new setup words first meanwhile last errors.ListenFailed read kept low refused = absurd refused
-unready_log (Named name (Some log)) forms mid new setup words first meanwhile last errors.LogLost read kept low refused = absurd refused
-unready_log (Named name (Some log)) forms mid new setup words first meanwhile last errors.AcceptFailed read kept low refused = absurd refused
-unready_log (Named name (Some log)) forms mid new setup words first meanwhile last errors.ReplaceFailed read kept low refused = absurd refused
+unready_log (Named name (Some log)) forms mid new setup words first meanwhile last troubles.ReadFailed read kept low refused = Rose-within first meanwhile last last low refused (omega arith)
+unready_log (Named name (Some log)) forms mid new setup words first meanwhile last troubles.OutOfMemory read kept low refused = tt
+unready_log (Named name (Some log)) forms mid new setup words first meanwhile last (troubles.Missing _) read kept low refused = absurd refused
+unready_log (Named name (Some log)) forms mid new setup words first meanwhile last (troubles.SetupRefused _) read kept low refused = absurd refused
+unready_log (Named name (Some log)) forms mid new setup words first meanwhile last (troubles.WordsRefused _) read kept low refused = absurd refused
+unready_log (Named name (Some log)) forms mid new setup words first meanwhile last (troubles.LogRefused (log_faults.Record _)) read kept low refused = absurd refused
+unready_log (Named name (Some log)) forms mid new setup words first meanwhile last (troubles.Serving _) read kept low refused = absurd refused
+unready_log (Named name (Some log)) forms mid new setup words first meanwhile last (troubles.ResponseRefused _) read kept low refused = absurd refused
+unready_log (Named name (Some log)) forms mid new setup words first meanwhile last (troubles.NoRenewal _) read kept low refused = absurd refused
+unready_log (Named name (Some log)) forms mid new setup words first meanwhile last troubles.ReplaceFailed read kept low refused = absurd refused
+unready_log (Named name (Some log)) forms mid new setup words first meanwhile last troubles.EndsFailed read kept low refused = absurd refused
+unready_log (Named name (Some log)) forms mid new setup words first meanwhile last troubles.PhraseRefused read kept low refused = absurd refused
 
 -- ---- which files are touched
 

@@ -1,5 +1,5 @@
 -- Believed: what the mode `serve` promises besides what its run does.
-use Rattle.std.specs.Prelude.{◌≡◌, ◌≢◌, ◌⊎◌, ℕ, Bool, true, false, ◌==◌, List, [], ◌∷◌, length, Option, Result, Ok, Err}
+use Rattle.std.specs.Prelude.{◌≡◌, ◌≢◌, ◌⊎◌, ℕ, Bool, true, false, ◌==◌, List, [], ◌∷◌, length, Result, Err}
 use Rattle.std.specs.List.{list_any}
 use Rattle.info_hooks.specs.declared.key.Key.{Key}
 use Rattle.monitor_book.specs.Lines.{IsUnwritten, LogMatches}
@@ -14,12 +14,11 @@ use Rattle.policy_model.specs.Journal.{has_lost}
 use Rattle.policy_model.specs.Settings.{Settings}
 use Rattle.service_model.specs.Ends.{is_fault_end}
 use Rattle.service_model.specs.Service.{Service}
-use Rattle.service_reading.specs.declared.error.ServiceError.{ServiceError}
-use Rattle.serve_mode.specs.declared.error.ServeError.{ServeError}
-use Rattle.serve_mode.specs.declared.error.ServeError.TheVariants.{ListenFailed, LogNotFresh, OutOfMemory, Unread}
+use Rattle.trouble.specs.declared.trouble.Trouble.{Trouble}
+use Rattle.trouble.specs.declared.trouble.Trouble.TheVariants.{OutOfMemory}
+use Rattle.trouble.specs.Status.{status_of}
 use Rattle.serve_mode.specs.AroundRun.{AroundRun}
-use Rattle.serve_mode.specs.Errors.{IsUnread, status_of}
-use Rattle.serve_mode.specs.Services.{IsServable, IsServedBy, IsUnfresh, tell_throughout}
+use Rattle.serve_mode.specs.Services.{IsEndedBy, IsServedBy, tell_throughout}
 use Rattle.serve_mode.specs.Words.{Plain, Source}
 
 -- ---- where it listens
@@ -97,14 +96,11 @@ pub record OfServed (source : Source) (forms : List Key) (posts : List PostNow) 
       → IsServedBy source forms before.files.contents after.files.contents service → Promises service
 
 -- what `serve` promises however it ends: its status has a cause, and if it served every promise holds
-pub record ServeEnded (source : Source) (forms : List Key) (end : Result (Unit {0}) ServeError)
+pub record ServeEnded (source : Source) (forms : List Key) (end : Result (Unit {0}) Trouble)
     (journal : List Event) (posts : List PostNow) (before after : AroundRun) : Type 0 where
   pub causes : ServeHasCause (status_of end) journal posts before after
-  pub unread : (error : ServiceError) → end ≡ Err (Unread error)
-      → IsUnread source forms after.files.contents (Rose before.files.read_faults after.files.read_faults) error
-  pub unfresh : end ≡ Err LogNotFresh → IsUnfresh source forms after.files.contents
-  -- the site is asked to listen only where everything that a run needs was read
-  pub ready : end ≡ Err ListenFailed → IsServable source forms after.files.contents
+  pub ended : (trouble : Trouble) → end ≡ Err trouble
+      → IsEndedBy source forms after.files.contents (Rose before.files.read_faults after.files.read_faults) trouble
   -- by the plain setup memory doesn't run out once there are posts
   pub printed : end ≡ Err OutOfMemory → posts ≢ [] → source ≢ Plain
   pub promises : OfServed source forms posts before after

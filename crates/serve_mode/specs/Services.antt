@@ -1,4 +1,4 @@
--- Believed: what a run serves by.
+-- Believed: what a run serves by, and what is known of the troubles of one.
 use Rattle.std.specs.Prelude.{◌≡◌, ℕ, Bool, true, ◌&&◌, List, [], Option, Some, None, IfSome, is_some, is_ok, Ok, codes}
 use Rattle.info_hooks.specs.declared.key.Key.{Key}
 use Rattle.otp_words.specs.Dictionaries.{plain_words}
@@ -8,6 +8,11 @@ use Rattle.account_file.specs.Entries.{SetupEntries, entries_of}
 use Rattle.service_model.specs.Service.{Service}
 use Rattle.service_reading.specs.Found.{service_in}
 use Rattle.fresh_log.specs.Fresh.{IsFresh}
+use Rattle.trouble.specs.declared.trouble.LogFault.TheVariants as log_faults
+use Rattle.trouble.specs.declared.trouble.ServeFault.TheVariants as serving
+use Rattle.trouble.specs.declared.trouble.Trouble.{Trouble}
+use Rattle.trouble.specs.declared.trouble.Trouble.TheVariants as troubles
+use Rattle.trouble.specs.Reading.{IsUnreadService}
 use Rattle.serve_mode.specs.Words.{Named, Plain, Source}
 
 -- the plain setup: one worker, one connection, 64 requests, 3 tries, a hold of 30 seconds, no accounts
@@ -57,3 +62,19 @@ abbrev pub IsServable : Source → List Key → Option Contents → Type 0
 IsServable Plain forms contents = Unit {0}
 IsServable (Named name log) forms contents =
     IfSome contents (λ files. (is_ok (service_in forms files name) ≡ true) × HasFreshLog log files)
+
+-- why nothing was read to serve by; for the plain setup nothing is read
+abbrev pub IsUnread : Source → List Key → Option Contents → Type 0 → Trouble → Type 0
+IsUnread Plain forms contents ReadFailed trouble = ⊥
+IsUnread (Named name log) forms contents ReadFailed trouble = IsUnreadService forms contents name ReadFailed trouble
+
+-- what the files say of a run that ended by this trouble: why nobody was served, or that a run might start
+abbrev pub IsEndedBy : Source → List Key → Option Contents → Type 0 → Trouble → Type 0
+IsEndedBy source forms contents ReadFailed troubles.OutOfMemory = Unit {0}
+IsEndedBy source forms contents ReadFailed (troubles.Serving serving.LogLost) = Unit {0}
+IsEndedBy source forms contents ReadFailed (troubles.Serving serving.AcceptFailed) = Unit {0}
+IsEndedBy source forms contents ReadFailed troubles.ReplaceFailed = Unit {0}
+IsEndedBy source forms contents ReadFailed (troubles.LogRefused log_faults.NotFresh) = IsUnfresh source forms contents
+-- the site is asked to listen only where everything that a run needs was read
+IsEndedBy source forms contents ReadFailed (troubles.Serving serving.ListenFailed) = IsServable source forms contents
+IsEndedBy source forms contents ReadFailed trouble = IsUnread source forms contents ReadFailed trouble

@@ -9,12 +9,12 @@ ghost use Rattle.serve_mode.specs.Steps.{WritesBack, WritesNamed};
 ghost use Rattle.serve_mode.specs.Words.{Plain, setups_of};
 
 use crate::command::ServeCommand;
-use crate::error::ServeError;
 use account_writer::write_accounts;
 use outside::{Files, Word};
 use policy_model::Setup;
 use session_core::Core;
 use std::alloc::Global;
+use trouble::Trouble;
 
 /// Replaces the file of a name by one that spells the setup with the accounts as they are known.
 fn write_named<F: Files>(
@@ -23,7 +23,7 @@ fn write_named<F: Files>(
     setup: &Setup,
     core: &Core,
     files: &mut F,
-) -> Result<(), ServeError>
+) -> Result<(), Trouble>
     requires { core.now.ledger.setup ≡ setup.now }
     ensures written { WritesNamed name.now setup.now core.now.ledger (F.contents files.old) (F.contents files.new)
         (Rose (F.replace_faults files.old) (F.replace_faults files.new)) result }
@@ -32,13 +32,13 @@ fn write_named<F: Files>(
         OnlyReplaces (name.now ∷ []) (now files.old) (now files.new) }
 {
     let Ok(name) = Word::of(alloc, name.as_bytes()) else {
-        return Err(ServeError::OutOfMemory);
+        return Err(Trouble::OutOfMemory);
     };
     let Ok(bytes) = write_accounts(alloc, setup, core.ledger()) else {
-        return Err(ServeError::OutOfMemory);
+        return Err(Trouble::OutOfMemory);
     };
     if files.replace(&name, bytes.as_slice()).is_err() {
-        return Err(ServeError::ReplaceFailed);
+        return Err(Trouble::ReplaceFailed);
     }
     Ok(())
 }
@@ -50,7 +50,7 @@ pub(crate) fn write_back<F: Files>(
     setup: &Setup,
     core: &Core,
     files: &mut F,
-) -> Result<(), ServeError>
+) -> Result<(), Trouble>
     requires { core.now.ledger.setup ≡ setup.now }
     ensures written { WritesBack (source_of command.now) setup.now core.now.ledger (F.contents files.old)
         (F.contents files.new)

@@ -4,12 +4,10 @@
 
 mod accounts;
 mod command;
-mod error;
 mod house;
 mod reading;
 mod run;
 mod serving;
 
 pub use command::{ServeCommand, read_serve_command};
-pub use error::{ServeError, status};
 pub use run::{Served, run_serve};

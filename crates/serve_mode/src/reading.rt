@@ -5,23 +5,21 @@ ghost use Rattle.std.specs.Option.{option_to_list};
 ghost use Rattle.outside.specs.FilesNow.{OnlyReads, files_now};
 ghost use Rattle.outside.specs.Told.{Rose};
 ghost use Rattle.setup_reading.specs.Touching.{ReadsNamed};
-ghost use Rattle.service_reading.specs.declared.error.ServiceError.{ServiceError};
+ghost use Rattle.trouble.specs.declared.trouble.Trouble.{Trouble};
 ghost use Rattle.serve_mode.specs.Commands.{source_of};
-ghost use Rattle.serve_mode.specs.Errors.{IsUnread};
-ghost use Rattle.serve_mode.specs.declared.error.ServeError.{ServeError};
 ghost use Rattle.serve_mode.specs.Services.{HasFreshLog};
 ghost use Rattle.serve_mode.specs.Steps.{IsLogRefused, IsReadFrom, IsUnready, log_of};
 ghost use Rattle.serve_mode.specs.Words.{Plain, files_of, setups_of};
 
 use crate::command::ServeCommand;
-use crate::error::ServeError;
 use crate::house::House;
 use fresh_log::is_fresh;
 use otp_words::Dictionary;
 use outside::{Failed, Files, Word};
 use policy_model::Setup;
-use service_reading::{Information, ServiceError, ServiceParts, read_service};
+use service_reading::{Information, ServiceParts, read_service};
 use std::alloc::{AllocError, Global};
+use trouble::{LogFault, Trouble};
 
 /// The plain setup and the plain word list.
 fn plain_parts(alloc: Global) -> Result<ServiceParts, AllocError>
@@ -43,15 +41,15 @@ pub(crate) fn make_ready<'a, F: Files, I: Information>(
     command: &ServeCommand<'_>,
     files: &mut F,
     information: &'a I,
-) -> Result<House<'a, I>, ServeError>
+) -> Result<House<'a, I>, Trouble>
     ensures read { IfOk result (λ house. IsReadFrom (source_of command.now) (I.forms information.now)
         (F.contents files.new) house.setup house.dictionary) }
     ensures fresh { IfOk result
         (λ house. IfSome (F.contents files.new) (HasFreshLog (log_of (source_of command.now)))) }
     ensures information { IfOk result (λ house. house.information.now ≡ information.now) }
-    ensures error { (error : ServeError) → result ≡ Err error → IsUnready (source_of command.now)
+    ensures trouble { (trouble : Trouble) → result ≡ Err trouble → IsUnready (source_of command.now)
         (I.forms information.now) (F.contents files.new)
-        (Rose (F.read_faults files.old) (F.read_faults files.new)) error }
+        (Rose (F.read_faults files.old) (F.read_faults files.new)) trouble }
     ensures plain { source_of command.now ≡ Plain → files.new ≡ files.old }
     ensures files { let source = source_of command.now in
         let now = files_now F.contents F.read_faults F.replace_faults F.touched in
@@ -67,11 +65,11 @@ fn check_log<F: Files>(
     alloc: Global,
     command: &ServeCommand<'_>,
     files: &mut F,
-) -> Result<(), ServeError>
+) -> Result<(), Trouble>
     ensures fresh { OnOk result (IfSome (F.contents files.new) (HasFreshLog (log_of (source_of command.now)))) }
-    ensures error { (error : ServeError) → result ≡ Err error → IsLogRefused (log_of (source_of command.now))
+    ensures trouble { (trouble : Trouble) → result ≡ Err trouble → IsLogRefused (log_of (source_of command.now))
         (F.contents files.new)
-        (Rose (F.read_faults files.old) (F.read_faults files.new)) error }
+        (Rose (F.read_faults files.old) (F.read_faults files.new)) trouble }
     ensures plain { source_of command.now ≡ Plain → files.new ≡ files.old }
     ensures files { let now = files_now F.contents F.read_faults F.replace_faults F.touched in
         OnlyReads (option_to_list (log_of (source_of command.now))) (now files.old) (now files.new) }
@@ -80,12 +78,12 @@ fn check_log<F: Files>(
         return Ok(());
     };
     let Ok(name) = Word::of(alloc, log.as_bytes()) else {
-        return Err(ServeError::OutOfMemory);
+        return Err(Trouble::OutOfMemory);
     };
     match is_fresh(files, &name) {
         Ok(true) => Ok(()),
-        Ok(false) => Err(ServeError::LogNotFresh),
-        Err(Failed) => Err(ServeError::Unread(ServiceError::Failed)),
+        Ok(false) => Err(Trouble::LogRefused(LogFault::NotFresh)),
+        Err(Failed) => Err(Trouble::ReadFailed),
     }
 }
 
@@ -99,13 +97,13 @@ fn read_house<'a, F: Files, I: Information>(
     command: &ServeCommand<'_>,
     files: &mut F,
     information: &'a I,
-) -> Result<House<'a, I>, ServiceError>
+) -> Result<House<'a, I>, Trouble>
     ensures read { IfOk result (λ house. IsReadFrom (source_of command.now) (I.forms information.now)
         (F.contents files.new) house.setup house.dictionary) }
     ensures information { IfOk result (λ house. house.information.now ≡ information.now) }
-    ensures error { (error : ServiceError) → result ≡ Err error → IsUnread (source_of command.now)
+    ensures trouble { (trouble : Trouble) → result ≡ Err trouble → IsUnready (source_of command.now)
         (I.forms information.now) (F.contents files.new)
-        (Rose (F.read_faults files.old) (F.read_faults files.new)) error }
+        (Rose (F.read_faults files.old) (F.read_faults files.new)) trouble }
     ensures plain { source_of command.now ≡ Plain → files.new ≡ files.old }
     ensures files { let source = source_of command.now in
         let now = files_now F.contents F.read_faults F.replace_faults F.touched in
@@ -114,7 +112,7 @@ fn read_house<'a, F: Files, I: Information>(
     let parts = match command {
         ServeCommand::Plain => match plain_parts(alloc) {
             Ok(parts) => parts,
-            Err(AllocError) => return Err(ServiceError::OutOfMemory),
+            Err(AllocError) => return Err(Trouble::OutOfMemory),
         },
         ServeCommand::Named { setup, .. } => read_service(alloc, files, setup, information)?,
     };

@@ -16,7 +16,6 @@ ghost use Rattle.serve_mode.specs.Words.{Plain, files_of, setups_of};
 
 use crate::accounts::write_back;
 use crate::command::ServeCommand;
-use crate::error::ServeError;
 use crate::reading::make_ready;
 use crate::serving::serve;
 use monitor_run::Ran;
@@ -26,11 +25,12 @@ use service_reading::Information;
 use std::alloc::Global;
 use std::sync::Wait;
 use std::thread::Threads;
+use trouble::{ServeFault, Trouble};
 
 /// What the mode came to.
 pub struct Served<P, K> {
     /// How the run ended, or why there was none.
-    pub end: Result<(), ServeError>,
+    pub end: Result<(), Trouble>,
     /// All events, in the order in which they were decided.
     pub journal: Vec<Event>,
     pub log: K,
@@ -39,14 +39,14 @@ pub struct Served<P, K> {
 }
 
 /// Nobody was served.
-fn unserved<P, K>(alloc: Global, error: ServeError, log: K) -> Served<P, K>
-    ensures end { result.end ≡ Err error }
+fn unserved<P, K>(alloc: Global, trouble: Trouble, log: K) -> Served<P, K>
+    ensures end { result.end ≡ Err trouble }
     ensures log { result.log ≡ log }
     ensures journal { result.journal.items ≡ [] }
     ensures posts { result.posts.items ≡ [] }
 {
     Served {
-        end: Err(error),
+        end: Err(trouble),
         journal: Vec::new(alloc),
         log,
         posts: Vec::new(alloc),
@@ -55,13 +55,13 @@ fn unserved<P, K>(alloc: Global, error: ServeError, log: K) -> Served<P, K>
 
 /// How a run ends: the first of these, that the accounts found no memory, that a decision was lost, that
 /// an accept failed, and that the accounts were not written.
-fn run_end(written: Result<(), ServeError>, lost: bool, failed: bool) -> Result<(), ServeError>
+fn run_end(written: Result<(), Trouble>, lost: bool, failed: bool) -> Result<(), Trouble>
     ensures { result ≡ run_end written lost failed }
 {
     match written {
-        Err(ServeError::OutOfMemory) => written,
-        _ if lost => Err(ServeError::LogLost),
-        _ if failed => Err(ServeError::AcceptFailed),
+        Err(Trouble::OutOfMemory) => written,
+        _ if lost => Err(Trouble::Serving(ServeFault::LogLost)),
+        _ if failed => Err(Trouble::Serving(ServeFault::AcceptFailed)),
         _ => written,
     }
 }
@@ -111,7 +111,7 @@ fn finish<F: Files, P, K>(
 /// The log that is handed in is what is written. Whoever names a durable log hands in the one over that
 /// file.
 ///
-/// The end is the first of these errors: of the setup, of the word
+/// The end is the first of these troubles: of the setup, of the word
 /// list, of the durable log, of memory, of the listening,
 /// of the memory for the accounts, of the log, of an accept, of the replacing.
 pub fn run_serve<F: Files, S: Site, K: Sink, I: Information + Sync, R: Threads + Wait + Sync>(
@@ -141,8 +141,8 @@ pub fn run_serve<F: Files, S: Site, K: Sink, I: Information + Sync, R: Threads +
     match make_ready(alloc, command, files, information) {
         Ok(house) => match serve(rt, alloc, &house, site, log) {
             Ok(ran) => finish(alloc, command, &house.setup, ran, files),
-            Err((error, log)) => unserved(alloc, error, log),
+            Err((trouble, log)) => unserved(alloc, trouble, log),
         },
-        Err(error) => unserved(alloc, error, log),
+        Err(trouble) => unserved(alloc, trouble, log),
     }
 }

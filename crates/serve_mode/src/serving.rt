@@ -10,7 +10,6 @@ ghost use Rattle.policy_model.specs.Journal.{kept_events};
 ghost use Rattle.serve_mode.specs.Headline.{setup_place};
 ghost use Rattle.serve_mode.specs.Steps.{IsNotServed, service_by};
 
-use crate::error::ServeError;
 use crate::house::House;
 use monitor_run::{Ran, prepare, run};
 use outside::{Failed, Place, Sink, Site, Word};
@@ -19,6 +18,7 @@ use service_reading::Information;
 use std::alloc::{AllocError, Global};
 use std::sync::Wait;
 use std::thread::Threads;
+use trouble::{ServeFault, Trouble};
 
 /// What the site listens at, as the setup says.
 fn place_of(alloc: Global, setup: &Setup) -> Result<Place, AllocError>
@@ -44,7 +44,7 @@ pub(crate) fn serve<I: Information + Sync, S: Site, K: Sink, R: Threads + Wait +
     house: &House<'_, I>,
     site: &mut S,
     log: K,
-) -> Result<Ran<S::Post, K>, (ServeError, K)>
+) -> Result<Ran<S::Post, K>, (Trouble, K)>
     ensures promises { IfOk result
         (λ ran. RunPromises (service_by house.now.setup house.now.dictionary (I.forms house.now.information.now))
         ran.accept_failed ran.journal.items (map (seen S.Post.scene S.Post.faults) ran.posts.items)
@@ -59,13 +59,16 @@ pub(crate) fn serve<I: Information + Sync, S: Site, K: Sink, R: Threads + Wait +
         (Rose (S.listen_faults site.old) (S.listen_faults site.new))) }
 {
     let Ok(place) = place_of(alloc, &house.setup) else {
-        return Err((ServeError::OutOfMemory, log));
+        return Err((Trouble::OutOfMemory, log));
     };
     match prepare(alloc, house, log) {
         Ok(prepared) => match site.listen(&place) {
             Ok(posts) => Ok(run(rt, prepared, posts)),
-            Err(Failed) => Err((ServeError::ListenFailed, prepared.give_up())),
+            Err(Failed) => Err((
+                Trouble::Serving(ServeFault::ListenFailed),
+                prepared.give_up(),
+            )),
         },
-        Err(log) => Err((ServeError::OutOfMemory, log)),
+        Err(log) => Err((Trouble::OutOfMemory, log)),
     }
 }

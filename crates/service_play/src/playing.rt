@@ -9,11 +9,12 @@ use outside::{Bytes, Place, Post, Word};
 use outside_memory::{Fail, MemFiles, MemPost, MemSink, MemSite, Script};
 use policy_model::Event;
 use request_catalogue::Label;
-use serve_mode::{ServeCommand, Served, run_serve, status};
+use serve_mode::{ServeCommand, Served, run_serve};
 use std::alloc::{AllocError, Global};
 use std::sync::Wait;
 use std::test::Fail as Fault;
 use std::thread::Threads;
+use trouble::status_of;
 
 /// What the other sides of one connection send.
 #[derive(Clone, Copy)]
@@ -167,7 +168,7 @@ fn came_of<P: Post>(
     } = served;
     let place = place_of(alloc, places)?;
     Ok(Came {
-        status: status(end),
+        status: status_of(&end),
         listens: places.len(),
         place,
         journal,

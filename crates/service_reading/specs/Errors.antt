@@ -1,4 +1,4 @@
--- Believed: why there is nothing to serve with.
+-- Inner: why there is nothing to serve with.
 use Rattle.std.specs.Prelude.{◌≡◌, ℕ, List, Option, Err, IfSome}
 use Rattle.outside.specs.Files.{Contents}
 use Rattle.file_front.specs.declared.list.ListError.{ListError}

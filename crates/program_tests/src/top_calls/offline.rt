@@ -2,13 +2,13 @@ use super::{Detail, Ended, MemEnded, MemWorld, no_hooks, offline_world, words_of
 use audit_check::AuditWhy;
 use info_hooks::Hooks;
 use monitor_server::otplogd;
-use otp_extended::RenewFault;
 use outside::{Bytes, Word};
 use outside_memory::{MemFiles, MemStream};
 use std::alloc::{AllocError, Global};
 use std::sync::Wait;
 use std::test::Fail as Fault;
 use std::thread::Threads;
+use trouble::RenewFault;
 
 /// A setup with alice, whose stored password is that of `This is a test.` with the seed `test` and the
 /// number 1 by MD5 (RFC 2289, appendix C).

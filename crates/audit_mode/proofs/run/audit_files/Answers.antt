@@ -4,32 +4,33 @@ use Rattle.outside.specs.FilesNow.{files_now}
 use Rattle.outside.proofs.OnlyReading.{reads_both, reads_wider}
 use Rattle.setup_reading.proofs.Touching.{all_left}
 use Rattle.audit_check.specs.declared.answer.Audit.{Audit}
-use Rattle.audit_mode.specs.declared.error.AuditError.{AuditError}
+use Rattle.trouble.specs.declared.trouble.Trouble.{Trouble}
+use Rattle.trouble.specs.Reading.{trouble_of_setup}
 use Rattle.audit_mode.specs.Commands.{command_parts}
 use Rattle.audit_mode.specs.Words.{names_of}
-use Rattle.audit_mode.specs.Outcome.{IsAnswered, IsAnswerOf, IsFileError, error_of_setup}
-use Rattle.audit_mode.proofs.AuditLemmas.{IsAnswered-setup, IsFileError-log, IsFileError-setup}
+use Rattle.audit_mode.specs.Outcome.{IsAnswered, IsAnswerOf, IsFileTrouble}
+use Rattle.audit_mode.proofs.AuditLemmas.{IsAnswered-setup, IsFileTrouble-log, IsFileTrouble-setup}
 use Rattle.audit_mode.proofs.run.audit_files.Goals as goal
 
-pub returns-in_err-setup-clause-error : goal.returns-in_err-setup-clause-error
-returns-in_err-setup-clause-error g c = λ error is.
+pub returns-in_err-setup-clause-trouble : goal.returns-in_err-setup-clause-trouble
+returns-in_err-setup-clause-trouble g c = λ trouble is.
     let p = err_from_is_err_and c.from_residual.result c.from_residual.ensures.1 in
     let handed = c.in_err-setup.field-0.0 in
-    let same : error_of_setup handed ≡ error = sym p.2 ∙ (let e : Err p.0 ≡ Err error = sym p.1 ∙ is in cc) in
+    let same : trouble_of_setup handed ≡ trouble = sym p.2 ∙ (let e : Err p.0 ≡ Err trouble = sym p.1 ∙ is in cc) in
     let contents = g.F.Files.contents c.read_setup_file.new.files in
     let parts = command_parts c.args.command.now in
-    subst (IsFileError contents parts _) same (IsFileError-setup contents parts _ handed (c.in_err-setup.ensures.error handed refl))
+    subst (IsFileTrouble contents parts _) same (IsFileTrouble-setup contents parts _ handed (c.in_err-setup.ensures.error handed refl))
 
 pub returns-clause-answer : goal.returns-clause-answer
 returns-clause-answer g c = go c.audit_log.result c.audit_log.ensures.answer where
-  go : (result : Result Audit AuditError) → IfOk result (λ answer. IfSome (g.F.Files.contents c.audit_log.new.files) (λ there. IsAnswerOf c.in_ok-setup.setup (there c.args.command.now.log.now) answer)) → IfOk result (IsAnswered (g.F.Files.contents c.audit_log.new.files) (command_parts c.args.command.now))
+  go : (result : Result Audit Trouble) → IfOk result (λ answer. IfSome (g.F.Files.contents c.audit_log.new.files) (λ there. IsAnswerOf c.in_ok-setup.setup (there c.args.command.now.log.now) answer)) → IfOk result (IsAnswered (g.F.Files.contents c.audit_log.new.files) (command_parts c.args.command.now))
   go (Err error) said = tt
   go (Ok answer) said =
       IsAnswered-setup (g.F.Files.contents c.read_setup_file.new.files) (g.F.Files.contents c.audit_log.new.files) (command_parts c.args.command.now) c.in_ok-setup.setup answer c.audit_log.ensures.files.kept c.in_ok-setup.ensures.setup said
 
-pub returns-clause-error : goal.returns-clause-error
-returns-clause-error g c = λ error is.
-    IsFileError-log (g.F.Files.contents c.read_setup_file.new.files) (g.F.Files.contents c.audit_log.new.files) (command_parts c.args.command.now) c.in_ok-setup.setup _ _ _ error c.audit_log.ensures.files.kept c.in_ok-setup.ensures.setup c.in_ok-setup.ensures.files.read_faults (c.audit_log.ensures.error error is)
+pub returns-clause-trouble : goal.returns-clause-trouble
+returns-clause-trouble g c = λ trouble is.
+    IsFileTrouble-log (g.F.Files.contents c.read_setup_file.new.files) (g.F.Files.contents c.audit_log.new.files) (command_parts c.args.command.now) c.in_ok-setup.setup _ _ _ trouble c.audit_log.ensures.files.kept c.in_ok-setup.ensures.setup c.in_ok-setup.ensures.files.read_faults (c.audit_log.ensures.trouble trouble is)
 
 pub returns-in_err-setup-clause-files : goal.returns-in_err-setup-clause-files
 returns-in_err-setup-clause-files g c =

@@ -1,14 +1,15 @@
 use Rattle.std.proofs.Common.{◌≡◌, subst}
-use Rattle.audit_mode.specs.declared.error.AuditError.TheVariants as errors
-use Rattle.audit_mode.specs.Outcome.{IsAnswerOfBytes, IsLogError, IsOnlyAnswer}
+use Rattle.trouble.specs.declared.trouble.FileKind.TheVariants as kinds
+use Rattle.trouble.specs.declared.trouble.Trouble.TheVariants as troubles
+use Rattle.audit_mode.specs.Outcome.{IsAnswerOfBytes, IsLogTrouble, IsOnlyAnswer}
 use Rattle.audit_mode.proofs.AuditLemmas.{answer-of-front, answer-of-text, missing-log}
 use Rattle.audit_mode.proofs.run.audit_log.Goals as goal
 
-pub returns-in_default-clause-error : goal.returns-in_default-clause-error
-returns-in_default-clause-error g c = λ error is.
-    let same : errors.LogMissing ≡ error = cc in
+pub returns-in_default-clause-trouble : goal.returns-in_default-clause-trouble
+returns-in_default-clause-trouble g c = λ trouble is.
+    let same : troubles.Missing kinds.Log ≡ trouble = cc in
     let contents = g.F.Files.contents c.read_front.new.files in
-    subst (IsLogError contents c.args.name.now _) same (missing-log (λ bytes. bytes.items) c.in_ok-bytes.field-0 contents c.args.name.now c.in_default.is c.in_ok-bytes.ensures.front)
+    subst (IsLogTrouble contents c.args.name.now _) same (missing-log (λ bytes. bytes.items) c.in_ok-bytes.field-0 contents c.args.name.now c.in_default.is c.in_ok-bytes.ensures.front)
 
 pub returns-clause-answer : goal.returns-clause-answer
 returns-clause-answer g c =

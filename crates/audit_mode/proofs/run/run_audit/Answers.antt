@@ -6,6 +6,6 @@ use Rattle.audit_mode.proofs.run.run_audit.Goals as goal
 
 pub returns-in_err-answer-clause-outcome : goal.returns-in_err-answer-clause-outcome
 returns-in_err-answer-clause-outcome g c =
-    let error = c.in_err-answer.field-0.0 in
+    let trouble = c.in_err-answer.field-0.0 in
     let p = err_from_is_err_and c.from_residual.result c.from_residual.ensures.1 in
-    rw (p.1, p.2) (IsOutcome-file (command_parts c.args.command.now) (g.F.Files.contents c.audit_files.new.files) (g.E.Stream.link c.args.ends.now) _ _ error (c.in_err-answer.ensures.error error refl))
+    rw (p.1, p.2) (IsOutcome-file (command_parts c.args.command.now) (g.F.Files.contents c.audit_files.new.files) (g.E.Stream.link c.args.ends.now) _ _ trouble (c.in_err-answer.ensures.trouble trouble refl))

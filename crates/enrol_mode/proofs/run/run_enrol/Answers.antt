@@ -12,7 +12,7 @@ returns-in_err-phrase-clause-outcome g c =
     let fault = c.in_err-phrase.field-0.0 in
     let p = err_from_is_err_and c.from_residual.result c.from_residual.ensures.1 in
     rw (p.1, p.2) (outcome-phrase (command_parts c.args.command.now) (link c.args.ends.now)
-    (link c.read_phrase.new.ends) _ fault (c.in_err-phrase.ensures.fault fault refl))
+    (link c.read_phrase.new.ends) _ fault (c.in_err-phrase.ensures.trouble fault refl))
 
 pub returns-in_err-phrase-clause-exact : goal.returns-in_err-phrase-clause-exact
 returns-in_err-phrase-clause-exact g c =

@@ -6,8 +6,8 @@ use Rattle.monitor_server.proofs.modes.print_password.Goals as goal
 pub returns-clause-password : goal.returns-clause-password
 returns-clause-password g c = printed_from c.sides.view_is (record {
   outcome = c.run_otp-outcome.result;
-  status_is = c.otp_status.ensures;
-  detail_is = c.otp_detail.ensures;
+  status_is = c.status_of.ensures;
+  detail_is = c.detail_of.ensures;
   cause = c.run_otp-outcome.ensures.outcome;
   exact = c.run_otp-outcome.ensures.exact;
   asked = c.run_otp-outcome.ensures.asks.line;

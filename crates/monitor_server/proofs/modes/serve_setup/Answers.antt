@@ -8,8 +8,8 @@ returns-clause-serve g c =
     served_from c.world.view_is (record {
       ran = record {
         end = run.result.end;
-        status_is = c.status.ensures;
-        detail_is = c.serve_detail.ensures;
+        status_is = c.status_of.ensures;
+        detail_is = c.detail_of.ensures;
         ended = run.ensures.ended.serve;
       };
       kept = run.ensures.ended.kept;

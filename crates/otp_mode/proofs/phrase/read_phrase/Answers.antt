@@ -12,9 +12,9 @@ returns-clause-phrase g c =
     let after = g.E.Stream.link c.receive_line.new.ends in
     subst (λ r. IfOk r (λ phrase. Goes (Accepted (list_of phrase)) before after)) (sym c.ok_or.ensures.value) (phrase_accepted list_of got before after c.phrase_in.result c.in_ok-n.ensures.received c.phrase_in.ensures)
 
-pub returns-clause-fault : goal.returns-clause-fault
-returns-clause-fault g c = λ fault e.
+pub returns-clause-trouble : goal.returns-clause-trouble
+returns-clause-trouble g c = λ trouble e.
     let got = take c.in_ok-n.n c.receive_line.new.buf in
     let before = g.E.Stream.link c.args.ends.now in
     let after = g.E.Stream.link c.receive_line.new.ends in
-    phrase_refused list_of got before after (Rose (g.E.Stream.faults c.args.ends.now) (g.E.Stream.faults c.receive_line.new.ends)) c.phrase_in.result fault c.in_ok-n.ensures.received c.phrase_in.ensures (sym c.ok_or.ensures.value ∙ e)
+    phrase_refused list_of got before after (Rose (g.E.Stream.faults c.args.ends.now) (g.E.Stream.faults c.receive_line.new.ends)) c.phrase_in.result trouble c.in_ok-n.ensures.received c.phrase_in.ensures (sym c.ok_or.ensures.value ∙ e)

@@ -9,4 +9,4 @@ pub returns-in_err-phrase-clause-printing : goal.returns-in_err-phrase-clause-pr
 returns-in_err-phrase-clause-printing g c =
     let link = g.E.Stream.link in
     let p = err_from_is_err_and c.from_residual.result c.from_residual.ensures.1 in
-    rw (p.1, p.2) (IsPrinting-phrase (command_parts c.args.command.now) (option_copied c.args.list) (link c.args.ends.now) (link c.read_phrase.new.ends) _ c.in_err-phrase.field-0.0 (c.in_err-phrase.ensures.fault c.in_err-phrase.field-0.0 refl))
+    rw (p.1, p.2) (IsPrinting-phrase (command_parts c.args.command.now) (option_copied c.args.list) (link c.args.ends.now) (link c.read_phrase.new.ends) _ c.in_err-phrase.field-0.0 (c.in_err-phrase.ensures.trouble c.in_err-phrase.field-0.0 refl))

@@ -12,9 +12,9 @@ use Rattle.recover_mode.proofs.run.run_recover.Goals as goal
 
 pub returns-in_err-basis-clause-outcome : goal.returns-in_err-basis-clause-outcome
 returns-in_err-basis-clause-outcome g c =
-    let error = c.in_err-basis.field-0.0 in
+    let trouble = c.in_err-basis.field-0.0 in
     let p = err_from_is_err_and c.from_residual.result c.from_residual.ensures.1 in
-    rw (p.1, p.2) (IsOutcome-unread (command_parts c.args.command.now) (g.F.Files.contents c.args.files.now) (g.F.Files.contents c.read_basis.new.files) (g.E.Stream.link c.args.ends.now) _ _ _ error (c.in_err-basis.ensures.error error refl) c.in_err-basis.ensures.files.kept)
+    rw (p.1, p.2) (IsOutcome-unread (command_parts c.args.command.now) (g.F.Files.contents c.args.files.now) (g.F.Files.contents c.read_basis.new.files) (g.E.Stream.link c.args.ends.now) _ _ _ trouble (c.in_err-basis.ensures.trouble trouble refl) c.in_err-basis.ensures.files.kept)
 
 pub returns-in_err-basis-clause-back : goal.returns-in_err-basis-clause-back
 returns-in_err-basis-clause-back g c = BringsBack-of (command_parts c.args.command.now) _ _ _ _ _ _ _ c.from_residual.result (returns-in_err-basis-clause-outcome g c)
@@ -23,9 +23,9 @@ pub returns-in_err-texts-clause-outcome : goal.returns-in_err-texts-clause-outco
 returns-in_err-texts-clause-outcome g c =
     let contents = g.F.Files.contents in
     let basis = c.in_ok-basis.basis in
-    let error = c.in_err-texts.field-0.0 in
+    let trouble = c.in_err-texts.field-0.0 in
     let p = err_from_is_err_and c.from_residual-in_err-texts.result c.from_residual-in_err-texts.ensures.1 in
-    rw (p.1, p.2) (IsOutcome-log (command_parts c.args.command.now) basis.setup basis.image.items (contents c.args.files.now) (contents c.read_basis.new.files) (g.E.Stream.link c.args.ends.now) _ _ _ error c.in_ok-basis.ensures.files.kept c.in_ok-basis.ensures.basis (c.in_err-texts.ensures.error error refl))
+    rw (p.1, p.2) (IsOutcome-log (command_parts c.args.command.now) basis.setup basis.image.items (contents c.args.files.now) (contents c.read_basis.new.files) (g.E.Stream.link c.args.ends.now) _ _ _ trouble c.in_ok-basis.ensures.files.kept c.in_ok-basis.ensures.basis (c.in_err-texts.ensures.trouble trouble refl))
 
 pub returns-in_err-texts-clause-back : goal.returns-in_err-texts-clause-back
 returns-in_err-texts-clause-back g c = BringsBack-of (command_parts c.args.command.now) _ _ _ _ _ _ _ c.from_residual-in_err-texts.result (returns-in_err-texts-clause-outcome g c)

@@ -11,26 +11,26 @@ use Rattle.renew_mode.proofs.RenewLemmas.{HasBasis-later, IsReady-of, IsUnready-
 use Rattle.renew_mode.proofs.basis.make_ready.Goals as goal
 
 -- there is no setup or no word list
-pub returns-in_err-basis-clause-error : goal.returns-in_err-basis-clause-error
-returns-in_err-basis-clause-error g c = λ error is.
+pub returns-in_err-basis-clause-trouble : goal.returns-in_err-basis-clause-trouble
+returns-in_err-basis-clause-trouble g c = λ trouble is.
     let handed = c.in_err-basis.field-0.0 in
     let p = err_from_is_err_and c.from_residual.result c.from_residual.ensures.1 in
-    let same : handed ≡ error = sym p.2 ∙ (let e : Err p.0 ≡ Err error = sym p.1 ∙ is in cc) in
+    let same : handed ≡ trouble = sym p.2 ∙ (let e : Err p.0 ≡ Err trouble = sym p.1 ∙ is in cc) in
     let parts = command_parts c.args.command.now in
     let contents = g.F.Files.contents c.read_basis.new.files in
-    subst (IsUnready parts contents _) same (IsUnready-file parts contents _ handed (c.in_err-basis.ensures.error handed refl))
+    subst (IsUnready parts contents _) same (IsUnready-file parts contents _ handed (c.in_err-basis.ensures.trouble handed refl))
 
 -- the log is refused
-pub returns-in_err-check_log-clause-error : goal.returns-in_err-check_log-clause-error
-returns-in_err-check_log-clause-error g c = λ error is.
+pub returns-in_err-check_log-clause-trouble : goal.returns-in_err-check_log-clause-trouble
+returns-in_err-check_log-clause-trouble g c = λ trouble is.
     let handed = c.in_err-check_log.field-0.0 in
     let p = err_from_is_err_and c.from_residual-in_err-check_log.result c.from_residual-in_err-check_log.ensures.1 in
-    let same : handed ≡ error = sym p.2 ∙ (let e : Err p.0 ≡ Err error = sym p.1 ∙ is in cc) in
+    let same : handed ≡ trouble = sym p.2 ∙ (let e : Err p.0 ≡ Err trouble = sym p.1 ∙ is in cc) in
     let parts = command_parts c.args.command.now in
     let contents = g.F.Files.contents in
     let faults = g.F.Files.read_faults in
     let has = HasBasis-later (contents c.read_basis.new.files) (contents c.check_log.new.files) parts.setup c.in_ok-basis.basis c.check_log.ensures.files.kept c.in_ok-basis.ensures.basis in
-    subst (IsUnready parts (contents c.check_log.new.files) (Rose (faults c.args.files.now) (faults c.check_log.new.files))) same (IsUnready-log parts.setup parts.user parts.log (contents c.check_log.new.files) c.in_ok-basis.basis (faults c.args.files.now) (faults c.read_basis.new.files) (faults c.check_log.new.files) handed has c.read_basis.ensures.files.reads.read_faults (c.in_err-check_log.ensures.error handed refl))
+    subst (IsUnready parts (contents c.check_log.new.files) (Rose (faults c.args.files.now) (faults c.check_log.new.files))) same (IsUnready-log parts.setup parts.user parts.log (contents c.check_log.new.files) c.in_ok-basis.basis (faults c.args.files.now) (faults c.read_basis.new.files) (faults c.check_log.new.files) handed has c.read_basis.ensures.files.reads.read_faults (c.in_err-check_log.ensures.trouble handed refl))
 
 -- the log is fresh
 pub returns-clause-ready : goal.returns-clause-ready

@@ -11,7 +11,7 @@ use Rattle.renew_mode.proofs.run.renew_account.Goals as goal
 pub returns-in_err-renewal-clause-outcome : goal.returns-in_err-renewal-clause-outcome
 returns-in_err-renewal-clause-outcome g c =
     let p = err_from_is_err_and c.from_residual.result c.from_residual.ensures.1 in
-    rw (p.1, p.2) (IsRenewing-none (Unit {0}) c.args.command.now.user (g.F.Files.contents c.args.files.now) (g.E.Stream.link c.args.ends.now) (g.E.Stream.link c.receive_renewal.new.ends) c.in_err-renewal.field-0.0 refl c.in_err-renewal.ensures.outcome)
+    rw (p.1, p.2) (IsRenewing-none (command_parts c.args.command.now) c.args.basis.now _ _ c.args.command.now.user (g.F.Files.contents c.args.files.now) (g.E.Stream.link c.args.ends.now) (g.E.Stream.link c.receive_renewal.new.ends) c.in_err-renewal.field-0.0 refl c.in_err-renewal.ensures.outcome)
 
 pub returns-clause-outcome : goal.returns-clause-outcome
 returns-clause-outcome g c =

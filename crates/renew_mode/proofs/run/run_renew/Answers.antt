@@ -10,9 +10,9 @@ use Rattle.renew_mode.proofs.run.run_renew.Goals as goal
 
 pub returns-in_err-basis-clause-outcome : goal.returns-in_err-basis-clause-outcome
 returns-in_err-basis-clause-outcome g c =
-    let error = c.in_err-basis.field-0.0 in
+    let trouble = c.in_err-basis.field-0.0 in
     let p = err_from_is_err_and c.from_residual.result c.from_residual.ensures.1 in
-    rw (p.1, p.2) (IsOutcome-unread (command_parts c.args.command.now) (g.F.Files.contents c.args.files.now) (g.F.Files.contents c.make_ready.new.files) (g.E.Stream.link c.args.ends.now) _ _ _ error (c.in_err-basis.ensures.error error refl) c.in_err-basis.ensures.files.reads.kept)
+    rw (p.1, p.2) (IsOutcome-unread (command_parts c.args.command.now) (g.F.Files.contents c.args.files.now) (g.F.Files.contents c.make_ready.new.files) (g.E.Stream.link c.args.ends.now) _ _ _ trouble (c.in_err-basis.ensures.trouble trouble refl) c.in_err-basis.ensures.files.reads.kept)
 
 pub returns-clause-outcome : goal.returns-clause-outcome
 returns-clause-outcome g c =

@@ -10,14 +10,14 @@ use Rattle.serve_mode.proofs.StillLemmas.{read_still, ready_files, unready_log}
 use Rattle.serve_mode.proofs.reading.make_ready.Goals as goal
 
 -- the log is refused
-pub returns-in_err-check_log-clause-error : goal.returns-in_err-check_log-clause-error
-returns-in_err-check_log-clause-error g c = λ error is.
+pub returns-in_err-check_log-clause-trouble : goal.returns-in_err-check_log-clause-trouble
+returns-in_err-check_log-clause-trouble g c = λ trouble is.
     let contents = g.F.Files.contents in
     let refused = c.in_err-check_log.field-0.0 in
     let handed = err_from_is_err_and c.from_residual-in_err-check_log.result c.from_residual-in_err-check_log.ensures.1 in
-    let same : refused ≡ error = (let e : handed.0 ≡ error = (let f : Err handed.0 ≡ Err error = sym handed.1 ∙ is in cc) in sym handed.2 ∙ e) in
+    let same : refused ≡ trouble = (let e : handed.0 ≡ trouble = (let f : Err handed.0 ≡ Err trouble = sym handed.1 ∙ is in cc) in sym handed.2 ∙ e) in
     subst (IsUnready (source_of c.args.command.now) (g.I.Information.forms c.args.information.now) (contents c.check_log.new.files) (Rose (g.F.Files.read_faults c.args.files.now) (g.F.Files.read_faults c.check_log.new.files))) same
-    (unready_log (source_of c.args.command.now) (g.I.Information.forms c.args.information.now) (contents c.read_house.new.files) (contents c.check_log.new.files) c.in_ok-house.house.setup c.in_ok-house.house.dictionary (g.F.Files.read_faults c.args.files.now) (g.F.Files.read_faults c.read_house.new.files) (g.F.Files.read_faults c.check_log.new.files) refused c.in_ok-house.ensures.read c.check_log.ensures.files.kept c.read_house.ensures.files.reads.read_faults (c.in_err-check_log.ensures.error refused refl))
+    (unready_log (source_of c.args.command.now) (g.I.Information.forms c.args.information.now) (contents c.read_house.new.files) (contents c.check_log.new.files) c.in_ok-house.house.setup c.in_ok-house.house.dictionary (g.F.Files.read_faults c.args.files.now) (g.F.Files.read_faults c.read_house.new.files) (g.F.Files.read_faults c.check_log.new.files) refused c.in_ok-house.ensures.read c.check_log.ensures.files.kept c.read_house.ensures.files.reads.read_faults (c.in_err-check_log.ensures.trouble refused refl))
 
 -- the log is fresh
 pub returns-clause-read : goal.returns-clause-read

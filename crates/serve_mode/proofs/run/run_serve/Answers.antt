@@ -67,11 +67,11 @@ returns-in-Ok-clause-ended g c =
     let ListenRose = Rose before.listen_faults after.listen_faults in
     let unserved = c.unserved.ensures in
     let none = c.in-Err-serve.ensures.error in
-    let error = c.in-Err-serve.error in
+    let trouble = c.in-Err-serve.trouble in
     let house = c.in-Ok.house in
     let ready = ready_by source forms mid house.setup house.dictionary c.in-Ok.ensures.read c.in-Ok.ensures.fresh in
-    unserved_ended source forms error c.unserved.result.end c.unserved.result.journal.items (map see c.unserved.result.posts.items) before after
-    unserved.end (not_served_why source forms old mid ReadRose ListenRose error ready none.why) unserved.journal (ap (map see) unserved.posts) c.make_ready.ensures.files.reads.kept none.listens (subst (λ l. IsUnwritten (held c.args.log) (held l)) (sym unserved.log) none.log.held)
+    unserved_ended source forms trouble c.unserved.result.end c.unserved.result.journal.items (map see c.unserved.result.posts.items) before after
+    unserved.end (not_served_why source forms old mid ReadRose ListenRose trouble ready none.why) unserved.journal (ap (map see) unserved.posts) c.make_ready.ensures.files.reads.kept none.listens (subst (λ l. IsUnwritten (held c.args.log) (held l)) (sym unserved.log) none.log.held)
 
 -- nothing was read to serve with
 pub returns-clause-ended : goal.returns-clause-ended
@@ -89,9 +89,9 @@ returns-clause-ended g c =
     let ReadRose = Rose before.files.read_faults after.files.read_faults in
     let ListenRose = Rose before.listen_faults after.listen_faults in
     let unserved = c.unserved-in-Err.ensures in
-    let error = c.in-Err.error in
-    unserved_ended source forms error c.unserved-in-Err.result.end c.unserved-in-Err.result.journal.items (map see c.unserved-in-Err.result.posts.items) before after
-    unserved.end (unready_why source forms old mid ReadRose ListenRose error (c.make_ready.ensures.error error c.in-Err.is) c.make_ready.ensures.files.reads.kept) unserved.journal (ap (map see) unserved.posts) c.make_ready.ensures.files.reads.kept (Gains-none listens) (subst (λ l. IsUnwritten (held c.args.log) (held l)) (sym unserved.log) (unwritten (held c.args.log)))
+    let trouble = c.in-Err.trouble in
+    unserved_ended source forms trouble c.unserved-in-Err.result.end c.unserved-in-Err.result.journal.items (map see c.unserved-in-Err.result.posts.items) before after
+    unserved.end (unready_why source forms old mid ReadRose ListenRose trouble (c.make_ready.ensures.trouble trouble c.in-Err.is) c.make_ready.ensures.files.reads.kept) unserved.journal (ap (map see) unserved.posts) c.make_ready.ensures.files.reads.kept (Gains-none listens) (subst (λ l. IsUnwritten (held c.args.log) (held l)) (sym unserved.log) (unwritten (held c.args.log)))
 
 pub returns-in-Ok-serve-clause-files : goal.returns-in-Ok-serve-clause-files
 returns-in-Ok-serve-clause-files g c =
